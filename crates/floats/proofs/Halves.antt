@@ -1,0 +1,78 @@
+-- Rounding to the nearest whole number, halves upward. Assumes nothing.
+use mathlib.Core.Path.{_≡_, refl, sym, ap, _∙_, subst}
+use Prim.Native.Nat.{ℕ, zero, suc, _+_, _-_, _*_, _/_, _%_, _^_, _≤_, _<_, max, min}
+use native.Mathlib.Nat.{mul-assoc, mul-comm, mul-left-comm, mul-add, add-mul, mul-pos, add-div-right, div-div-eq-div-mul, div-eq-of-lt, le-div-iff-mul-le, mul-div-mul-left, pow-succ', div-one}
+use native.Mathlib.Omega.{arith}
+use lib.Ieee.Nearest.{div-same}
+use lib.Pow.{pow-pos}
+use mathlib.Core.Bool.{true}
+use lib.IntN.{pos}
+use Rattle.floats.specs.Rounding.{whole, signed, nearestHalf, framesOf}
+
+two-pos : 0 < 2
+two-pos = omega arith
+
+cross : (a b c d : ℕ) → a * d ≡ c * b → (2 * a + b) * (2 * d) ≡ (2 * c + d) * (2 * b)
+cross a b c d e =
+    let l : (2 * a + b) * (2 * d) ≡ 4 * (a * d) + 2 * (b * d) = simp (add-mul, mul-assoc, mul-left-comm) (omega arith) in
+    let r : (2 * c + d) * (2 * b) ≡ 4 * (c * b) + 2 * (b * d) = simp (add-mul, mul-assoc, mul-comm, mul-left-comm) (omega arith) in
+    omega arith
+
+-- equal fractions round to the same number
+pub half-same : (a b c d : ℕ) → 0 < b → 0 < d → a * d ≡ c * b → nearestHalf a b ≡ nearestHalf c d
+unfolding nearestHalf
+half-same a b c d B D e = div-same (2 * a + b) (2 * b) (2 * c + d) (2 * d) (mul-pos two-pos B) (mul-pos two-pos D) (cross a b c d e)
+
+-- below a half it is 0
+pub half-small : (a c : ℕ) → 2 * a < c → nearestHalf a c ≡ 0
+unfolding nearestHalf
+half-small a c h = div-eq-of-lt (omega arith)
+
+-- from n on it is at least n
+pub half-large : (n a c : ℕ) → 0 < c → n * c ≤ a → n ≤ nearestHalf a c
+unfolding nearestHalf
+half-large n a c C h =
+    let e : n * (2 * c) ≡ 2 * (n * c) = simp mul-left-comm in
+    le-div-iff-mul-le (mul-pos two-pos C) .1 (omega arith)
+
+-- twice the number, cut, is what the bits taken off and the last of them say
+pub half-cut : (a c : ℕ) → 0 < c → nearestHalf a c ≡ (2 * a / c + 1) / 2
+unfolding nearestHalf
+half-cut a c C =
+    ap (λ (k : ℕ). (2 * a + c) / k) (mul-comm 2 c)
+    ∙ sym (div-div-eq-div-mul (2 * a + c) c 2)
+    ∙ ap (λ (k : ℕ). k / 2) (add-div-right (2 * a) C)
+
+pub bit-off : (w b l : ℕ) → b < 2 → (2 * w + b) / 2 ^ suc l ≡ (2 * (w / 2) + w % 2) / 2 ^ l
+bit-off w b l h =
+    let e : (2 * w + b) / 2 ≡ 2 * (w / 2) + w % 2 = omega arith in
+    ap (λ (k : ℕ). (2 * w + b) / k) (pow-succ' 2 l)
+    ∙ sym (div-div-eq-div-mul (2 * w + b) 2 (2 ^ l))
+    ∙ ap (λ (k : ℕ). k / 2 ^ l) e
+
+-- ---- how many frames a whole number that is not below zero gives
+abbrev pub frames : ℕ → ℕ
+frames n = framesOf (whole (pos n))
+
+pub frames-none : frames 0 ≡ 1
+unfolding framesOf
+frames-none = refl
+
+pub frames-many : (n : ℕ) → 65537 ≤ n → frames n ≡ 65537
+unfolding framesOf
+frames-many n h = omega arith
+
+pub frames-some : (n : ℕ) → 1 ≤ n → n ≤ 65537 → frames n ≡ n
+unfolding framesOf
+frames-some n h k = omega arith
+
+-- and one that is
+pub frames-below : (n : ℕ) → framesOf (whole (signed true n)) ≡ 1
+unfolding framesOf
+frames-below zero = refl
+frames-below (suc n) = refl
+
+-- from a half on it is at least 1
+pub half-some : (a c : ℕ) → 0 < c → c ≤ 2 * a → 1 ≤ nearestHalf a c
+unfolding nearestHalf
+half-some a c C h = le-div-iff-mul-le (mul-pos two-pos C) .1 (omega arith)

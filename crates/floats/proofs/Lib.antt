@@ -1,0 +1,11 @@
+-- What the proofs of several functions use: laws on numbers and on a float's bit pattern.
+pub mod Fields
+pub mod Halves
+pub mod Nearest
+pub mod Whole
+pub mod Squares
+pub mod Unique
+pub mod Roots
+pub mod Claims
+pub mod Closest
+pub mod Ordered

@@ -1,0 +1,27 @@
+-- `floats::to_bytes` meets its contract. Assumes nothing.
+use mathlib.Core.Path.{ap, _∙_}
+use mathlib.Core.List.{List}
+use Prim.Native.Nat.{ℕ}
+use lib.Seq.{sets}
+use Rattle.lists.specs.Bytes.{bytesOf}
+use borrow.Author.Needs.{needs}
+use Rattle.floats.proofs.to_bytes.Statement.{statement}
+use Rattle.floats.proofs.to_bytes.Tie as tie
+
+bits-of-requires : tie.Need-bits-of-requires
+bits-of-requires c κs = search needs
+
+put-little-endian-requires : tie.Need-put-little-endian-requires
+put-little-endian-requires c κs = search needs
+
+same-length : tie.Need-same-length
+same-length c = search needs
+
+returns : tie.Need-returns
+returns c =
+    let a = c .before .before .before .before .before .before .args in
+    c .before .before .put-little-endian .ensures ∙ ap (λ (b : ℕ). sets (a .bytes .now) (a .at) (bytesOf 8 b)) (c .before .before .before .bits-of .ensures)
+
+pub to-bytes-spec : {M : Type 1} → statement M
+to-bytes-spec =
+    tie.close (tie.spec bits-of-requires put-little-endian-requires same-length returns)

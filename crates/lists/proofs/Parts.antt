@@ -1,0 +1,28 @@
+-- Laws of parts. Assumes nothing.
+use mathlib.Core.Path.{_≡_, refl, sym, ap, _∙_}
+use mathlib.Core.List.{List, [], _∷_}
+use Prim.Native.Nat.{ℕ, zero, suc, _+_, _-_, _≤_, min}
+use native.Mathlib.Nat.{zero-min, min-zero, suc-min-suc, add-sub-cancel-left}
+use native.Mathlib.Omega.{arith}
+use lib.ListN.{length, take, drop, length-drop, drop-of-length-le}
+use lib.Seq.{take-all, take-nil, drop-length}
+
+module _ {A : Type 0} where
+  -- a part that ends at the list's end, or before
+  pub take-min : (m : ℕ) (l : List A) → take (min m (length l)) l ≡ take m l
+  take-min zero l = rw zero-min
+  take-min (suc m) [] = rw min-zero
+  take-min (suc m) (x ∷ xs) = rw suc-min-suc (ap (λ (r : List A). x ∷ r) (take-min m xs))
+
+  -- the three ways to end a part of count from a place on: past the list, at its end, within it
+  module _ (l : List A) (from count : ℕ) where
+    pub part-past : length l ≤ from → take (length l - length l) (drop (length l) l) ≡ take count (drop from l)
+    part-past h = rw (drop-of-length-le l h, drop-length l, take-nil, take-nil)
+
+    pub part-tail : length l - from ≤ count → take (length l - from) (drop from l) ≡ take count (drop from l)
+    part-tail h =
+        let e : length (drop from l) ≡ length l - from = length-drop from l in
+        take-all (length l - from) (drop from l) (omega arith) ∙ sym (take-all count (drop from l) (omega arith))
+
+    pub part-within : take (from + count - from) (drop from l) ≡ take count (drop from l)
+    part-within = rw (add-sub-cancel-left from count)

@@ -1,0 +1,34 @@
+-- Laws of totals and of folds. Assumes nothing.
+use mathlib.Core.Path.{_≡_, refl, sym, ap, _∙_}
+use mathlib.Core.List.{List, [], _∷_, _++_}
+use Prim.Native.Nat.{ℕ, zero, suc, _+_, _*_, _^_, _<_, _≤_}
+use native.Mathlib.Numerals.{add-one}
+use native.Mathlib.Omega.{arith}
+use lib.ListN.{length, take, drop, getD, drop-of-length-le}
+use lib.Seq.{drop-cons, take-suc, take-all}
+use Rattle.lists.specs.Totals.{total}
+use Rattle.lists.specs.Build.{foldFrom}
+
+pub total-append : (xs ys : List ℕ) → total (xs ++ ys) ≡ total xs + total ys
+unfolding total
+total-append [] ys = omega arith
+total-append (x ∷ xs) ys = omega (arith, total-append xs ys)
+
+-- one number more
+pub total-more : (xs : List ℕ) (i : ℕ) → i < length xs → total (take (i + 1) xs) ≡ total (take i xs) + getD xs i 0
+unfolding total
+total-more xs i h = rw (add-one, take-suc xs i 0 h) (omega (arith, total-append (take i xs) (getD xs i 0 ∷ [])))
+
+-- the total of a list that is not endlessly long
+pub total-whole : (xs : List ℕ) → length xs ≤ 4294967296 → total (take (2 ^ 32) xs) ≡ total xs
+total-whole xs h = ap total (take-all (2 ^ 32) xs h)
+
+module _ {A B : Type 0} (f : A → B → A) where
+  -- one more turn of a fold
+  pub fold-more : (a : A) (xs : List B) (i : ℕ) (z : B) → i < length xs → foldFrom f (f a (getD xs i z)) (drop (i + 1) xs) ≡ foldFrom f a (drop i xs)
+  unfolding foldFrom
+  fold-more a xs i z h = rw (add-one, drop-cons xs i z h)
+
+  pub fold-done : (a : A) (xs : List B) (i : ℕ) → length xs ≤ i → foldFrom f a (drop i xs) ≡ a
+  unfolding foldFrom
+  fold-done a xs i h = rw (drop-of-length-le xs h)

@@ -1,0 +1,4 @@
+-- What the contracts of src/ cite, and what the crates above say their lists by.
+pub mod Totals
+pub mod Bytes
+pub mod Build

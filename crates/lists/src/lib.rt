@@ -1,0 +1,137 @@
+// Total functions on lent lists: whatever the places and counts, they do what the list has room for.
+ghost use mathlib.Core.Path.{_≡_};
+ghost use Prim.Native.Nat.{_^_, min};
+ghost use lib.ListN.{take, drop, replicate};
+ghost use lib.Seq.{sets};
+ghost use Rattle.lists.specs.Totals.{total};
+ghost use Rattle.lists.specs.Bytes.{little, bytesOf};
+
+// The first n numbers become v.
+pub fn fill_u32(s: &mut [u32], n: usize, v: u32)
+    ensures { λ _. ⌜ now (s .exit) ≡ sets (now (s .entry)) 0 (replicate n v) ⌝ }
+{
+    let end = least(n, s.len());
+    let mut i = 0;
+    while i < end {
+        s[i] = v;
+        i += 1;
+    }
+}
+
+// The first n floats become v.
+pub fn fill_f64(s: &mut [f64], n: usize, v: f64)
+    ensures { λ _. ⌜ now (s .exit) ≡ sets (now (s .entry)) 0 (replicate n v) ⌝ }
+{
+    let end = least(n, s.len());
+    let mut i = 0;
+    while i < end {
+        s[i] = v;
+        i += 1;
+    }
+}
+
+// The first n numbers of src, over those of dst.
+pub fn copy_u32(src: &[u32], n: usize, dst: &mut [u32])
+    ensures { λ _. ⌜ now (dst .exit) ≡ sets (now (dst .entry)) 0 (take n (now (src .entry))) ⌝ }
+{
+    let end = least(least(n, src.len()), dst.len());
+    let mut i = 0;
+    while i < end {
+        dst[i] = src[i];
+        i += 1;
+    }
+}
+
+// The first n floats of src, over those of dst.
+pub fn copy_f64(src: &[f64], n: usize, dst: &mut [f64])
+    ensures { λ _. ⌜ now (dst .exit) ≡ sets (now (dst .entry)) 0 (take n (now (src .entry))) ⌝ }
+{
+    let end = least(least(n, src.len()), dst.len());
+    let mut i = 0;
+    while i < end {
+        dst[i] = src[i];
+        i += 1;
+    }
+}
+
+// The smaller of two numbers.
+fn least(a: usize, b: usize) -> usize
+    ensures { λ r. ⌜ r ≡ min a b ⌝ }
+{
+    if a < b {
+        return a;
+    }
+    b
+}
+
+// The sum of the first 2 ^ 32 numbers, which can't pass 64 bits. No list of this library's callers is longer.
+pub fn total_u32(s: &[u32]) -> u64
+    ensures { λ r. ⌜ r ≡ total (take (2 ^ 32) (now (s .entry))) ⌝ }
+{
+    let end = least(0x1_0000_0000, s.len());
+    let mut sum: u64 = 0;
+    let mut i = 0;
+    while i < end {
+        sum += s[i] as u64;
+        i += 1;
+    }
+    sum
+}
+
+// As many as count floats from a place on, as far as there are any: a part of the lent list itself.
+pub fn part_f64<'a>(s: &'a [f64], from: usize, count: usize) -> &'a [f64]
+    ensures { λ r. ⌜ now r ≡ take count (drop from (now (s .entry))) ⌝ }
+{
+    let n = s.len();
+    if n <= from {
+        return &s[n..];
+    }
+    let left = n - from;
+    if left <= count {
+        return &s[from..];
+    }
+    let to = from + count;
+    &s[from..to]
+}
+
+// The number that the bytes from a place on say, the least byte first: width bytes, eight at most, as far as there are any.
+pub fn little_endian(bytes: &[u8], at: usize, width: usize) -> u64
+    ensures { λ r. ⌜ r ≡ little (take (min width 8) (drop at (now (bytes .entry)))) ⌝ }
+{
+    let n = bytes.len();
+    if n <= at {
+        return 0;
+    }
+    let end = at + least(least(width, 8), n - at);
+    let mut i = end;
+    let mut number: u64 = 0;
+    while i > at {
+        i -= 1;
+        number = number * 256 + wide(bytes[i]);
+    }
+    number
+}
+
+fn wide(b: u8) -> u64
+    ensures { λ r. ⌜ r ≡ b ⌝ }
+{
+    b as u64
+}
+
+// A number as eight bytes from a place on, the least byte first, as far as there is room.
+pub fn put_little_endian(bytes: &mut [u8], at: usize, number: u64)
+    ensures { λ _. ⌜ now (bytes .exit) ≡ sets (now (bytes .entry)) at (bytesOf 8 number) ⌝ }
+{
+    let n = bytes.len();
+    if n <= at {
+        return;
+    }
+    let end = at + least(8, n - at);
+    let mut rest = number;
+    let mut i = at;
+    while i < end {
+        bytes[i] = (rest % 256) as u8;
+        rest = rest / 256;
+        i += 1;
+    }
+}
