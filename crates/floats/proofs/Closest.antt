@@ -1,9 +1,9 @@
 -- The correctly rounded root is nearest among the format's values, said by squares of whole numbers. Assumes nothing.
-use mathlib.Core.Path.{_≡_, refl, sym, ap, _∙_, subst}
-use mathlib.Core.Bool.{Bool, true, false, _&&_}
-use mathlib.Core.Logic.{_⊎_, ⊎-elim}
+use mathlib.Core.Path.{_≡_, sym, ap, _∙_, subst}
+use mathlib.Core.Bool.{Bool, false, _&&_}
+use mathlib.Core.Logic.{⊎-elim}
 use Prim.Native.Nat.{ℕ, zero, suc, _+_, _-_, _*_, _%_, _^_, _≤_, _<_}
-use native.Mathlib.Nat.{zero-mul, mul-one, mul-assoc, mul-comm, mul-left-comm, mul-right-comm, add-mul, mul-pos, le-trans, le-of-eq, lt-of-lt-of-le, lt-of-le-of-lt, lt-of-not-le, not-le-of-lt, le-of-lt, lt-irrefl, mul-le-mul-left, mul-le-mul-right, mul-lt-mul-of-pos-right, le-of-suc-le-suc, eq-of-mul-eq-mul-right, pow-succ', suc-mul, le-antisymm}
+use native.Mathlib.Nat.{zero-mul, mul-one, mul-assoc, mul-left-comm, add-mul, mul-pos, le-trans, le-of-eq, lt-of-lt-of-le, lt-of-le-of-lt, lt-of-not-le, not-le-of-lt, le-of-lt, lt-irrefl, mul-le-mul-left, mul-le-mul-right, mul-lt-mul-of-pos-right, le-of-suc-le-suc, eq-of-mul-eq-mul-right, pow-succ', suc-mul, le-antisymm}
 use native.Mathlib.Omega.{arith}
 use lib.IntN.{ℤ, pos, negsuc}
 use lib.Dec.{T, leb, ltb, eqb, leb→le, ltb→lt, lit<}
@@ -14,7 +14,8 @@ use lib.Ieee.Exact.{HasValue}
 use lib.Ieee.Positive.{positive}
 use Rattle.lists.proofs.Numbers.{le-or-lt}
 use Rattle.lists.proofs.Rows.{row-fits}
-use Rattle.floats.specs.Root.{Rooted, Closest, sqrtOf}
+use Rattle.floats.specs.Root.{Closest, sqrtOf}
+use Rattle.floats.proofs.Squares.{sq-mono}
 use Rattle.floats.proofs.Unique.{value-times}
 use Rattle.floats.proofs.Claims.{claim}
 
@@ -72,18 +73,15 @@ on-grid l a d h =
 square-of : (a u : ℕ) → a * u * (a * u) ≡ a * a * (u * u)
 square-of a u = simp (mul-assoc, mul-left-comm)
 
-square-le : {a b : ℕ} → a ≤ b → a * a ≤ b * b
-square-le {a} {b} h = le-trans (mul-le-mul-left a h) (mul-le-mul-right b h)
-
 -- n lies below the square of a, and s reaches a units
 reaches : (n a u s : ℕ) → 0 < u → 4 * n < a * a → a * u ≤ s → 4 * (n * (u * u)) < s * s
 reaches n a u s U h g =
-    lt-of-lt-of-le (lt-of-le-of-lt (le-of-eq (sym (mul-assoc 4 n (u * u)))) (lt-of-lt-of-le (mul-lt-mul-of-pos-right h (mul-pos U U)) (le-of-eq (sym (square-of a u))))) (square-le g)
+    lt-of-lt-of-le (lt-of-le-of-lt (le-of-eq (sym (mul-assoc 4 n (u * u)))) (lt-of-lt-of-le (mul-lt-mul-of-pos-right h (mul-pos U U)) (le-of-eq (sym (square-of a u))))) (sq-mono g)
 
 -- n lies above it, and s is within a units
 stays : (n a u s : ℕ) → 0 < u → a * a < 4 * n → s ≤ a * u → s * s < 4 * (n * (u * u))
 stays n a u s U h g =
-    lt-of-le-of-lt (le-trans (square-le g) (le-of-eq (square-of a u))) (lt-of-lt-of-le (mul-lt-mul-of-pos-right h (mul-pos U U)) (le-of-eq (mul-assoc 4 n (u * u))))
+    lt-of-le-of-lt (le-trans (sq-mono g) (le-of-eq (square-of a u))) (lt-of-lt-of-le (mul-lt-mul-of-pos-right h (mul-pos U U)) (le-of-eq (mul-assoc 4 n (u * u))))
 
 -- ---- q is the root's digits in units u = 2 * h, both powers of two
 

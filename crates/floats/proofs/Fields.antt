@@ -1,17 +1,18 @@
 -- A float by the fields of its bit pattern. Assumes nothing.
 use mathlib.Core.Path.{_≡_, refl, sym, ap, _∙_, subst}
 use mathlib.Core.Bool.{Bool, true, false, not, cond, true≢false}
-use Prim.Native.Nat.{ℕ, zero, suc, _+_, _-_, _*_, _/_, _%_, _^_, _≤_, _<_}
+use Prim.Native.Nat.{ℕ, zero, suc, _+_, _/_, _%_, _^_, _≤_, _<_}
 use native.Mathlib.Nat.{mod-lt, mod-eq-of-lt}
 use native.Mathlib.Omega.{arith}
-use lib.IntN.{ℤ, pos, negsuc}
-use lib.Dec.{T, leb, ltb, eqb, nleb→lt, not-T, eqb→eq}
+use lib.Dec.{T, leb, eqb, not-T, eqb→eq}
 use lib.Arith.{lt→nleb}
 use lib.Pow.{pow-pos, mod-mod-pow}
-use lib.Ieee.{Float, nan, inf, fin, binary64, up, down, odd, fits, isNan, ofFields, ofBits, toBits, nanBits, ne, hid, top, ones, prec, low}
-use lib.Ieee.Bits.{ofBits-toBits, nanBits-is, nanBits-above, cond-no}
+use lib.Ieee.{Float, nan, inf, fin, binary64, odd, fits, isNan, ofFields, ofBits, toBits, nanBits, ne}
+use lib.Ieee.Bits.{ofBits-toBits, toBits-lt, nanBits-is, nanBits-above, cond-no}
 use borrow.Author.Tests.{lt-ltb, le-ltb}
 use lib.Ieee.Compare.{differs-from-itself}
+use Rattle.lists.specs.Bytes.{little, bytesOf}
+use Rattle.lists.proofs.Bytes.{little-bytes}
 use Rattle.floats.specs.Order.{absOf}
 
 -- what the test `x != x` says
@@ -108,3 +109,7 @@ abs-of-bits x F = clear-sign (toBits binary64 x) ∙ ap absOf (ofBits-toBits bin
 
 pub abs-bits-no-nan : (x : Float) → T (fits binary64 x) → isNan x ≡ false → nanBits binary64 (toBits binary64 x % 2 ^ 63) ≡ false
 abs-bits-no-nan x F h = nanBits-is binary64 (toBits binary64 x % 2 ^ 63) ∙ ap isNan (abs-of-bits x F) ∙ abs-nan x ∙ h
+
+-- ---- a float's eight bytes say it
+pub bytes-back : (x : Float) → T (fits binary64 x) → ofBits binary64 (little (bytesOf 8 (toBits binary64 x))) ≡ x
+bytes-back x F = ap (ofBits binary64) (little-bytes 8 (toBits binary64 x) (toBits-lt binary64 x F)) ∙ ofBits-toBits binary64 x F

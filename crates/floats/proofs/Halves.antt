@@ -1,10 +1,9 @@
 -- Rounding to the nearest whole number, halves upward. Assumes nothing.
-use mathlib.Core.Path.{_≡_, refl, sym, ap, _∙_, subst}
-use Prim.Native.Nat.{ℕ, zero, suc, _+_, _-_, _*_, _/_, _%_, _^_, _≤_, _<_, max, min}
-use native.Mathlib.Nat.{mul-assoc, mul-comm, mul-left-comm, mul-add, add-mul, mul-pos, add-div-right, div-div-eq-div-mul, div-eq-of-lt, le-div-iff-mul-le, mul-div-mul-left, pow-succ', div-one}
+use mathlib.Core.Path.{_≡_, refl, sym, ap, _∙_}
+use Prim.Native.Nat.{ℕ, zero, suc, _+_, _*_, _/_, _%_, _^_, _≤_, _<_}
+use native.Mathlib.Nat.{mul-assoc, mul-comm, mul-left-comm, add-mul, mul-pos, add-div-right, div-div-eq-div-mul, div-eq-of-lt, le-div-iff-mul-le, pow-succ'}
 use native.Mathlib.Omega.{arith}
 use lib.Ieee.Nearest.{div-same}
-use lib.Pow.{pow-pos}
 use mathlib.Core.Bool.{true}
 use lib.IntN.{pos}
 use Rattle.floats.specs.Rounding.{whole, signed, nearestHalf, framesOf}

@@ -1,23 +1,22 @@
 -- `roundedOf` by the fields of a bit pattern. Assumes nothing.
 use mathlib.Core.Path.{_≡_, refl, sym, ap, _∙_, subst}
-use mathlib.Core.Logic.{_⊎_, inl, inr}
-use mathlib.Core.Bool.{Bool, true, false, not, cond, true≢false}
+use mathlib.Core.Bool.{Bool, true, false, cond, true≢false}
 use Prim.Native.Nat.{ℕ, zero, suc, _+_, _-_, _*_, _/_, _%_, _^_, _≤_, _<_}
 use native.Mathlib.Nat.{mod-lt, mod-eq-of-lt, mul-assoc, mul-comm, le-trans, le-of-eq, lt-of-lt-of-le, lt-of-le-of-lt, mul-le-mul-right, le-add-right, pow-succ'}
 use native.Mathlib.Omega.{arith}
-use lib.IntN.{ℤ, pos, negsuc}
-use lib.Dec.{T, leb, eqb, eqb→eq, not-T, le→leb, lit≤}
+use lib.IntN.{ℤ, pos}
+use lib.Dec.{T, leb, eqb, le→leb, lit≤}
 use lib.Arith.{lt→nleb}
 use lib.Pow.{pow-pos, pow-mono, pow-add, shl-lt}
 use lib.Bits.{bitAnd, bitOr, and-mask, or-shifted-r}
 use lib.Count.{trailingZeros}
-use lib.Ieee.{Float, nan, inf, fin, binary64, up, down, minus, odd, fits, isNan, ofFields, ofBits, toBits}
+use lib.Ieee.{Float, nan, inf, fin, binary64, up, down, minus, odd, fits, isNan, ofFields, toBits}
 use lib.Ieee.Fits.{down-pos}
-use lib.Ieee.Bits.{ofBits-toBits, cond-no, is-true, is-false}
+use lib.Ieee.Bits.{ofBits-toBits, is-true, is-false}
 use lib.Ieee.Exact.{HasValue, odd-sign}
 use Rattle.floats.specs.Rounding.{roundedOf, toIntegral, framesOf, nearestHalf}
 use Rattle.floats.proofs.Halves.{half-same, half-small, half-large, half-some, frames, frames-none, frames-many, frames-below}
-use Rattle.floats.proofs.Fields.{by-fields}
+use Rattle.floats.proofs.Fields.{by-fields, normal-is}
 
 -- `roundedOf` sees only the value
 value-rounded : (v : Float) (a c : ℕ) → 0 < c → HasValue v false a c → roundedOf v ≡ frames (nearestHalf a c)
@@ -57,13 +56,8 @@ negative (suc x) t = cond-negative (eqb (suc x) 2047) (eqb t 0) (odd 53 true (2 
 with-lead : (t : ℕ) → t < 2 ^ 52 → 2 ^ 52 + t < 2 ^ 53
 with-lead t h = omega arith
 
-other : (j : ℕ) → j < 2046 → T (not (eqb (suc j) 2047))
-other j h = not-T (eqb (suc j) 2047) (λ u. (let e : suc j ≡ 2047 = eqb→eq (suc j) 2047 u in omega arith))
-
 normal : (j t : ℕ) → j < 2046 → roundedOf (ofFields binary64 false (suc j) t) ≡ frames (nearestHalf ((2 ^ 52 + t) * 2 ^ j) (2 ^ 1074))
-unfolding ofFields
-normal j t h =
-    ap roundedOf (cond-no (eqb (suc j) 2047) (cond (eqb t 0) (inf false) nan) (odd 53 false (2 ^ 52 + t) j 1074) (other j h)) ∙ odd-rounded (2 ^ 52 + t) j
+normal j t h = ap roundedOf (normal-is j t h) ∙ odd-rounded (2 ^ 52 + t) j
 
 -- q * 2 ^ k is below half of 2 ^ 1074
 under-half : (q k : ℕ) → q < 2 ^ 53 → 53 + suc k ≤ 1074 → 2 * (q * 2 ^ k) < 2 ^ 1074

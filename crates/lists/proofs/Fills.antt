@@ -4,8 +4,8 @@ use mathlib.Core.List.{List, [], _∷_, _++_, append-assoc, append-nil}
 use Prim.Native.Nat.{ℕ, zero, suc, _+_, _<_, _≤_}
 use native.Mathlib.Numerals.{add-one}
 use native.Mathlib.Omega.{arith}
-use lib.ListN.{length, set, take, drop, getD, replicate, length-append, drop-of-length-le, replicate-append-replicate, List·getD-append}
-use lib.Seq.{take-suc-set, take-suc, take-all, drop-cons, set-at, getD-at}
+use lib.ListN.{length, set, take, drop, getD, length-append, drop-of-length-le}
+use lib.Seq.{take-suc-set, take-all, drop-cons, set-at, getD-at}
 use Rattle.lists.specs.Build.{build}
 
 module _ {A : Type 0} where

@@ -1,12 +1,12 @@
 -- Laws of `sets`, a run of stores that goes as far as the list does: what a loop that stores has done after i turns, and at its end. Assumes nothing.
 use mathlib.Core.Path.{_≡_, refl, sym, ap, _∙_}
-use mathlib.Core.List.{List, [], _∷_, _++_, append-nil}
-use mathlib.Core.Logic.{_⊎_, inl, inr, ⊎-elim}
-use Prim.Native.Nat.{ℕ, zero, suc, _+_, _-_, _<_, _≤_, min}
+use mathlib.Core.List.{List, [], _∷_, _++_}
+use mathlib.Core.Logic.{⊎-elim}
+use Prim.Native.Nat.{ℕ, suc, _+_, _-_, _<_, _≤_, min}
 use native.Mathlib.Nat.{add-zero, add-suc, suc-add}
 use native.Mathlib.Numerals.{add-one}
 use native.Mathlib.Omega.{arith}
-use lib.ListN.{length, take, drop, getD, set, replicate, length-append, length-take, length-replicate, length-set, getD-replicate, take-append-drop, drop-of-length-le}
+use lib.ListN.{length, take, drop, getD, set, replicate, length-take, length-replicate, length-set, getD-replicate, take-append-drop}
 use lib.Seq.{sets, length-sets, sets-eq, set-out, take-suc, take-all, length-take-le, getD-take}
 use Rattle.lists.proofs.Numbers.{le-or-lt}
 

@@ -1,10 +1,9 @@
 -- `floats::rounded` meets its contract. Assumes nothing.
-use mathlib.Core.Path.{_≡_, refl, sym, ap, _∙_, subst}
-use Prim.Native.Nat.{ℕ, suc, _+_, _-_, _*_, _/_, _%_, _^_, _≤_, _<_}
+use mathlib.Core.Path.{_≡_, sym, ap, _∙_, subst}
+use Prim.Native.Nat.{_≤_}
 use native.Mathlib.Nat.{le-of-lt, le-trans, le-of-eq}
-use native.Mathlib.Omega.{arith}
 use lib.Dec.{T}
-use lib.Ieee.{Float, binary64, fits, nan, isNan, toBits}
+use lib.Ieee.{Float, binary64, fits, toBits}
 use borrow.Author.Needs.{needs}
 use Rattle.floats.specs.Rounding.{roundedOf, toIntegral, framesOf}
 use Rattle.floats.proofs.Fields.{is-nan, no-nan, not-of}

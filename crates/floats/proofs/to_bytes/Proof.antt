@@ -1,6 +1,5 @@
 -- `floats::to_bytes` meets its contract. Assumes nothing.
 use mathlib.Core.Path.{ap, _∙_}
-use mathlib.Core.List.{List}
 use Prim.Native.Nat.{ℕ}
 use lib.Seq.{sets}
 use Rattle.lists.specs.Bytes.{bytesOf}

@@ -2,7 +2,7 @@
 use Prim.Native.Nat.{_-_}
 use native.Mathlib.Omega.{arith}
 use borrow.Author.Needs.{needs}
-use lib.ListN.{length, replicate}
+use lib.ListN.{replicate}
 use Rattle.lists.proofs.Stores.{Storing, storing, filling-next, filling-done}
 use Rattle.lists.proofs.fill_u32.Statement.{statement}
 use Rattle.lists.proofs.fill_u32.Tie as tie
