@@ -1,0 +1,42 @@
+-- What an answer of `excerpt_span` tells of the excerpt. Assumes nothing.
+use mathlib.Core.Path.{_≡_, sym, ap, _∙_}
+use mathlib.Core.List.{List, [], _∷_}
+use Prim.Native.Nat.{ℕ, _+_, _≤_}
+use native.Mathlib.Omega.{arith}
+use lib.Ieee.{Float}
+use lib.ListN.{length, take, drop}
+use Rattle.spool.specs.Excerpt.{startOf, countOf, excerptOf}
+use Rattle.spool.specs.Refusal.{excerptRefusal}
+use Rattle.spool.specs.Promise.{spanNumber, spanValues, SpanSays}
+use Rattle.spool.specs.declared.Span.{Span}
+use Rattle.spool.specs.declared.Span.the-variants.{Numbers, Refused}
+use Rattle.spool.proofs.Refusals.{excerpt-accepts}
+use Rattle.spool.proofs.Excerpts.{excerpt-fits}
+
+module _ (trajectory : List Float) (ds : List ℕ) (v state : ℕ) (r : Span) (says : SpanSays trajectory ds v state r) where
+  pub span-refused : (k : ℕ) → r ≡ Refused k → k ≡ excerptRefusal (length trajectory) ds v state
+  span-refused k e = sym (ap spanNumber e) ∙ says .numbered
+
+  module _ (first count : ℕ) (e : r ≡ Numbers first count) where
+    pub span-none : excerptRefusal (length trajectory) ds v state ≡ 0
+    span-none = sym (says .numbered) ∙ ap spanNumber e
+
+    span-is : first ∷ count ∷ [] ≡ startOf ds v state ∷ countOf ds v state ∷ []
+    span-is = sym (ap spanValues e) ∙ says .valued ∙ rw span-none
+
+    pub span-first : first ≡ startOf ds v state
+    span-first = cc span-is
+
+    pub span-count : count ≡ countOf ds v state
+    span-count = cc span-is
+
+    -- the numbers that it names are the excerpt
+    pub span-part : excerptOf trajectory ds v state ≡ take count (drop first trajectory)
+    unfolding excerptOf
+    span-part = rw (span-first, span-count)
+
+    -- and lie in the trajectory
+    pub span-fits : first + count ≤ length trajectory
+    span-fits =
+        let a = excerpt-accepts (length trajectory) ds v state span-none in
+        omega (arith, span-first, span-count, excerpt-fits (length trajectory) ds v state (a .0) (a .1))

@@ -1,0 +1,58 @@
+-- The ways out of the calls. Assumes nothing.
+use mathlib.Core.Path.{_≡_, refl, sym, ap, _∙_}
+use mathlib.Core.List.{List, [], _∷_}
+use Prim.Native.Nat.{ℕ, zero, suc, _+_, _-_, _*_}
+use native.Mathlib.Nat.{add-comm, add-sub-cancel-left}
+use native.Mathlib.Omega.{arith}
+use denote.Ref.{RefT}
+use lib.Ieee.{Float}
+use lib.ListN.{length, take, drop, getD}
+use Rattle.lists.specs.Totals.{total}
+use Rattle.spool.specs.Place.{numberOf}
+use Rattle.spool.specs.Excerpt.{startOf, countOf, excerptOf}
+use Rattle.spool.specs.Refusal.{excerptRefusal}
+use Rattle.spool.specs.Promise.{given, spanValues, Says, SpanSays, ExcerptSays}
+use Rattle.spool.specs.declared.Span.{Span}
+use Rattle.spool.specs.declared.Span.the-variants.{Numbers, Refused}
+use Rattle.spool.proofs.Spans.{span-none, span-first, span-part}
+
+pub refused : (k refusal : ℕ) (whole : List ℕ) → refusal ≡ suc k → Says (suc k) [] refusal whole
+refused k refusal whole e = rw e (record { numbered = refl; valued = refl })
+
+pub granted : (values whole : List ℕ) (refusal : ℕ) → refusal ≡ 0 → values ≡ whole → Says 0 values refusal whole
+granted values whole refusal e q = rw e (record { numbered = refl; valued = q })
+
+-- a state's first number and its count, from the frames summed before it
+pub span-values : (ds : List ℕ) (v state at first width start count : ℕ)
+    → at ≡ state → first ≡ total (take at ds) → width ≡ v → start ≡ numberOf first 0 width → count ≡ getD ds at 0 * width
+    → start ∷ count ∷ [] ≡ startOf ds v state ∷ countOf ds v state ∷ []
+span-values ds v state at first width start count s f w p q = rw (p, q, f, w, s)
+
+-- a call that gives no values is refused
+none-given : (k x : ℕ) (xs : List ℕ) → [] ≡ given k (x ∷ xs) [] → {A : Type 0} (y z : A) → given k y z ≡ z
+none-given zero x xs e y z = let n : _≡_ {A = ℕ} 0 1 = cc in absurd (omega arith)
+none-given (suc k) x xs e y z = refl
+
+-- the part that `excerpt` cuts out, from what `excerpt_span` answers
+module _ (t : RefT (List Float)) (ds : List ℕ) (v state : ℕ) (r : Span) (says : SpanSays (t .now) ds v state r) where
+  pub part-says : (first count : ℕ) → r ≡ Numbers first count
+      → (q : RefT (List Float)) → q .now ≡ take (first + count - first) (drop first (t .now)) → q .ptr ≡ (t .ptr .0, first * 8 + t .ptr .1) → ExcerptSays t ds v state q
+  part-says first count e q n p =
+      let z = span-none (t .now) ds v state r says first count e in
+      record {
+        numbers = n ∙ rw (add-sub-cancel-left first count, z) (sym (span-part (t .now) ds v state r says first count e));
+        itself = p ∙ rw (z, add-comm (first * 8) (t .ptr .1), span-first (t .now) ds v state r says first count e);
+      }
+
+  -- and the empty one
+  module _ (k : ℕ) (e : r ≡ Refused k) where
+    none : {A : Type 0} (y z : A) → given (excerptRefusal (length (t .now)) ds v state) y z ≡ z
+    none = none-given (excerptRefusal (length (t .now)) ds v state) (startOf ds v state) (countOf ds v state ∷ []) (sym (ap spanValues e) ∙ says .valued)
+
+    pub empty-says : (q : RefT (List Float)) → q .now ≡ [] → q .ptr ≡ t .ptr → ExcerptSays t ds v state q
+    empty-says q n p =
+        let z : t .ptr .1 ≡ t .ptr .1 + 0 * 8 = omega arith in
+        record {
+          numbers = n ∙ sym (none (excerptOf (t .now) ds v state) []);
+          itself = p ∙ ap (λ (o : ℕ). (t .ptr .0, o)) (z ∙ ap (λ (o : ℕ). t .ptr .1 + o * 8) (sym (none (startOf ds v state) 0)));
+        }

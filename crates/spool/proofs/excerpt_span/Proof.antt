@@ -1,0 +1,185 @@
+-- `spool::excerpt_span` meets its contract. Assumes nothing.
+use mathlib.Core.Path.{_≡_, sym, ap, _∙_}
+use mathlib.Core.Bool.{false}
+use mathlib.Core.List.{List}
+use Prim.Native.Nat.{ℕ, _+_, _*_, _≤_}
+use native.Mathlib.Omega.{arith}
+use borrow.Author.Needs.{needs}
+use lib.ListN.{length}
+use lib.Seq.{length-take-le}
+use Rattle.lists.specs.Totals.{total}
+use Rattle.spool.specs.Refusal.{outside, trajectoryRefusal}
+use Rattle.spool.proofs.Refusals.{in-range, many-3, width-3, disagree-4, long-5, accepted-0, excerpt-refused, excerpt-10, excerpt-0}
+use Rattle.spool.proofs.Sums.{total-split, product-fits}
+use Rattle.spool.proofs.Ways.{refused, granted, span-values}
+use Rattle.spool.proofs.excerpt_span.Statement.{statement}
+use Rattle.spool.proofs.excerpt_span.Tie as tie
+
+returns : tie.Need-returns
+returns c =
+    let a = c .before .before .before .args in
+    refused 2 _ _ (excerpt-refused _ _ _ (a .state) 2 (many-3 (length (a .trajectory .now)) (a .durations .now) (a .v) (c .if1 .taken)))
+
+out-of-range-requires : tie.Need-out-of-range-requires
+out-of-range-requires c κs = search needs
+
+returns-2 : tie.Need-returns-2
+returns-2 c =
+    let a = c .before .before .before .before .before .args in
+    refused 2 _ _
+    (excerpt-refused _ _ _ (a .state) 2
+    (width-3 (length (a .trajectory .now)) (a .durations .now) (a .v) (c .before .before .if1 .left) (sym (c .before .out-of-range .ensures) ∙ c .if2 .taken)))
+
+least-requires : tie.Need-least-requires
+least-requires c κs = search needs
+
+slice-aggregate-frames-of : tie.Need-slice-aggregate-frames-of
+slice-aggregate-frames-of c = sym (length-take-le _ _ (omega (arith, c .before .least .ensures)))
+
+frames-of-requires : tie.Need-frames-of-requires
+frames-of-requires c κs =
+    let l = length-take-le (c .before .least .result) (c .before .before .before .before .before .before .before .args .durations .now) (omega (arith, c .before .least .ensures)) in
+    omega (arith, l, c .before .least .ensures)
+
+mul-frames-of : tie.Need-mul-frames-of
+mul-frames-of c = search needs
+
+sub-frames-of : tie.Need-sub-frames-of
+sub-frames-of c = search needs
+
+part-frames-of-start : tie.Need-part-frames-of-start
+part-frames-of-start c = search needs
+
+part-frames-of-end : tie.Need-part-frames-of-end
+part-frames-of-end c = search needs
+
+frames-of-requires-2 : tie.Need-frames-of-requires-2
+frames-of-requires-2 c κs = search needs
+
+add-frames : tie.Need-add-frames
+add-frames c = search needs
+
+wide-requires : tie.Need-wide-requires
+wide-requires c κs = search needs
+
+-- what is known once the durations are summed
+module _ (c : tie.After-wide) where
+  abbrev ds : List ℕ
+  ds = c .before .before .before .before .before .before .before .before .before .before .before .args .durations .now
+
+  abbrev v : ℕ
+  v = c .before .before .before .before .before .before .before .before .before .before .before .args .v
+
+  abbrev state : ℕ
+  state = c .before .before .before .before .before .before .before .before .before .before .before .args .state
+
+  abbrev count : ℕ
+  count = length (c .before .before .before .before .before .before .before .before .before .before .before .args .trajectory .now)
+
+  width : outside v ≡ false
+  width = sym (c .before .before .before .before .before .before .before .out-of-range .ensures) ∙ c .before .before .before .before .before .before .if2 .left
+
+  narrow : c .wide .result ≤ 64
+  narrow = omega (arith, in-range v width .1, c .wide .ensures)
+
+  few : length ds ≤ 4096
+  few = c .before .before .before .before .before .before .before .before .if1 .left
+
+  frames : c .before .before .before .frames-of .result + c .before .frames-of2 .result ≡ total ds
+  frames = total-split ds _ _ _ (c .before .before .before .frames-of .ensures .sum) (c .before .frames-of2 .ensures .sum)
+
+  numbers : (c .before .before .before .frames-of .result + c .before .frames-of2 .result) * c .wide .result ≡ total ds * v
+  numbers = ap (λ (n : ℕ). n * c .wide .result) frames ∙ ap (λ (n : ℕ). total ds * n) (c .wide .ensures)
+
+mul-if3 : tie.Need-mul-if3
+mul-if3 c =
+    let p = product-fits 35184372080640 (c .before .before .before .frames-of .result + c .before .frames-of2 .result) (c .wide .result) (omega arith) (narrow c) in
+    omega (arith, p)
+
+returns-3 : tie.Need-returns-3
+returns-3 c =
+    let b = c .before in
+    refused 3 _ _ (excerpt-refused (count b) (ds b) (v b) (state b) 3 (disagree-4 (count b) (ds b) (v b) (few b) (width b) (λ e. c .if3 .taken (e ∙ sym (numbers b)))))
+
+returns-4 : tie.Need-returns-4
+returns-4 c =
+    let b = c .before .before in
+    refused 4 _ _
+    (excerpt-refused (count b) (ds b) (v b) (state b) 4
+    (long-5 (count b) (ds b) (v b) (few b) (width b) (c .before .if3 .left ∙ numbers b) (omega (arith, frames b, c .if4 .taken))))
+
+-- what is known once 3, 4 and 5 are excluded
+module _ (c : tie.Else4) where
+  none : trajectoryRefusal (count (c .before .before)) (ds (c .before .before)) (v (c .before .before)) ≡ 0
+  none =
+      let b = c .before .before in
+      accepted-0 (count b) (ds b) (v b)
+      (record { few = few b; width = width b; agree = c .before .if3 .left ∙ numbers b; short = omega (arith, frames b, c .if4 .left) })
+
+returns-5 : tie.Need-returns-5
+returns-5 c =
+    let b = c .before .before .before in
+    refused 9 _ _ (excerpt-10 (count b) (ds b) (v b) (state b) (none (c .before)) (omega (arith, b .before .before .before .before .before .least .ensures, c .if5 .taken)))
+
+number-of-requires : tie.Need-number-of-requires
+number-of-requires c κs =
+    let b = c .before .before .before in
+    let p = product-fits 65536 (b .before .before .before .frames-of .result) (b .wide .result) (omega (arith, c .before .if4 .left)) (narrow b) in
+    omega (arith, p)
+
+mul-wide : tie.Need-mul-wide
+mul-wide c = search needs
+
+shared-slice-read-wide : tie.Need-shared-slice-read-wide
+shared-slice-read-wide c = search needs
+
+wide-requires-2 : tie.Need-wide-requires-2
+wide-requires-2 c κs = search needs
+
+mul-t23 : tie.Need-mul-t23
+mul-t23 c =
+    let b = c .before .before .before .before .before .before in
+    let p = product-fits 4294967295 (c .wide2 .result) (b .wide .result) (omega (arith, c .wide2 .ensures, c .before .shared-slice-known3 .given (b .before .before .before .before .before .least .result))) (narrow b) in
+    omega (arith, p)
+
+returns-6 : tie.Need-returns-6
+returns-6 c =
+    let d = c .before .before .before in
+    let b = d .before .before .before in
+    let at = b .before .before .before .before .before .least in
+    granted _ _ _
+    (excerpt-0 (count b) (ds b) (v b) (state b) (none (d .before)) (omega (arith, at .ensures, d .if5 .left)))
+    (span-values (ds b) (v b) (state b) (at .result) (b .before .before .before .frames-of .result) (b .wide .result) (c .before .before .number-of .result) (c .wide2 .result * b .wide .result)
+    (omega (arith, at .ensures, d .if5 .left))
+    (b .before .before .before .frames-of .ensures .sum)
+    (b .wide .ensures)
+    (c .before .before .number-of .ensures)
+    (ap (λ (n : ℕ). n * b .wide .result) (c .wide2 .ensures)))
+
+pub excerpt-span-spec : {M : Type 1} → statement M
+excerpt-span-spec =
+    tie.close
+    (tie.spec
+    returns
+    out-of-range-requires
+    returns-2
+    least-requires
+    slice-aggregate-frames-of
+    frames-of-requires
+    mul-frames-of
+    sub-frames-of
+    part-frames-of-start
+    part-frames-of-end
+    frames-of-requires-2
+    add-frames
+    wide-requires
+    mul-if3
+    returns-3
+    returns-4
+    returns-5
+    number-of-requires
+    mul-wide
+    shared-slice-read-wide
+    wide-requires-2
+    mul-t23
+    returns-6)

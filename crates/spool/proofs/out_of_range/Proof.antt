@@ -1,0 +1,17 @@
+-- `spool::out_of_range` meets its contract. Assumes nothing.
+use borrow.Author.Tests.{lt-ltb, le-ltb}
+use Rattle.spool.specs.Refusal.{outside}
+use Rattle.spool.proofs.out_of_range.Statement.{statement}
+use Rattle.spool.proofs.out_of_range.Tie as tie
+
+returns : tie.Need-returns
+unfolding outside
+returns c = rw (lt-ltb (c .before .args .v) 1 (c .if1 .taken))
+
+returns-2 : tie.Need-returns-2
+unfolding outside
+returns-2 c = rw (le-ltb (c .before .args .v) 1 (c .if1 .left))
+
+pub out-of-range-spec : {M : Type 1} → statement M
+out-of-range-spec =
+    tie.close (tie.spec returns returns-2)
