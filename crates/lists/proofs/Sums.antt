@@ -1,7 +1,7 @@
 -- Laws of totals and of folds. Assumes nothing.
 use mathlib.Core.Path.{_≡_, ap}
 use mathlib.Core.List.{List, [], _∷_, _++_}
-use Prim.Native.Nat.{ℕ, _+_, _^_, _<_, _≤_}
+use Prim.Native.Nat.{ℕ, suc, _+_, _*_, _^_, _<_, _≤_}
 use native.Mathlib.Numerals.{add-one}
 use native.Mathlib.Omega.{arith}
 use lib.ListN.{length, take, drop, getD, drop-of-length-le}
@@ -18,6 +18,12 @@ total-append (x ∷ xs) ys = omega (arith, total-append xs ys)
 pub total-more : (xs : List ℕ) (i : ℕ) → i < length xs → total (take (i + 1) xs) ≡ total (take i xs) + getD xs i 0
 unfolding total
 total-more xs i h = rw (add-one, take-suc xs i 0 h) (omega (arith, total-append (take i xs) (getD xs i 0 ∷ [])))
+
+-- numbers of at most b have a total of at most b each
+pub total-under : (b : ℕ) (xs : List ℕ) → ((i : ℕ) → getD xs i 0 ≤ b) → total xs ≤ length xs * b
+unfolding total
+total-under b [] h = omega arith
+total-under b (x ∷ xs) h = omega (arith, h 0, total-under b xs (λ i. h (suc i)))
 
 -- the total of a list that is not endlessly long
 pub total-whole : (xs : List ℕ) → length xs ≤ 4294967296 → total (take (2 ^ 32) xs) ≡ total xs

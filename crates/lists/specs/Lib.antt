@@ -2,3 +2,4 @@
 pub mod Totals
 pub mod Bytes
 pub mod Build
+pub mod Refusals

@@ -55,7 +55,7 @@ pub fn copy_f64(src: &[f64], n: usize, dst: &mut [f64])
 }
 
 // The smaller of two numbers.
-fn least(a: usize, b: usize) -> usize
+pub fn least(a: usize, b: usize) -> usize
     ensures { λ r. ⌜ r ≡ min a b ⌝ }
 {
     if a < b {
@@ -107,12 +107,19 @@ pub fn little_endian(bytes: &[u8], at: usize, width: usize) -> u64
     let mut number: u64 = 0;
     while i > at {
         i -= 1;
-        number = number * 256 + wide(bytes[i]);
+        number = number * 256 + wide_u8(bytes[i]);
     }
     number
 }
 
-fn wide(b: u8) -> u64
+// A number and a byte in 64 bits: a read that is widened by a call asks for its index alone.
+pub fn wide(x: u32) -> u64
+    ensures { λ r. ⌜ r ≡ x ⌝ }
+{
+    x as u64
+}
+
+fn wide_u8(b: u8) -> u64
     ensures { λ r. ⌜ r ≡ b ⌝ }
 {
     b as u64

@@ -10,7 +10,8 @@ use lib.Dec.{ltb, eqb}
 use lib.ListN.{length}
 use Rattle.lists.specs.Totals.{total}
 use Rattle.lists.proofs.Numbers.{le-or-lt}
-use Rattle.spool.specs.Refusal.{outside, placeRefusal, trajectoryRefusal, orElse, excerptRefusal}
+use Rattle.lists.specs.Refusals.{orElse}
+use Rattle.spool.specs.Refusal.{outside, placeRefusal, trajectoryRefusal, excerptRefusal}
 
 -- a v that is not out of range
 pub in-range : (v : ℕ) → outside v ≡ false → (1 ≤ v) × (v ≤ 64)

@@ -7,14 +7,8 @@ use native.Mathlib.Omega.{arith}
 use lib.ListN.{length, take, drop, getD, length-drop, take-append-drop}
 use lib.Seq.{take-all}
 use Rattle.lists.specs.Totals.{total}
-use Rattle.lists.proofs.Sums.{total-append, total-whole}
+use Rattle.lists.proofs.Sums.{total-append, total-whole, total-under}
 use Rattle.spool.specs.Promise.{Summed}
-
--- numbers of at most b have a total of at most b each
-total-under : (b : ℕ) (xs : List ℕ) → ((i : ℕ) → getD xs i 0 ≤ b) → total xs ≤ length xs * b
-unfolding total
-total-under b [] h = omega arith
-total-under b (x ∷ xs) h = omega (arith, h 0, total-under b xs (λ i. h (suc i)))
 
 -- what `total_u32` says of durations that are few
 pub summed : (ds : List ℕ) (r : ℕ) → ((i : ℕ) → getD ds i 0 ≤ 4294967295) → length ds ≤ 4096 → r ≡ total (take (2 ^ 32) ds) → Summed ds r

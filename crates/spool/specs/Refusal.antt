@@ -1,10 +1,11 @@
 -- The numbers of refused calls: the smallest that applies, 0 for none. Assumes nothing.
 use mathlib.Core.Bool.{Bool, cond, _||_}
 use mathlib.Core.List.{List}
-use Prim.Native.Nat.{ℕ, zero, suc, _*_}
+use Prim.Native.Nat.{ℕ, _*_}
 use lib.Dec.{ltb, eqb}
 use lib.ListN.{length}
 use Rattle.lists.specs.Totals.{total}
+use Rattle.lists.specs.Refusals.{orElse}
 
 -- 01, Sizes: "Vector length v is 1 to 64." v is out of that range
 unfoldable pub outside : ℕ → Bool
@@ -18,11 +19,6 @@ placeRefusal component v = cond (outside v) 3 (cond (ltb component v) 0 10)
 unfoldable pub trajectoryRefusal : ℕ → List ℕ → ℕ → ℕ
 trajectoryRefusal numbers durations v =
     cond (ltb 4096 (length durations)) 3 (cond (outside v) 3 (cond (eqb numbers (total durations * v)) (cond (ltb 65536 (total durations)) 5 0) 4))
-
--- 01, Refusal numbers: "The smallest number that applies is given": the first, or the second where the first is none
-abbrev pub orElse : ℕ → ℕ → ℕ
-orElse zero next = next
-orElse (suc k) next = suc k
 
 -- 01, Refusal numbers: 10 "no such .. state"
 unfoldable pub excerptRefusal : ℕ → List ℕ → ℕ → ℕ → ℕ

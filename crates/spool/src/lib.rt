@@ -1,6 +1,6 @@
 // Where a trajectory's numbers stand in the spool, and the part of a trajectory that one state has.
 ghost use mathlib.Core.Path.{_≡_};
-ghost use Prim.Native.Nat.{_^_, _≤_, _<_, min};
+ghost use Prim.Native.Nat.{_^_, _≤_, _<_};
 ghost use lib.ListN.{length};
 ghost use Rattle.spool.specs.Place.{numberOf};
 ghost use Rattle.spool.specs.Refusal.{outside, excerptRefusal};
@@ -28,7 +28,7 @@ pub fn place(frame: u32, component: u32, v: u32) -> Placed
     if v <= component {
         return Placed::Refused(10);
     }
-    Placed::At(number_of(wide(frame), wide(component), wide(v)) * 8)
+    Placed::At(number_of(lists::wide(frame), lists::wide(component), lists::wide(v)) * 8)
 }
 
 // The part of the lent trajectory that a state has; the empty part of it on a refusal.
@@ -65,10 +65,10 @@ pub fn excerpt_span(trajectory: &[f64], durations: &[u32], v: u32, state: u32) -
         return Span::Refused(3);
     }
     // One scan in two parts: the frames before the state, and those from it on.
-    let at = least(state as usize, states);
+    let at = lists::least(state as usize, states);
     let first = frames_of(&durations[..at]);
     let frames = first + frames_of(&durations[at..]);
-    let width = wide(v);
+    let width = lists::wide(v);
     if trajectory.len() as u64 != frames * width {
         return Span::Refused(4);
     }
@@ -78,7 +78,10 @@ pub fn excerpt_span(trajectory: &[f64], durations: &[u32], v: u32, state: u32) -
     if states <= at {
         return Span::Refused(10);
     }
-    Span::Numbers(number_of(first, 0, width), wide(durations[at]) * width)
+    Span::Numbers(
+        number_of(first, 0, width),
+        lists::wide(durations[at]) * width,
+    )
 }
 
 // The place of a frame's component in a trajectory.
@@ -105,19 +108,4 @@ fn frames_of(durations: &[u32]) -> u64
     ensures { λ r. ⌜ Summed (now (durations .entry)) r ⌝ }
 {
     lists::total_u32(durations)
-}
-
-fn least(a: usize, b: usize) -> usize
-    ensures { λ r. ⌜ r ≡ min a b ⌝ }
-{
-    if a < b {
-        return a;
-    }
-    b
-}
-
-fn wide(x: u32) -> u64
-    ensures { λ r. ⌜ r ≡ x ⌝ }
-{
-    x as u64
 }

@@ -62,14 +62,14 @@ sub-i c = search needs
 mul-number : tie.Need-mul-number Inv-loop μ-loop
 mul-number c = omega (arith, room c)
 
-shared-slice-read-wide : tie.Need-shared-slice-read-wide Inv-loop μ-loop
-shared-slice-read-wide c = search needs
+shared-slice-read-wide-u8 : tie.Need-shared-slice-read-wide-u8 Inv-loop μ-loop
+shared-slice-read-wide-u8 c = search needs
 
-wide-requires : tie.Need-wide-requires Inv-loop μ-loop
-wide-requires c κs = search needs
+wide-u8-requires : tie.Need-wide-u8-requires Inv-loop μ-loop
+wide-u8-requires c κs = search needs
 
 add-number : tie.Need-add-number Inv-loop μ-loop
-add-number c = omega (arith, room (c .before .before), c .wide .ensures, c .before .shared-slice-known2 .given (c .before .before .before .loop .i - 1))
+add-number c = omega (arith, room (c .before .before), c .wide-u8 .ensures, c .before .shared-slice-known2 .given (c .before .before .before .loop .i - 1))
 
 loop-less : tie.Need-loop-less Inv-loop μ-loop
 loop-less c = search needs
@@ -77,7 +77,7 @@ loop-less c = search needs
 loop-again : tie.Need-loop-again Inv-loop μ-loop
 loop-again c =
     let l = c .before .before .before .loop in
-    let w = c .wide .ensures in
+    let w = c .wide-u8 .ensures in
     reading-next _ _ _ (begins (c .before .before .before)) _ _ (l .inv) (ends (c .before .before .before)) (c .before .before .loop-test .taken) _ (omega (arith, c .before .shared-slice-known2 .given (l .i - 1))) w
 
 returns-2 : tie.Need-returns-2 Inv-loop μ-loop
@@ -98,8 +98,8 @@ little-endian-spec =
     loop-holds
     sub-i
     mul-number
-    shared-slice-read-wide
-    wide-requires
+    shared-slice-read-wide-u8
+    wide-u8-requires
     add-number
     loop-less
     loop-again
