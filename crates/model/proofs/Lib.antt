@@ -1,0 +1,9 @@
+-- The laws that the proofs below and the crates above cite.
+pub mod Pairs
+pub mod Windows
+pub mod Accepted
+pub mod Records
+pub mod Scaling
+pub mod Adding
+pub mod Promises
+mod Cases

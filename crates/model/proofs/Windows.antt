@@ -1,0 +1,131 @@
+-- Laws of window sets. Assumes nothing.
+use mathlib.Core.Path.{_≡_, refl, sym, ap, _∙_}
+use mathlib.Core.List.{List, [], _∷_}
+use mathlib.Core.Bool.{Bool, true, false, not, _&&_, true≢false}
+use Prim.Native.Nat.{ℕ, zero, suc, _+_, _^_, _<_, _≤_, min}
+use native.Mathlib.Nat.{zero-min, min-zero, suc-min-suc}
+use native.Mathlib.Numerals.{add-one}
+use native.Mathlib.Omega.{arith}
+use borrow.Author.Tests.{le-leb, lt-leb, leb-true, eq-eqb, ne-eqb, not-true, not-false}
+use lib.Dec.{leb}
+use lib.ListN.{length, take, drop, getD, drop-of-length-le, length-take, List·getD-eq-default}
+use lib.Seq.{drop-cons, getD-take}
+use lib.Ieee.{Float, nan, inf, fin, lt}
+use Rattle.lists.specs.Totals.{total}
+use Rattle.lists.proofs.Parts.{take-min}
+use Rattle.lists.proofs.Sums.{total-whole}
+use Rattle.model.specs.Windows.{between, allOf, finite, widthsFit, allFinite, windowRefusal, widthOf, startOf}
+
+-- ---- a loop that tests each item: what the items from i on say is what all say
+
+module _ {A : Type 0} (p : A → Bool) (xs : List A) (i : ℕ) (whole : Bool) (k : allOf p (drop i xs) ≡ whole) where
+  module _ (z : A) (t : Bool) (h : i < length xs) (e : t ≡ p (getD xs i z)) where
+    pub all-next : not t ≡ false → allOf p (drop (i + 1) xs) ≡ whole
+    unfolding allOf
+    all-next n = rw add-one (rw (drop-cons xs i z h, ← e, not-false t n) at k)
+
+    pub all-stop : not t ≡ true → false ≡ whole
+    unfolding allOf
+    all-stop n = rw (drop-cons xs i z h, ← e, not-true t n) at k
+
+  pub all-done : length xs ≤ i → true ≡ whole
+  unfolding allOf
+  all-done h = rw (drop-of-length-le xs h) at k
+
+-- ---- a number below infinity and above its negative
+
+pub finite-below : (x : Float) → lt x (inf false) ≡ true → lt (inf true) x ≡ finite x
+unfolding lt finite
+finite-below nan h = refl
+finite-below (inf true) h = refl
+finite-below (inf false) h = sym h
+finite-below (fin s m e) h = refl
+
+pub finite-not-below : (x : Float) → lt x (inf false) ≡ false → false ≡ finite x
+unfolding lt finite
+finite-not-below nan h = refl
+finite-not-below (inf s) h = refl
+finite-not-below (fin s m e) h = sym h
+
+-- ---- between two bounds
+
+module _ (low high n : ℕ) where
+  pub between-under : n < low → false ≡ between low high n
+  between-under h = rw (lt-leb low n h)
+
+  pub between-from : low ≤ n → leb n high ≡ between low high n
+  between-from h = rw (le-leb low n h)
+
+-- ---- one window of a set
+
+-- a part of a part from the front
+take-both : {A : Type 0} (m n : ℕ) (l : List A) → take m (take n l) ≡ take (min m n) l
+take-both zero n l = rw zero-min
+take-both (suc m) zero l = rw (min-zero (suc m))
+take-both (suc m) (suc n) [] = rw suc-min-suc
+take-both (suc m) (suc n) (x ∷ xs) = rw suc-min-suc (ap (λ (r : List _). x ∷ r) (take-both m n xs))
+
+module _ (ws : List ℕ) (i : ℕ) where
+  pub width-at : i < min 4 (length ws) → getD ws i 0 ≡ widthOf (take 4 ws) i
+  width-at h = sym (getD-take 4 ws i 0 (omega arith))
+
+  pub width-past : min 4 (length ws) ≤ i → 0 ≡ widthOf (take 4 ws) i
+  width-past h = sym (List·getD-eq-default (take 4 ws) 0 (rw length-take h))
+
+  pub start-at : (k : ℕ) → k ≡ min (min i 4) (length ws) → total (take (2 ^ 32) (take k ws)) ≡ startOf (take 4 ws) i
+  start-at k e =
+      let l : length (take k ws) ≤ 4294967296 = rw length-take (omega arith) in
+      total-whole (take k ws) l ∙ ap total (ap (λ (m : ℕ). take m ws) e ∙ take-min (min i 4) ws ∙ sym (take-both i 4 ws))
+
+-- ---- the ways out of a check
+
+module _ (ws : List ℕ) (t : Bool) (e : t ≡ between 1 4 (length ws)) where
+  pub fit-none : not t ≡ true → false ≡ widthsFit ws
+  unfolding widthsFit
+  fit-none n = rw (← e, not-true t n)
+
+  pub fit-each : not t ≡ false → allOf (between 1 15) ws ≡ widthsFit ws
+  unfolding widthsFit
+  fit-each n = rw (← e, not-false t n)
+
+pub and-first : (a b : Bool) → a && b ≡ true → a ≡ true
+and-first true b h = refl
+and-first false b h = h
+
+pub and-second : (a b : Bool) → a && b ≡ true → b ≡ true
+and-second true b h = h
+and-second false b h = absurd (true≢false (sym h))
+
+-- a set that fits has 1 to 4 windows
+module _ (ws : List ℕ) (f : widthsFit ws ≡ true) where
+  counted : between 1 4 (length ws) ≡ true
+  unfolding widthsFit
+  counted = and-first (between 1 4 (length ws)) (allOf (between 1 15) ws) f
+
+  pub fit-some : 1 ≤ length ws
+  fit-some = leb-true 1 (length ws) (and-first (leb 1 (length ws)) (leb (length ws) 4) counted)
+
+  pub fit-few : length ws ≤ 4
+  fit-few = leb-true (length ws) 4 (and-second (leb 1 (length ws)) (leb (length ws) 4) counted)
+
+module _ (ws : List ℕ) (cs : List Float) (f : Bool) (e : f ≡ widthsFit ws) where
+  pub refused-1 : not f ≡ true → _≡_ {A = ℕ} 1 (windowRefusal ws cs)
+  unfolding windowRefusal
+  refused-1 n = rw (← e, not-true f n)
+
+  module _ (n : not f ≡ false) (g : Bool) (d : g ≡ allFinite cs) where
+    pub refused-2 : not g ≡ true → _≡_ {A = ℕ} 2 (windowRefusal ws cs)
+    unfolding windowRefusal
+    refused-2 m = rw (← e, not-false f n, ← d, not-true g m)
+
+    module _ (m : not g ≡ false) (t : ℕ) (s : t ≡ total (take (2 ^ 32) ws)) where
+      summed : t ≡ total ws
+      summed = s ∙ total-whole ws (omega (arith, fit-few ws (sym e ∙ not-false f n)))
+
+      pub refused-4 : (t ≡ length cs → ⊥) → _≡_ {A = ℕ} 4 (windowRefusal ws cs)
+      unfolding windowRefusal
+      refused-4 x = rw (← e, not-false f n, ← d, not-false g m, ← summed, ne-eqb (length cs) t (λ q. x (sym q)))
+
+      pub refused-none : t ≡ length cs → _≡_ {A = ℕ} 0 (windowRefusal ws cs)
+      unfolding windowRefusal
+      refused-none x = rw (← e, not-false f n, ← d, not-false g m, ← summed, eq-eqb (length cs) t (sym x))

@@ -1,0 +1,22 @@
+-- `model::mean_vari::MeanVari::with_ivar` meets its contract. Assumes nothing.
+use mathlib.Core.Path.{ap}
+use borrow.Author.Needs.{needs}
+use Rattle.model.specs.Pair.{pair}
+use Rattle.model.proofs.Pairs.{ivar-high, ivar-low, ivar-between}
+use Rattle.model.proofs.mean_vari.MeanVari.with_ivar.Statement.{statement}
+use Rattle.model.proofs.mean_vari.MeanVari.with_ivar.Tie as tie
+
+magnitude-requires : tie.Need-magnitude-requires
+magnitude-requires c κs = search needs
+
+returns : tie.Need-returns
+returns c = ap (pair _) (ivar-high _ _ (c .before .magnitude .ensures) (c .if1 .taken))
+
+returns-2 : tie.Need-returns-2
+returns-2 c = ap (pair _) (ivar-low _ _ (c .before .before .magnitude .ensures) (c .before .if1 .left) (c .if2 .taken))
+
+returns-3 : tie.Need-returns-3
+returns-3 c = ap (pair _) (ivar-between _ _ (c .before .before .before .magnitude .ensures) (c .before .before .if1 .left) (c .before .if2 .left))
+
+pub with-ivar-spec : {M : Type 1} → statement M
+with-ivar-spec = tie.close (tie.spec magnitude-requires returns returns-2 returns-3)

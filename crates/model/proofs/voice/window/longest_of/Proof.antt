@@ -1,0 +1,57 @@
+-- `model::voice::window::longest_of` meets its contract. The invariant: the largest so far, with the widths from i on, gives the longest. Assumes nothing.
+use native.Mathlib.Omega.{arith}
+use borrow.Author.Needs.{needs}
+use Prim.Native.Nat.{_-_, _≤_, max}
+use mathlib.Core.Path.{_≡_, refl, sym, _∙_}
+use lib.ListN.{length, drop}
+use Rattle.lists.specs.Build.{foldFrom}
+use Rattle.lists.proofs.Sums.{fold-more, fold-done}
+use Rattle.model.specs.Windows.{longest}
+use Rattle.model.proofs.voice.window.longest_of.Statement.{statement}
+use Rattle.model.proofs.voice.window.longest_of.Tie as tie
+
+abbrev Inv-loop : tie.InvT-loop
+Inv-loop widths found₀ i₀ found i = (i ≤ length widths) × (foldFrom max found (drop i widths) ≡ longest widths)
+
+abbrev μ-loop : tie.MeasureT-loop
+μ-loop widths found₀ i₀ found i = length widths - i
+
+loop-holds : tie.Need-loop-holds Inv-loop μ-loop
+unfolding longest
+loop-holds c = (omega arith, refl)
+
+mul-larger : tie.Need-mul-larger Inv-loop μ-loop
+mul-larger c = search needs
+
+shared-slice-read-larger : tie.Need-shared-slice-read-larger Inv-loop μ-loop
+shared-slice-read-larger c = search needs
+
+larger-requires : tie.Need-larger-requires Inv-loop μ-loop
+larger-requires c κs = search needs
+
+add-i : tie.Need-add-i Inv-loop μ-loop
+add-i c = search needs
+
+loop-less : tie.Need-loop-less Inv-loop μ-loop
+loop-less c = search needs
+
+loop-again : tie.Need-loop-again Inv-loop μ-loop
+loop-again c = let l = c .before .before .before .loop in (omega arith, rw (c .larger .ensures) (fold-more max (l .found) _ (l .i) 0 (c .before .before .loop-test .taken) ∙ l .inv .1))
+
+returns : tie.Need-returns Inv-loop μ-loop
+returns c = let l = c .before .loop in sym (fold-done max (l .found) _ (l .i) (c .loop-test .left)) ∙ l .inv .1
+
+pub longest-of-spec : {M : Type 1} → statement M
+longest-of-spec =
+    tie.close
+    (tie.spec
+    Inv-loop
+    μ-loop
+    loop-holds
+    mul-larger
+    shared-slice-read-larger
+    larger-requires
+    add-i
+    loop-less
+    loop-again
+    returns)
