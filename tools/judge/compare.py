@@ -1,0 +1,150 @@
+"""Runs cases through the reading, the oracle and the C calls, and tells where they differ."""
+
+import struct
+from collections import Counter
+from dataclasses import dataclass, field
+
+from . import reading
+from .domain import Judge, answered, asked, judge_of
+from .formats import KINDS, Case, Fields, decode, encode, encode_case
+from .programs import ANSWERED, PANICKED, STRAYED, Program
+from .reading.durations import TooLong
+
+FAILURES = {
+    PANICKED: "panicked",
+    STRAYED: "wrote outside the lent lists, or into an input",
+}
+
+
+@dataclass
+class Difference:
+    case: Case
+    judged: str  # whose answer is wrong, or the Rust's where it isn't the reading's
+    expected: Fields | None
+    got: Fields | str
+
+    def __str__(self) -> str:
+        lines = [f"{self.judged} on {self.case.kind}:"]
+        lines += [f"  {name} = {shown(value)}" for name, value in self.case.fields.items()]
+        if isinstance(self.got, str):
+            return "\n".join([*lines, f"  {self.got}"])
+        for name, got in self.got.items():
+            lines.append(f"  {name}: {compared(got, self.expected[name])}")
+        return "\n".join(lines)
+
+
+def compared(got: object, expected: object) -> str:
+    """Both where they differ, with the first place of a list."""
+    if shown(got) == shown(expected):
+        return "as expected"
+    text = f"{shown(got)}, expected {shown(expected)}"
+    if isinstance(got, list):
+        unlike = (place for place, (a, b) in enumerate(zip(got, expected)) if shown(a) != shown(b))
+        text += f", first at {next(unlike, 'the end of the shorter')}"
+    return text
+
+
+def shown(value: object) -> str:
+    """A number or a list, NaNs with their bits."""
+    if isinstance(value, float):
+        return repr(value) if value == value else f"NaN {struct.pack('>d', value).hex()}"
+    if isinstance(value, list):
+        return f"[{', '.join(map(shown, value))}]"
+    return value.hex(" ") if isinstance(value, bytes) else str(value)
+
+
+@dataclass
+class Tally:
+    """How many cases were judged by whom."""
+
+    judged: Counter = field(default_factory=Counter)
+    refusals: Counter = field(default_factory=Counter)
+
+    def __str__(self) -> str:
+        refused = ", ".join(f"{number}: {count}" for number, count in sorted(self.refusals.items()))
+        judged = ", ".join(f"{count} by {judge}" for judge, count in self.judged.items())
+        return f"{judged}; refused {refused or 'none'}"
+
+
+# Each case's refusal number and values; None where the reading would take too long.
+Answers = list[tuple[int, Fields | None]]
+
+
+@dataclass
+class Comparison:
+    oracle: Program
+    paper: Program
+    subject: Program | None
+    kinds_there: set[str]
+    tally: Tally = field(default_factory=Tally)
+
+    def differences(self, cases: list[Case]) -> list[Difference]:
+        answers = [self.read(case) for case in cases]
+        found = self.against_oracles(cases, answers)
+        self.count(cases, answers)
+        return found + self.against_subject(cases, answers)
+
+    def read(self, case: Case) -> tuple[int, Fields | None]:
+        """The reading's answer; the values are None where the Rust judges alone."""
+        try:
+            return reading.answer(case)
+        except TooLong:
+            return 0, None
+
+    def count(self, cases: list[Case], answers: Answers) -> None:
+        """What no oracle judges; the others are counted where they are compared."""
+        for case, (refusal, _) in zip(cases, answers):
+            if refusal:
+                self.tally.refusals[refusal] += 1
+            elif judge_of(case) == Judge.READING:
+                self.tally.judged["the reading alone"] += 1
+
+    def against_oracles(self, cases: list[Case], answers: Answers) -> list[Difference]:
+        """Compares values; fills in the oracle's where the reading has none."""
+        rust = self.against_oracle(Judge.RUST, self.oracle, cases, answers)
+        return rust + self.against_oracle(Judge.PAPER, self.paper, cases, answers)
+
+    def against_oracle(
+        self, judge: Judge, oracle: Program, cases: list[Case], answers: Answers
+    ) -> list[Difference]:
+        found = []
+        accepted = [place for place, (refusal, _) in enumerate(answers) if refusal == 0]
+        places = [place for place in accepted if judge_of(cases[place]) == judge]
+        given = oracle.answers([encode_case(asked(cases[place]), False) for place in places])
+        for place, answer in zip(places, given):
+            case, values = cases[place], answers[place][1]
+            alone = values is None
+            self.tally.judged[f"{oracle.name} alone" if alone else f"the reading and {oracle.name}"] += 1
+            if answer is None or answer[0] != ANSWERED:
+                found.append(Difference(case, oracle.name, values, failure(answer)))
+                continue
+            schema, got = KINDS[case.kind].values, answered(case, answer[1:])
+            if alone:
+                answers[place] = 0, got
+            elif encode(schema, got) != encode(schema, values):
+                found.append(Difference(case, oracle.name, values, got))
+        return found
+
+    def against_subject(self, cases: list[Case], answers: Answers) -> list[Difference]:
+        """Compares everything that the C calls leave."""
+        found = []
+        places = [place for place, case in enumerate(cases) if case.kind in self.kinds_there]
+        data = [encode_case(cases[place], answers[place][0] != 0) for place in places]
+        given = self.subject.answers(data) if self.subject else []
+        for place, answer in zip(places, given):
+            case, (refusal, values) = cases[place], answers[place]
+            if values is None:
+                continue  # the Rust was to judge alone and gave no answer: told already
+            schema = KINDS[case.kind].exit
+            expected = reading.at_exit(case, refusal, values)
+            if answer is None or answer[0] != ANSWERED:
+                found.append(Difference(case, self.subject.name, expected, failure(answer)))
+            elif answer[1:] != encode(schema, expected):
+                found.append(Difference(case, self.subject.name, expected, decode(schema, answer[1:])))
+        return found
+
+
+def failure(answer: bytes | None) -> str:
+    if answer is None:
+        return "died or hung"
+    return FAILURES.get(answer[0], f"status {answer[0]}")

@@ -1,0 +1,139 @@
+"""Bad shapes of every kind, several at once."""
+
+from collections.abc import Callable
+from random import Random
+
+from .formats import KINDS, ROOM, Case
+from .reading.ieee import MAX_FRAMES, NAN
+from .reading.refusals import MAX_STATES, MAX_V, MAX_WIDTH
+
+Damage = Callable[[Random, Case], Case]
+
+LISTS = ("u32s", "f64s", "u8s")
+OUT_OF_RANGE = {
+    "v": [0, MAX_V + 1, 2**32 - 1],
+    "nstate": [0, 17, 2**32 - 1],
+}
+
+
+def fields_of(case: Case, *forms: str) -> list[str]:
+    return [name for name, form in KINDS[case.kind].inputs if form in forms]
+
+
+def other_length(rng: Random, case: Case) -> Case:
+    """A list one shorter, one longer or empty."""
+    name = rng.choice(fields_of(case, *LISTS))
+    old = case[name]
+    grown = old + old[-1:] if len(old) else old
+    return case.with_fields(**{name: rng.choice([old[:-1], grown, old[:0]])})
+
+
+def short_room(rng: Random, case: Case) -> Case:
+    rooms = fields_of(case, ROOM)
+    if not rooms:
+        return case
+    name = rng.choice(rooms)
+    return case.with_fields(**{name: max(0, case[name] - rng.choice([1, 2, 6, case[name]]))})
+
+
+def longer_trajectory(rng: Random, case: Case) -> Case:
+    """An excerpt's trajectory must have exactly its frames."""
+    return case.with_fields(trajectory=case["trajectory"] + rng.choice([1, 2, 64]))
+
+
+def number_out_of_range(rng: Random, case: Case) -> Case:
+    names = [name for name in OUT_OF_RANGE if name in case.fields]
+    if not names:
+        return case
+    name = rng.choice(names)
+    return case.with_fields(**{name: rng.choice(OUT_OF_RANGE[name])})
+
+
+def too_many_states(rng: Random, case: Case) -> Case:
+    """One state too many, the other lists as they were or as long."""
+    count = MAX_STATES + 1
+    if "durations" in case.fields:
+        return case.with_fields(durations=(case["durations"] or [1])[:1] * count)
+    case = case.with_fields(means=(case["means"] or [1.0])[:1] * count)
+    if rng.random() < 0.5:
+        case = case.with_fields(varis=[1.0] * count, out=count, work=count)
+    return case
+
+
+def bad_windows(rng: Random, case: Case) -> Case:
+    if "widths" not in case.fields:
+        return case
+    widths = list(case["widths"])
+    how = rng.randrange(4)
+    if how == 0:
+        return case.with_fields(widths=rng.choice([[], [1] * 5]))
+    if widths and how == 1:
+        widths[rng.randrange(len(widths))] = rng.choice([0, MAX_WIDTH + 1, 2**32 - 1])
+        return case.with_fields(widths=widths)
+    if widths and how == 2:
+        widths[rng.randrange(len(widths))] = rng.randint(1, MAX_WIDTH)  # the sum no longer agrees
+        return case.with_fields(widths=widths)
+    taps = list(case["coefficients"])
+    if not taps:
+        return case
+    taps[rng.randrange(len(taps))] = rng.choice([float("inf"), -float("inf"), NAN])
+    return case.with_fields(coefficients=taps)
+
+
+def too_many_frames(rng: Random, case: Case) -> Case:
+    """A total of 65,537 and far more, 32 bits overflowing too."""
+    if "durations" not in case.fields or not case["durations"]:
+        return case
+    durations = list(case["durations"])
+    state = rng.randrange(len(durations))
+    rest = sum(durations) - durations[state]
+    durations[state] = rng.choice([MAX_FRAMES + 1 - min(rest, MAX_FRAMES), 2**32 - 1])
+    if rng.random() < 0.3:
+        durations[0] = durations[-1] = 2**31
+    return case.with_fields(durations=durations)
+
+
+def too_many_band_frames(rng: Random, case: Case) -> Case:
+    if case.kind != "band" or rng.random() < 0.9:
+        return case
+    count = (MAX_FRAMES + 1) * max(1, len(case["widths"])) + rng.choice([0, 0, 1])
+    return case.with_fields(means=[0.5] * count, ivars=[1.0] * (count - rng.choice([0, 0, 1])))
+
+
+def changed_bytes(rng: Random, case: Case) -> Case:
+    """A damaged job: cut anywhere, surplus bytes, single bytes changed, fields off by one."""
+    if case.kind != "job" or not case["bytes"]:
+        return case
+    data = bytearray(case["bytes"])
+    how = rng.randrange(4)
+    if how == 0:
+        del data[rng.randrange(len(data)) :]
+    elif how == 1:
+        data += rng.randbytes(rng.choice([1, 8, 16]))
+    elif how == 2:
+        data[rng.randrange(min(len(data), 16))] ^= 1 << rng.randrange(8)
+    else:
+        for _ in range(rng.randint(1, 4)):
+            data[rng.randrange(len(data))] = rng.randrange(256)
+    return case.with_fields(bytes=bytes(data))
+
+
+GENERAL: list[Damage] = [other_length, short_room, number_out_of_range]
+BY_KIND: dict[str, list[Damage]] = {
+    "fit": [*GENERAL, too_many_states],
+    "speed": [*GENERAL, too_many_states],
+    "align": [*GENERAL, too_many_states],
+    "mask": [*GENERAL, too_many_states, too_many_frames],
+    "band": [*GENERAL, bad_windows, too_many_band_frames],
+    "trajectory": [*GENERAL, bad_windows, too_many_frames, too_many_states],
+    "place": [number_out_of_range],
+    "excerpt": [*GENERAL, too_many_states, too_many_frames, longer_trajectory],
+    "job": [short_room, changed_bytes, changed_bytes],
+}
+
+
+def damaged(rng: Random, case: Case) -> Case:
+    for _ in range(rng.choice([1, 1, 2, 3])):
+        if case.kind in BY_KIND:
+            case = rng.choice(BY_KIND[case.kind])(rng, case)
+    return case

@@ -1,0 +1,186 @@
+"""The kinds of cases and the bytes of cases and answers; tools/README.md says the same in words."""
+
+import struct
+from dataclasses import dataclass
+from typing import Any
+
+Fields = dict[str, Any]
+Schema = list[tuple[str, str]]
+
+# A lent list comes with its length alone: its numbers at entry are those of `marked`.
+ROOM = "room"
+SCALARS = {"u8": "B", "u32": "I", "u64": "Q", "f64": "d", ROOM: "I"}
+LISTS = {"u32s": ("I", 4), "f64s": ("d", 8)}
+
+UNTOUCHED_U32 = 0xA5A5A5A5
+UNTOUCHED_U64 = 0xA5A5A5A5A5A5A5A5
+
+
+def marked_u32(first: int, end: int) -> list[int]:
+    """What the driver puts into places first.. of a lent list of whole numbers."""
+    return list(range(0xA5000000 + first, 0xA5000000 + end))
+
+
+def marked_f64(first: int, end: int) -> list[float]:
+    """What the driver puts into places first.. of a lent list of floats."""
+    return [-1e6 - place for place in range(first, end)]
+
+
+@dataclass(frozen=True)
+class Kind:
+    """One kind of case: what goes in, what it computes, and all that a C call leaves at exit."""
+
+    number: int
+    inputs: Schema
+    values: Schema
+    exit: Schema | None = None
+
+
+WINDOWS = [("widths", "u32s"), ("coefficients", "f64s")]
+PAIRS = [("means", "f64s"), ("varis", "f64s")]
+FIT_ROOM = [("out", ROOM), ("work", ROOM)]
+FIT_EXIT = [("out", "u32s"), ("work", "u32s")]
+REFUSAL = ("refusal", "u32")
+
+KINDS = {
+    "float": Kind(0, [("operation", "u8"), ("a", "f64"), ("b", "f64")], [("answer", "f64")]),
+    "pair": Kind(
+        1,
+        [("operation", "u8")] + [(name, "f64") for name in ("mean", "vari", "mean2", "vari2", "weight")],
+        [("mean", "f64"), ("vari", "f64")],
+    ),
+    "record": Kind(
+        2,
+        [("operation", "u8"), ("record", "f64s"), ("other", "f64s"), ("weight", "f64")],
+        [("record", "f64s")],
+    ),
+    "fit": Kind(
+        3,
+        [*PAIRS, ("length", "f64"), *FIT_ROOM],
+        [("changes", "u32"), ("durations", "u32s")],
+        [REFUSAL, ("changes", "u32"), *FIT_EXIT],
+    ),
+    "speed": Kind(
+        4,
+        [*PAIRS, ("speed", "f64"), *FIT_ROOM],
+        [("changes", "u32"), ("durations", "u32s")],
+        [REFUSAL, ("changes", "u32"), *FIT_EXIT],
+    ),
+    "align": Kind(
+        5,
+        [*PAIRS, ("nstate", "u32"), ("ends", "f64s"), *FIT_ROOM],
+        [("written", "u32"), ("changes", "u32"), ("durations", "u32s")],
+        [REFUSAL, ("written", "u32"), ("changes", "u32"), *FIT_EXIT],
+    ),
+    "mask": Kind(
+        6,
+        [("weights", "f64s"), ("threshold", "f64"), ("durations", "u32s")]
+        + [("voiced", ROOM), ("left", ROOM), ("right", ROOM)],
+        [("voiced", "u32s"), ("left", "u32s"), ("right", "u32s")],
+        [REFUSAL, ("frames", "u32"), ("voiced", "u32s"), ("left", "u32s"), ("right", "u32s")],
+    ),
+    "band": Kind(
+        7,
+        [*WINDOWS, ("means", "f64s"), ("ivars", "f64s"), ("rows", ROOM), ("right", ROOM)],
+        [("rows", "f64s"), ("right", "f64s")],
+        [REFUSAL, ("rows", "f64s"), ("right", "f64s")],
+    ),
+    "trajectory": Kind(
+        8,
+        [("v", "u32"), ("masked", "u32"), ("threshold", "f64"), ("fill", "f64")]
+        + [("gv_on", "u32"), ("gv_weight", "f64"), *WINDOWS, ("records", "f64s")]
+        + [("durations", "u32s"), ("gv", "f64s"), ("switches", "u8s")]
+        + [("out", ROOM), ("work", ROOM), ("marks", ROOM)],
+        [("out", "f64s")],
+        [REFUSAL, ("out", "f64s"), ("work", "f64s"), ("marks", "u32s")],
+    ),
+    "place": Kind(
+        9,
+        [("frame", "u32"), ("component", "u32"), ("v", "u32")],
+        [("place", "u64")],
+        [REFUSAL, ("place", "u64")],
+    ),
+    "excerpt": Kind(
+        10,
+        [("trajectory", ROOM), ("durations", "u32s"), ("v", "u32"), ("state", "u32")],
+        [("first", "u64"), ("count", "u64")],
+        [REFUSAL, ("first", "u64"), ("count", "u64")],
+    ),
+    "job": Kind(
+        11,
+        [("bytes", "u8s"), *FIT_ROOM],
+        [("states", "u32"), ("frames", "u32"), ("changes", "u32"), ("durations", "u32s")],
+        [REFUSAL, ("states", "u32"), ("frames", "u32"), ("changes", "u32"), *FIT_EXIT],
+    ),
+}
+
+
+@dataclass
+class Case:
+    kind: str
+    fields: Fields
+
+    def __getitem__(self, name: str) -> Any:
+        return self.fields[name]
+
+    def with_fields(self, **fields: Any) -> "Case":
+        return Case(self.kind, {**self.fields, **fields})
+
+
+def encode(schema: Schema, fields: Fields) -> bytes:
+    parts = []
+    for name, form in schema:
+        value = fields[name]
+        if form in SCALARS:
+            parts.append(struct.pack("<" + SCALARS[form], value))
+        elif form == "u8s":
+            parts.append(struct.pack("<I", len(value)) + bytes(value))
+        else:
+            letter, _ = LISTS[form]
+            parts.append(struct.pack(f"<I{len(value)}{letter}", len(value), *value))
+    return b"".join(parts)
+
+
+def decode(schema: Schema, data: bytes) -> Fields:
+    fields: Fields = {}
+    place = 0
+    for name, form in schema:
+        if form in SCALARS:
+            (fields[name],) = struct.unpack_from("<" + SCALARS[form], data, place)
+            place += struct.calcsize("<" + SCALARS[form])
+            continue
+        (count,) = struct.unpack_from("<I", data, place)
+        place += 4
+        if form == "u8s":
+            fields[name] = data[place : place + count]
+            place += count
+        else:
+            letter, size = LISTS[form]
+            fields[name] = list(struct.unpack_from(f"<{count}{letter}", data, place))
+            place += size * count
+    if place != len(data):
+        raise ValueError(f"{len(data) - place} bytes beyond the fields {schema}")
+    return fields
+
+
+REFUSED_FLAG = 1
+
+
+def encode_case(case: Case, refused: bool) -> bytes:
+    kind = KINDS[case.kind]
+    flags = REFUSED_FLAG if refused else 0
+    body = bytes([kind.number, flags]) + encode(kind.inputs, case.fields)
+    return struct.pack("<I", len(body)) + body
+
+
+def split_answers(data: bytes) -> list[bytes]:
+    """The answers of a program, each without its size; one cut short is left out."""
+    answers = []
+    place = 0
+    while place + 4 <= len(data):
+        (size,) = struct.unpack_from("<I", data, place)
+        if place + 4 + size > len(data):
+            break
+        answers.append(data[place + 4 : place + 4 + size])
+        place += 4 + size
+    return answers

@@ -1,0 +1,43 @@
+"""Random cases around every limit of 01. A case comes from its seed, kind and index alone."""
+
+from collections.abc import Callable
+from random import Random
+
+from .. import damage
+from ..formats import Case
+from . import durations, operations, spool, trajectories
+from .common import with_odd_nan
+
+GENERATORS: dict[str, Callable[[Random, bool], Case]] = {
+    "float": operations.float_case,
+    "pair": operations.pair_case,
+    "record": operations.record_case,
+    "fit": durations.fit_case,
+    "speed": durations.speed_case,
+    "align": durations.align_case,
+    "mask": trajectories.mask_case,
+    "band": trajectories.band_case,
+    "trajectory": trajectories.trajectory_case,
+    "place": spool.place_case,
+    "excerpt": spool.excerpt_case,
+    "job": spool.job_case,
+}
+
+DAMAGED_SHARE = 0.15
+ODD_NAN_SHARE = 0.01
+
+
+def make(seed: int, kind: str, index: int) -> Case:
+    """Case `index` of a run: mostly well shaped, some damaged, few with another NaN."""
+    rng = Random(f"{seed} {kind} {index}")
+    case = GENERATORS[kind](rng, False)
+    if rng.random() < DAMAGED_SHARE:
+        case = damage.damaged(rng, case)
+    if rng.random() < ODD_NAN_SHARE:
+        case = with_odd_nan(rng, case)
+    return case
+
+
+def make_small(seed: int, kind: str, index: int) -> Case:
+    """A well-shaped case small enough to store."""
+    return GENERATORS[kind](Random(f"{seed} {kind} {index}"), True)

@@ -1,0 +1,133 @@
+"""Fits, speeds and alignments."""
+
+import math
+from random import Random
+
+from ..formats import Case
+from ..numbers import LENGTHS, mood, numbers, positives, special
+from ..reading.ieee import MAX_FRAMES, NAN
+from .common import room, state_count
+
+OPEN_ENDS = [-1.0, -5e-324, NAN, -float("inf"), -3.5]
+
+
+def long_pairs(rng: Random, count: int) -> tuple[list[float], list[float]]:
+    """Means whose total is near the limit on frames."""
+    total = MAX_FRAMES + rng.randint(-2, 2)
+    cuts = sorted(rng.randint(0, total) for _ in range(count - 1))
+    means = [float(b - a) for a, b in zip([0, *cuts], [*cuts, total])]
+    return means, [rng.choice([0.0, 0.5, 1.0, 2.0]) for _ in range(count)]
+
+
+def duration_pairs(rng: Random, count: int) -> tuple[list[float], list[float]]:
+    if count and rng.random() < 0.06:
+        return long_pairs(rng, count)
+    if rng.random() < 0.2:
+        # Equal variances put estimates on halves, where the last bit of rho decides.
+        return positives(rng, "decimal", count), [rng.choice([0.1, 0.3, 1.0, 1.0])] * count
+    tone = mood(rng)
+    means = positives(rng, tone, count)
+    varis = positives(rng, tone, count) if rng.random() < 0.8 else numbers(rng, tone, count)
+    if rng.random() < 0.1:
+        varis = [rng.choice([0.0, -0.0])] * count
+    return means, varis
+
+
+def natural_total(means: list[float]) -> float:
+    return float(sum(max(1, round(mean)) if abs(mean) < 1e6 else 1 for mean in means))
+
+
+def lengths_on_halves(means: list[float], vari: float) -> list[int]:
+    """Lengths at which an estimate is within a few bits of a half, the variances being equal."""
+    count, total = len(means), sum(means)
+
+    def from_half(target: int, mean: float) -> float:
+        estimate = mean + (target - total) / (count * vari) * vari
+        return abs(estimate - math.floor(estimate) - 0.5)
+
+    return [t for t in range(count + 1, count + 40) if any(from_half(t, mean) < 1e-9 for mean in means)]
+
+
+def length_for(rng: Random, means: list[float], varis: list[float]) -> float:
+    count, total = len(means), natural_total(means)
+    if count == 0:
+        return rng.choice([special(rng), *LENGTHS])  # an empty list answers whatever the length
+    if total > 60_000 and rng.random() < 0.8:
+        return rng.choice([*LENGTHS, total - 1, total - 0.5, total, total + 0.5, total + 1])
+    if varis in ([0.1] * count, [0.3] * count, [1.0] * count) and all(abs(mean) < 100 for mean in means):
+        halves = lengths_on_halves(means, varis[0])
+        if halves:
+            return float(rng.choice(halves))
+    return rng.choice([
+        lambda: total + rng.randint(-3, 6),
+        lambda: total + rng.randint(-3, 6) + 0.5,
+        lambda: total * rng.uniform(0.3, 3.0),
+        lambda: count + rng.choice([-1.0, 0.0, 0.4, 0.49999999999999994, 0.5, 1.0, 1.5, 2.0]),
+        lambda: float(count + rng.randint(0, 40)),
+        lambda: special(rng),
+        lambda: rng.choice(LENGTHS) if rng.random() < 0.1 else total,
+    ])()
+
+
+def fit_case(rng: Random, small: bool) -> Case:
+    count = state_count(rng, small)
+    means, varis = duration_pairs(rng, count)
+    return Case("fit", {
+        "means": means,
+        "varis": varis,
+        "length": length_for(rng, means, varis),
+        "out": room(rng, count),
+        "work": room(rng, count),
+    })
+
+
+def speed_case(rng: Random, small: bool) -> Case:
+    count = state_count(rng, small)
+    means, varis = duration_pairs(rng, count)
+    total = natural_total(means)
+    speed = rng.choice([
+        lambda: 1.0,
+        lambda: rng.choice([0.5, 2.0, 4.0, 0.25, 1.0000000000000002, 0.9999999999999999]),
+        lambda: rng.uniform(0.3, 3.0),
+        lambda: total / (length_for(rng, means, varis) or 1.0),
+        lambda: special(rng),
+    ])()
+    return Case("speed", {
+        "means": means,
+        "varis": varis,
+        "speed": speed,
+        "out": room(rng, count),
+        "work": room(rng, count),
+    })
+
+
+def ends_for(rng: Random, means: list[float], nstate: int) -> list[float]:
+    """An end a label: some given and near the natural times, some open, some absurd."""
+    labels = len(means) // nstate
+    given = rng.choice([0.0, 0.5, 0.8, 0.8, 1.0, 1.0])
+    ends, time = [], 0.0
+    for label in range(labels):
+        time += natural_total(means[label * nstate : (label + 1) * nstate])
+        if rng.random() >= given:
+            ends.append(rng.choice(OPEN_ENDS))
+        elif rng.random() < 0.06:
+            ends.append(rng.choice([-0.0, 0.0, special(rng), *LENGTHS]))
+        else:
+            ends.append(time + rng.choice([0.0, 0.5, -0.5, rng.uniform(-3.0, 3.0), float(rng.randint(-3, 8))]))
+    return ends
+
+
+def align_case(rng: Random, small: bool) -> Case:
+    labels = 0 if rng.random() < 0.02 else rng.choice([1, 2, 2, 3, 3, 4, 5])
+    nstate = rng.choice([1, 1, 2, 3]) if small or rng.random() < 0.9 else rng.choice([5, 15, 16])
+    if not small and rng.random() < 0.003:
+        labels, nstate = rng.choice([(256, 16), (4096, 1), (819, 5)])
+    means, varis = duration_pairs(rng, labels * nstate)
+    return Case("align", {
+        "means": means,
+        "varis": varis,
+        "nstate": nstate,
+        "ends": ends_for(rng, means, nstate),
+        "out": room(rng, labels * nstate),
+        "work": room(rng, labels * nstate),
+    })

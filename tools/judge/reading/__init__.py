@@ -1,0 +1,37 @@
+"""A second reading: document 01's text as a plain program, whole numbers and IEEE doubles only.
+
+`answer` gives what 01 says of a case: its refusal number, and the values if there is none.
+`at_exit` adds what 01 says of everything lent.
+"""
+
+from ..formats import Case, Fields
+from . import durations, exits, ieee, jobs, pairs, places, refusals, trajectory
+from .durations import Refused
+
+at_exit = exits.at_exit
+
+ANSWERS = {
+    "float": pairs.float_operation,
+    "pair": pairs.pair_operation,
+    "record": pairs.record_operation,
+    "fit": durations.fit_values,
+    "speed": durations.speed_values,
+    "align": durations.align_values,
+    "mask": trajectory.mask_values,
+    "band": trajectory.band_values,
+    "trajectory": trajectory.trajectory_values,
+    "place": places.place_values,
+    "excerpt": places.excerpt_values,
+    "job": jobs.job_values,
+}
+
+
+def answer(case: Case) -> tuple[int, Fields]:
+    """The refusal number and no values, or 0 and the values."""
+    number = refusals.before_work(case)
+    if number:
+        return number, {}
+    try:
+        return 0, ieee.one_nan(ANSWERS[case.kind](case))
+    except Refused as refused:
+        return refused.number, {}

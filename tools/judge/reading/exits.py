@@ -1,0 +1,82 @@
+"""What each call leaves: the number, the values through pointers, and every lent number."""
+
+from ..formats import KINDS, UNTOUCHED_U32, UNTOUCHED_U64, Case, Fields, marked_f64, marked_u32
+from . import jobs
+from .refusals import WORK_FLOATS, WORK_MARKS
+
+ZEROING_REFUSALS = (7, 8)
+
+UNTOUCHED = {
+    "u32": lambda case, name: UNTOUCHED_U32,
+    "u64": lambda case, name: UNTOUCHED_U64,
+    "u32s": lambda case, name: marked_u32(0, case[name]),
+    "f64s": lambda case, name: marked_f64(0, case[name]),
+}
+
+
+def untouched(case: Case) -> Fields:
+    return {name: UNTOUCHED[form](case, name) for name, form in KINDS[case.kind].exit}
+
+
+def written_u32(new: list[int], room: int) -> list[int]:
+    return new + marked_u32(len(new), room)
+
+
+def written_f64(new: list[float], room: int) -> list[float]:
+    return new + marked_f64(len(new), room)
+
+
+def state_count(case: Case) -> int:
+    if case.kind == "job":
+        return len(jobs.parse(case["bytes"]).means)
+    return len(case["means"])
+
+
+def duration_exit(case: Case, values: Fields) -> Fields:
+    pointers = {name: values[name] for name in ("states", "frames", "written", "changes") if name in values}
+    return {
+        **pointers,
+        "out": written_u32(values["durations"], case["out"]),
+        "work": written_u32([0] * state_count(case), case["work"]),
+    }
+
+
+def mask_exit(case: Case, values: Fields) -> Fields:
+    lists = {name: written_u32(values[name], case[name]) for name in ("voiced", "left", "right")}
+    return {"frames": len(values["voiced"]), **lists}
+
+
+def band_exit(case: Case, values: Fields) -> Fields:
+    return {name: written_f64(values[name], case[name]) for name in ("rows", "right")}
+
+
+def trajectory_exit(case: Case, values: Fields) -> Fields:
+    frames = sum(case["durations"])
+    return {
+        "out": written_f64(values["out"], case["out"]),
+        "work": written_f64([0.0] * (WORK_FLOATS * frames), case["work"]),
+        "marks": written_u32([0] * (WORK_MARKS * frames), case["marks"]),
+    }
+
+
+EXITS = {
+    "fit": duration_exit,
+    "speed": duration_exit,
+    "align": duration_exit,
+    "mask": mask_exit,
+    "band": band_exit,
+    "trajectory": trajectory_exit,
+    "place": lambda case, values: values,
+    "excerpt": lambda case, values: values,
+    "job": duration_exit,
+}
+
+
+def at_exit(case: Case, refusal: int, values: Fields) -> Fields:
+    """All that a C call leaves, from its refusal number or its values."""
+    fields = untouched(case)
+    if refusal == 0:
+        fields |= EXITS[case.kind](case, values)
+    elif refusal in ZEROING_REFUSALS:
+        fields["work"] = written_u32([0] * state_count(case), case["work"])
+    return fields | {"refusal": refusal}

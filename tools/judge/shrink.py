@@ -1,0 +1,140 @@
+"""Cuts a case down to the smallest that still shows a difference."""
+
+from collections.abc import Callable, Iterator
+
+from .formats import KINDS, ROOM, Case
+
+# Which lists hold one number a state, so that a state leaves them all at once.
+STATE_LISTS = ("means", "varis", "weights", "durations", "switches")
+SIMPLE = [0.0, 1.0, 2.0]
+
+
+def without_states(case: Case) -> Iterator[Case]:
+    """One state fewer, or half of them, each list that has one number a state cut alike."""
+    key = "durations" if "durations" in case.fields else "means"
+    if case.kind == "band" or key not in case.fields:
+        return
+    count = len(case[key])
+    nstate = case.fields.get("nstate", 1) or 1
+    for size in {count // 2 // nstate * nstate, nstate}:
+        for first in range(0, count, size) if size else ():
+            yield drop_states(case, count, first, min(first + size, count), nstate)
+
+
+def drop_states(case: Case, count: int, first: int, last: int, nstate: int) -> Case:
+    fields = dict(case.fields)
+    for name in STATE_LISTS:
+        if name in fields and len(fields[name]) == count:
+            fields[name] = fields[name][:first] + fields[name][last:]
+    if "ends" in fields:
+        fields["ends"] = fields["ends"][: first // nstate] + fields["ends"][last // nstate :]
+    if "records" in fields and count:
+        size = len(fields["records"]) // count
+        fields["records"] = fields["records"][: first * size] + fields["records"][last * size :]
+    return Case(case.kind, fields)
+
+
+def without(items: list, first: int, count: int) -> list:
+    return items[:first] + items[first + count :]
+
+
+def without_window(case: Case, window: int) -> dict:
+    """The window's width and coefficients left out."""
+    first = sum(case["widths"][:window])
+    return {
+        "widths": without(case["widths"], window, 1),
+        "coefficients": without(case["coefficients"], first, case["widths"][window]),
+    }
+
+
+def narrower_band(case: Case) -> Iterator[Case]:
+    """Band rows with one window or one frame fewer."""
+    windows = len(case["widths"])
+    frames = len(case["means"]) // windows
+    if len(case["means"]) != windows * frames or len(case["ivars"]) != windows * frames:
+        return
+    for window in range(windows if windows > 1 else 0):
+        lists = {name: without(case[name], window * frames, frames) for name in ("means", "ivars")}
+        yield case.with_fields(**without_window(case, window), **lists)
+    for frame in range(frames):
+        kept = [place for place in range(windows * frames) if place % frames != frame]
+        lists = {name: [case[name][place] for place in kept] for name in ("means", "ivars")}
+        yield case.with_fields(**lists)
+
+
+def narrower_trajectory(case: Case) -> Iterator[Case]:
+    """A trajectory with one window or one component fewer."""
+    states, v, windows = len(case["durations"]), case["v"], len(case["widths"])
+    size = 2 * windows * v + (case["masked"] != 0)
+    if len(case["records"]) != states * size:
+        return
+
+    def records(keeps: Callable[[int, int], bool]) -> list[float]:
+        """Each record with the pairs of the kept windows and components, and its weight."""
+        pairs = [pair for pair in range(windows * v) if keeps(pair // v, pair % v)]
+        kept = pairs + [windows * v + pair for pair in pairs] + list(range(2 * windows * v, size))
+        return [case["records"][state * size + place] for state in range(states) for place in kept]
+
+    for gone in range(windows if windows > 1 else 0):
+        yield case.with_fields(**without_window(case, gone), records=records(lambda window, _: window != gone))
+    for gone in range(v if v > 1 else 0):
+        gv = [number for place, number in enumerate(case["gv"]) if place % v != gone]
+        yield case.with_fields(v=v - 1, gv=gv, records=records(lambda _, component: component != gone))
+
+
+def narrower(case: Case) -> Iterator[Case]:
+    if case.kind == "band" and case["widths"]:
+        yield from narrower_band(case)
+    if case.kind == "trajectory":
+        yield from narrower_trajectory(case)
+
+
+def shorter_lists(case: Case) -> Iterator[Case]:
+    for name, form in KINDS[case.kind].inputs:
+        if form in ("u32s", "f64s", "u8s"):
+            old = case[name]
+            for cut in {len(old) // 2, len(old) - 1} if len(old) else ():
+                yield case.with_fields(**{name: old[:cut]})
+
+
+def smaller_numbers(case: Case) -> Iterator[Case]:
+    for name, form in KINDS[case.kind].inputs:
+        value = case[name]
+        if form in ("u32", ROOM):
+            yield from (case.with_fields(**{name: less}) for less in smaller_wholes(value))
+        elif form == "f64":
+            yield from (case.with_fields(**{name: simple}) for simple in simpler(value))
+        elif form == "f64s" and len(value) <= 40:
+            for place, number in enumerate(value):
+                for simple in simpler(number):
+                    yield case.with_fields(**{name: [*value[:place], simple, *value[place + 1 :]]})
+        elif form == "u32s":
+            for place, number in enumerate(value[:40]):
+                for less in smaller_wholes(number):
+                    yield case.with_fields(**{name: [*value[:place], less, *value[place + 1 :]]})
+
+
+def smaller_wholes(number: int) -> list[int]:
+    """0, then less and less below the number, so that a search by halves finds the least."""
+    return [number - (number >> shift) for shift in range(number.bit_length())]
+
+
+def simpler(number: float) -> list[float]:
+    """Simpler floats, in an order that can't go round in circles."""
+    if number in SIMPLE:
+        return [simple for simple in SIMPLE if simple < number]
+    rounded = [float(round(number))] if abs(number) < 1e9 and number != round(number) else []
+    return SIMPLE + rounded
+
+
+def smallest(case: Case, shows: Callable[[list[Case]], list[bool]]) -> Case:
+    """`shows` says of each candidate whether it still differs."""
+    while True:
+        for make in (without_states, narrower, shorter_lists, smaller_numbers):
+            candidates = [smaller for smaller in make(case) if smaller != case]
+            better = next((one for one, does in zip(candidates, shows(candidates)) if does), None)
+            if better is not None:
+                case = better
+                break
+        else:
+            return case

@@ -1,0 +1,1 @@
+//! Stands in for `engine`, `label`, `speech` and `vocoder`, of which nothing is judged.

@@ -1,0 +1,3 @@
+//! The derive alone.
+
+pub use derives::Error;
