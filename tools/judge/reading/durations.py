@@ -1,5 +1,7 @@
 """01, 'Durations': estimate, fit, speed, alignment."""
 
+from dataclasses import dataclass
+
 from ..formats import Case, Fields
 from . import ieee
 from .ieee import MAX_FRAMES
@@ -28,10 +30,19 @@ def estimate(means: list[float], varis: list[float], rho: float) -> list[int]:
     return durations
 
 
-def walk(durations: list[int], means: list[float], varis: list[float], rho: float, steps: int) -> None:
-    """Adds `steps` frames, or takes as many where negative, each by the step rule."""
+@dataclass
+class Fit:
+    durations: list[int]
+    changes: int
+    # Whether the durations are those of the rule; where a walk is too long for Python only their total is.
+    walked: bool = True
+
+
+def walk(durations: list[int], means: list[float], varis: list[float], rho: float, steps: int) -> bool:
+    """Adds `steps` frames, or takes as many where negative, each by the step rule, if that isn't too long."""
     if abs(steps) * len(durations) > PATIENCE:
-        raise TooLong
+        durations[0] += steps
+        return False
     unit = 1 if steps > 0 else -1
 
     def cost(state: int) -> int:
@@ -45,59 +56,61 @@ def walk(durations: list[int], means: list[float], varis: list[float], rho: floa
         state = costs.index(min(costs))  # equal costs take the first state
         durations[state] += unit
         costs[state] = cost(state)
+    return True
 
 
-def fit(means: list[float], varis: list[float], length: float) -> tuple[list[int], int]:
-    """The durations and the unit changes."""
+def fit(means: list[float], varis: list[float], length: float) -> Fit:
     if not means:
-        return [], 0
+        return Fit([], 0)
     target = ieee.frames(length)
     if target > MAX_FRAMES:
         raise Refused(7)
     if target <= len(means):
-        return [1] * len(means), 0
+        return Fit([1] * len(means), 0)
     rho = ieee.divide(target - ieee.total(means), ieee.total(varis))
     durations = estimate(means, varis, rho)
     steps = target - sum(durations)
-    walk(durations, means, varis, rho, steps)
-    return durations, abs(steps)
+    walked = walk(durations, means, varis, rho, steps)
+    return Fit(durations, abs(steps), walked)
 
 
-def speed(means: list[float], varis: list[float], factor: float) -> tuple[list[int], int]:
+def speed(means: list[float], varis: list[float], factor: float) -> Fit:
     durations = estimate(means, varis, 0.0)
     if factor == 1.0:
-        return durations, 0
+        return Fit(durations, 0)
     return fit(means, varis, ieee.divide(float(sum(durations)), factor))
 
 
-def align(
-    means: list[float], varis: list[float], nstate: int, ends: list[float]
-) -> tuple[list[int], int]:
+def align(means: list[float], varis: list[float], nstate: int, ends: list[float]) -> Fit:
     """Durations up to the last given end, and the groups' changes summed."""
-    durations: list[int] = []
-    changes = 0
+    whole = Fit([], 0)
     for label, end in enumerate(ends):
         if not end >= 0:
             continue  # below zero and NaN are open, minus zero is given
-        first, last = len(durations), (label + 1) * nstate
-        group, changed = fit(means[first:last], varis[first:last], end - sum(durations))
-        durations += group
-        changes += changed
-        if sum(durations) > MAX_FRAMES:
+        first, last = len(whole.durations), (label + 1) * nstate
+        group = fit(means[first:last], varis[first:last], end - sum(whole.durations))
+        whole.durations += group.durations
+        whole.changes += group.changes
+        whole.walked = whole.walked and group.walked
+        if sum(whole.durations) > MAX_FRAMES:
             raise Refused(8)
-    return durations, changes
+    return whole
+
+
+def values(fit: Fit) -> Fields:
+    if not fit.walked:
+        raise TooLong
+    return {"changes": fit.changes, "durations": fit.durations}
 
 
 def fit_values(case: Case) -> Fields:
-    durations, changes = fit(case["means"], case["varis"], case["length"])
-    return {"changes": changes, "durations": durations}
+    return values(fit(case["means"], case["varis"], case["length"]))
 
 
 def speed_values(case: Case) -> Fields:
-    durations, changes = speed(case["means"], case["varis"], case["speed"])
-    return {"changes": changes, "durations": durations}
+    return values(speed(case["means"], case["varis"], case["speed"]))
 
 
 def align_values(case: Case) -> Fields:
-    durations, changes = align(case["means"], case["varis"], case["nstate"], case["ends"])
-    return {"written": len(durations), "changes": changes, "durations": durations}
+    aligned = align(case["means"], case["varis"], case["nstate"], case["ends"])
+    return {"written": len(aligned.durations)} | values(aligned)

@@ -33,10 +33,5 @@ def parse(data: bytes) -> Job | None:
 
 def job_values(case: Case) -> Fields:
     job = parse(case["bytes"])
-    states, changes = durations.speed(job.means, job.varis, job.speed)
-    return {
-        "states": len(states),
-        "frames": sum(states),
-        "changes": changes,
-        "durations": states,
-    }
+    values = durations.values(durations.speed(job.means, job.varis, job.speed))
+    return {"states": len(job.means), "frames": sum(values["durations"])} | values
