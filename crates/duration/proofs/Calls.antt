@@ -1,0 +1,133 @@
+-- The calls as wholes: refused before any work, refused after it, accepted; and two outcomes of one call are equal. Assumes nothing.
+use mathlib.Core.Path.{_≡_, refl, sym, ap, _∙_}
+use mathlib.Core.Bool.{true}
+use mathlib.Core.List.{List, [], _∷_, _++_}
+use Prim.Native.Nat.{ℕ, zero, suc, _≤_, min}
+use native.Mathlib.Omega.{arith}
+use lib.ListN.{length, take, drop, replicate, length-take, length-append}
+use lib.Ieee.{Float}
+use lib.Seq.{sets, take-append-le, drop-at, take-length}
+use borrow.Author.Tests.{ne-eqb}
+use Rattle.lists.proofs.Stores.{filled, copied}
+use Rattle.duration.specs.declared.Fitted.{Fitted}
+use Rattle.duration.specs.declared.Fitted.the-variants.{Done, Refused}
+use Rattle.duration.specs.declared.Aligned.{Aligned}
+use Rattle.duration.specs.declared.Aligned.the-variants.{Written, Denied}
+use Rattle.lists.specs.Refusals.{orElse}
+use Rattle.duration.specs.Inner.{outputAfter, HandsOut}
+use Rattle.duration.specs.Promise.{Answer, fitted, aligned, answerOf, outputOf, clears, workOf, Says, FitSays, SpeedSays, AlignSays}
+
+abbrev pub refusing : ℕ → Answer
+refusing k = record { number = k; values = [] }
+
+-- an answer without a value is a refusal, and one with the number 0 is none
+pub refused-is : (m k v : ℕ) (vs : List ℕ) → refusing m ≡ answerOf k (v ∷ vs) → (k ≡ m) × (k ≡ 0 → ⊥)
+unfolding answerOf
+refused-is m zero v vs e = absurd (let q : _≡_ {A = List ℕ} [] (v ∷ vs) = ap (λ (a : Answer). a .values) e in let z : _≡_ {A = ℕ} 0 1 = cc in omega arith)
+refused-is m (suc k) v vs e = (sym (ap (λ (a : Answer). a .number) e), λ q. omega arith)
+
+pub accepted-is : (a : Answer) (k : ℕ) (vs : List ℕ) → a ≡ answerOf k vs → a .number ≡ 0 → (k ≡ 0) × (a .values ≡ vs)
+unfolding answerOf
+accepted-is a zero vs e z = (refl, ap (λ (b : Answer). b .values) e)
+accepted-is a (suc k) vs e z = absurd (let n : a .number ≡ suc k = ap (λ (b : Answer). b .number) e in omega arith)
+
+pub handed : (r : Fitted) (c : ℕ) (new out out′ : List ℕ) → r ≡ Done c → out′ ≡ new → out′ ≡ outputAfter r new out
+handed r c new out out′ e f = rw e f
+
+module _ (n : ℕ) (values new out work : List ℕ) where
+  pub says-early : (b k : ℕ) → (b ≡ 0 → ⊥) → b ≤ 6 → Says (orElse b k) values new n out work (refusing b) out work
+  unfolding answerOf outputOf workOf
+  says-early zero k z h = absurd (z refl)
+  says-early (suc b) k z h =
+      record { answer = refl; output = refl; workspace = rw (ne-eqb (suc b) 0 z, ne-eqb (suc b) 7 (λ q. omega arith), ne-eqb (suc b) 8 (λ q. omega arith)) }
+
+-- after the work: w is its front, of n numbers
+module _ (n k : ℕ) (new out work w : List ℕ) (long : length w ≡ n) (late : clears k ≡ true) where
+  whole-long : n ≤ length (w ++ drop n work)
+  whole-long = simp length-append (omega arith)
+
+  cleared : (work′ : List ℕ) → work′ ≡ sets (w ++ drop n work) 0 (replicate n 0) → work′ ≡ workOf k n work
+  unfolding workOf
+  cleared work′ e = rw (late, ← drop-at w (drop n work) n long) (e ∙ filled n 0 (w ++ drop n work) whole-long)
+
+  pub says-late : (v : ℕ) (vs : List ℕ) (m : ℕ) (a : Answer) (work′ : List ℕ) → a ≡ refusing m → a ≡ answerOf k (v ∷ vs) → work′ ≡ sets (w ++ drop n work) 0 (replicate n 0) → Says (orElse 0 k) (v ∷ vs) new n out work a out work′
+  says-late v vs m a work′ r e f = record { answer = e; output = untouched k (refused-is m k v vs (sym r ∙ e) .1); workspace = cleared work′ f }
+    where
+      untouched : (k : ℕ) → (k ≡ 0 → ⊥) → out ≡ outputOf k new out
+      untouched zero z = absurd (z refl)
+      untouched (suc k) z = unfold outputOf in refl
+
+  -- m numbers of it are the durations
+  says-done : (values : List ℕ) (m : ℕ) (a : Answer) (out′ work′ : List ℕ) → a ≡ answerOf k values → a .number ≡ 0 → n ≤ length out → m ≡ length new → take m w ≡ new
+      → out′ ≡ sets out 0 (take m (w ++ drop n work)) → work′ ≡ sets (w ++ drop n work) 0 (replicate n 0) → Says (orElse 0 k) values new n out work a out′ work′
+  unfolding outputOf
+  says-done values m a out′ work′ e z room q t o f =
+      let l : length new ≡ min m (length w) = ap length (sym t) ∙ length-take m w in
+      let h : m ≤ length w = omega arith in
+      record {
+        answer = e;
+        output = rw (accepted-is a k values e z .0, ← q) (o ∙ copied m (w ++ drop n work) out (omega (arith, whole-long)) (omega arith) ∙ ap (λ (x : List ℕ). x ++ drop m out) (take-append-le m w (drop n work) h ∙ t));
+        workspace = cleared work′ f;
+      }
+
+  -- all n of them are
+  says-whole : (values : List ℕ) (a : Answer) (out′ work′ : List ℕ) → a ≡ answerOf k values → a .number ≡ 0 → n ≤ length out → (k ≡ 0 → w ≡ new)
+      → out′ ≡ sets out 0 (take n (w ++ drop n work)) → work′ ≡ sets (w ++ drop n work) 0 (replicate n 0) → Says (orElse 0 k) values new n out work a out′ work′
+  says-whole values a out′ work′ e z room t o f =
+      let q : w ≡ new = t (accepted-is a k values e z .0) in
+      says-done values n a out′ work′ e z room (sym long ∙ ap length q) (ap (λ (m : ℕ). take m w) (sym long) ∙ take-length w ∙ q) o f
+
+  -- a fit's outcome, handed out
+  pub says-handed : (v : ℕ) (r s : Fitted) (out′ work′ : List ℕ) → fitted r ≡ answerOf k (v ∷ []) → (k ≡ 0 → w ≡ new) → n ≤ length out → HandsOut r n out (w ++ drop n work) s out′ work′ → Says (orElse 0 k) (v ∷ []) new n out work (fitted s) out′ work′
+  says-handed v (Done c) s out′ work′ e t room h = says-whole (v ∷ []) (fitted s) out′ work′ (ap fitted (h .same) ∙ e) (ap (λ (x : Fitted). fitted x .number) (h .same)) room t (h .output) (h .workspace)
+  says-handed v (Refused m) s out′ work′ e t room h = rw (h .output) (says-late v [] m (fitted s) work′ (ap fitted (h .same)) (ap fitted (h .same) ∙ e) (h .workspace))
+
+  -- the first m of them are
+  pub says-front : (m c u : ℕ) (a : Answer) (out′ work′ : List ℕ) → a ≡ record { number = 0; values = m ∷ c ∷ [] } → a ≡ answerOf k (length new ∷ u ∷ []) → n ≤ length out → (k ≡ 0 → take (length new) w ≡ new)
+      → out′ ≡ sets out 0 (take m (w ++ drop n work)) → work′ ≡ sets (w ++ drop n work) 0 (replicate n 0) → Says (orElse 0 k) (length new ∷ u ∷ []) new n out work a out′ work′
+  says-front m c u a out′ work′ r e room t o f =
+      let z : a .number ≡ 0 = ap (λ (x : Answer). x .number) r in
+      let y = accepted-is a k (length new ∷ u ∷ []) e z in
+      let v : m ∷ c ∷ [] ≡ length new ∷ u ∷ [] = sym (ap (λ (x : Answer). x .values) r) ∙ y .1 in
+      let q : m ≡ length new = cc in
+      says-done (length new ∷ u ∷ []) m a out′ work′ e z room q (ap (λ (x : ℕ). take x w) q ∙ t (y .0)) o f
+
+-- ---- two outcomes of one call are equal
+
+abbrev Same : Answer → Answer → Type 0
+Same a b = (a .number ≡ b .number) × (a .values ≡ b .values)
+
+same : {a b : Answer} → a ≡ b → Same a b
+same e = (ap (λ (x : Answer). x .number) e, ap (λ (x : Answer). x .values) e)
+
+fitted-one : (r s : Fitted) → Same (fitted r) (fitted s) → r ≡ s
+fitted-one (Done c) (Done d) e = let q = e .1 in cc
+fitted-one (Done c) (Refused k) e = absurd (let q = e .1 in let z : _≡_ {A = ℕ} 0 1 = cc in omega arith)
+fitted-one (Refused k) (Done d) e = absurd (let q = e .1 in let z : _≡_ {A = ℕ} 0 1 = cc in omega arith)
+fitted-one (Refused k) (Refused l) e = ap Refused (e .0)
+
+aligned-one : (r s : Aligned) → Same (aligned r) (aligned s) → r ≡ s
+aligned-one (Written v c) (Written w d) e = let q = e .1 in cc
+aligned-one (Written v c) (Denied k) e = absurd (let q = e .1 in let z : _≡_ {A = ℕ} 0 1 = cc in omega arith)
+aligned-one (Denied k) (Written w d) e = absurd (let q = e .1 in let z : _≡_ {A = ℕ} 0 1 = cc in omega arith)
+aligned-one (Denied k) (Denied l) e = ap Denied (e .0)
+
+module _ (k : ℕ) (values new : List ℕ) (n : ℕ) (out work o₁ o₂ w₁ w₂ : List ℕ) where
+  says-one : (a b : Answer) → Says k values new n out work a o₁ w₁ → Says k values new n out work b o₂ w₂ → (a ≡ b) × (o₁ ≡ o₂) × (w₁ ≡ w₂)
+  says-one a b f g = (f .answer ∙ sym (g .answer), f .output ∙ sym (g .output), f .workspace ∙ sym (g .workspace))
+
+  fitted-says-one : (r s : Fitted) → Says k values new n out work (fitted r) o₁ w₁ → Says k values new n out work (fitted s) o₂ w₂ → (r ≡ s) × (o₁ ≡ o₂) × (w₁ ≡ w₂)
+  fitted-says-one r s f g = let h = says-one (fitted r) (fitted s) f g in (fitted-one r s (same (h .0)), h .1, h .2)
+
+  aligned-says-one : (r s : Aligned) → Says k values new n out work (aligned r) o₁ w₁ → Says k values new n out work (aligned s) o₂ w₂ → (r ≡ s) × (o₁ ≡ o₂) × (w₁ ≡ w₂)
+  aligned-says-one r s f g = let h = says-one (aligned r) (aligned s) f g in (aligned-one r s (same (h .0)), h .1, h .2)
+
+module _ (ms vs : List Float) (x : Float) (out work o₁ o₂ w₁ w₂ : List ℕ) (r s : Fitted) where
+  pub fit-says-one : FitSays ms vs x out work r o₁ w₁ → FitSays ms vs x out work s o₂ w₂ → (r ≡ s) × (o₁ ≡ o₂) × (w₁ ≡ w₂)
+  fit-says-one f g = fitted-says-one _ _ _ _ out work o₁ o₂ w₁ w₂ r s f g
+
+  pub speed-says-one : SpeedSays ms vs x out work r o₁ w₁ → SpeedSays ms vs x out work s o₂ w₂ → (r ≡ s) × (o₁ ≡ o₂) × (w₁ ≡ w₂)
+  speed-says-one f g = fitted-says-one _ _ _ _ out work o₁ o₂ w₁ w₂ r s f g
+
+pub align-says-one : (ms vs : List Float) (nstate : ℕ) (ends : List Float) (out work o₁ o₂ w₁ w₂ : List ℕ) (r s : Aligned) → AlignSays ms vs nstate ends out work r o₁ w₁ → AlignSays ms vs nstate ends out work s o₂ w₂ → (r ≡ s) × (o₁ ≡ o₂) × (w₁ ≡ w₂)
+align-says-one ms vs nstate ends out work o₁ o₂ w₁ w₂ r s f g = aligned-says-one _ _ _ _ out work o₁ o₂ w₁ w₂ r s f g

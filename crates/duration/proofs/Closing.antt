@@ -1,0 +1,122 @@
+-- Closing a group of states in its place. Assumes nothing.
+use mathlib.Core.Path.{_≡_, refl, sym, ap, _∙_}
+use mathlib.Core.Bool.{Bool, true, false, cond}
+use mathlib.Core.List.{List, [], _∷_, _++_}
+use Prim.Native.Nat.{ℕ, zero, suc, _+_, _^_, _≤_, _<_, zero-le}
+use native.Mathlib.Omega.{arith}
+use lib.Dec.{ltb, eqb}
+use lib.ListN.{length, take, drop}
+use lib.Seq.{take-at, drop-at, length-take-le}
+use lib.Ieee.{Float}
+use borrow.Author.Tests.{lt-ltb, le-ltb, eqb-true, eqb-false}
+use Rattle.lists.specs.Totals.{total}
+use Rattle.lists.proofs.Sums.{total-whole}
+use Rattle.duration.specs.declared.Fitted.{Fitted}
+use Rattle.duration.specs.declared.Fitted.the-variants.{Done, Refused}
+use Rattle.duration.specs.declared.align.Closed.the-variants.{Grown, Barred}
+use Rattle.duration.specs.Steps.{Outcome, unchanged, step, settle}
+use Rattle.duration.specs.Fit.{mostFrames, plain, fitTo, refusalTo}
+use Rattle.lists.specs.Refusals.{orElse}
+use Rattle.duration.specs.Align.{Group, within, targetOf, fitOf, refusalOf, refusalAlong}
+use Rattle.duration.specs.Promise.{fitted, answerOf, clears}
+use Rattle.duration.specs.Inner.{InPlace, Closes}
+use Rattle.duration.proofs.Calls.{refusing, refused-is, accepted-is}
+use Rattle.duration.proofs.Stepping.{settle-there, settle-turn}
+use Rattle.duration.proofs.Fits.{fit-clears}
+
+pub or-first : (k l : ℕ) → (k ≡ 0 → ⊥) → orElse k l ≡ k
+or-first zero l z = absurd (z refl)
+or-first (suc k) l z = refl
+
+pub or-none : (k l : ℕ) → orElse k l ≡ 0 → (k ≡ 0) × (l ≡ 0)
+or-none zero l e = (refl, e)
+or-none (suc k) l e = absurd (omega arith)
+
+pub answer-refused : (k : ℕ) (vs : List ℕ) → (k ≡ 0 → ⊥) → answerOf k vs ≡ refusing k
+unfolding answerOf
+answer-refused zero vs z = absurd (z refl)
+answer-refused (suc k) vs z = refl
+
+-- ---- closing a group, whose fit left w in its place
+
+module _ (ms vs : List Float) (g : Group) (frames : ℕ) (work w work′ : List ℕ) where
+  abbrev own : ℕ
+  own = refusalTo (within g ms) (within g vs) (targetOf g frames)
+
+  module _ (r : Fitted) (f : InPlace own (fitOf ms vs g frames) r w) where
+    pub close-barred : (m k : ℕ) → r ≡ Refused m → k ≡ fitted r .number → Closes ms vs g frames work (Barred k) work′
+    unfolding refusalOf
+    close-barred m k e q =
+        let s = refused-is m own _ [] (ap fitted (sym e) ∙ f .answer) in
+        let o : refusalOf ms vs g frames ≡ own = or-first own _ (s .1) in
+        let z : refusalOf ms vs g frames ≡ 0 → ⊥ = λ q. s .1 (sym o ∙ q) in
+        let n : k ≡ refusalOf ms vs g frames = q ∙ ap (λ (x : Fitted). fitted x .number) e ∙ sym (o ∙ s .0) in
+        record { answer = ap refusing n ∙ sym (answer-refused (refusalOf ms vs g frames) _ z); output = λ q. absurd (z q) }
+
+    module _ (c s : ℕ) (e : r ≡ Done c) (sum : s ≡ total w) where
+      done : (own ≡ 0) × (fitted (Done c) .values ≡ fitOf ms vs g frames .changes ∷ [])
+      done = accepted-is (fitted (Done c)) own _ (ap fitted (sym e) ∙ f .answer) refl
+
+      sum-is : s ≡ total (fitOf ms vs g frames .durations)
+      sum-is = sum ∙ ap total (f .output (done .0))
+
+      pub close-long : mostFrames < frames + s → Closes ms vs g frames work (Barred 8) work′
+      unfolding refusalOf answerOf
+      close-long h =
+          let l : mostFrames < frames + total (fitOf ms vs g frames .durations) = rw (← sum-is) h in
+          let o : refusalOf ms vs g frames ≡ 8 = rw (done .0, lt-ltb mostFrames (frames + total (fitOf ms vs g frames .durations)) l) in
+          record { answer = rw o; output = λ q. absurd (omega arith) }
+
+      pub close-grown : frames + s ≤ mostFrames → work′ ≡ take (g .from) work ++ (w ++ drop (g .to) work) → Closes ms vs g frames work (Grown c s) work′
+      unfolding refusalOf answerOf
+      close-grown h p =
+          let l : frames + total (fitOf ms vs g frames .durations) ≤ mostFrames = rw (← sum-is) h in
+          let o : refusalOf ms vs g frames ≡ 0 = rw (done .0, le-ltb mostFrames (frames + total (fitOf ms vs g frames .durations)) l) in
+          let v = done .1 in
+          let n : c ≡ fitOf ms vs g frames .changes = cc in
+          record { answer = rw (o, n, sum-is); output = λ q. rw (← f .output (done .0)) p }
+
+-- the part of the work space that a group has, after it is put back
+pub part-back : (work w : List ℕ) (a n : ℕ) (rest : List ℕ) → a ≤ length work → length w ≡ n → take n (drop a (take a work ++ (w ++ rest))) ≡ w
+part-back work w a n rest h e = ap (take n) (drop-at (take a work) (w ++ rest) a (length-take-le a work h)) ∙ take-at w rest n e
+
+pub counted : (r : ℕ) (l w : List ℕ) → r ≡ total (take (2 ^ 32) l) → l ≡ w → length w ≤ 4294967296 → r ≡ total w
+counted r l w e f h = e ∙ rw f (total-whole w h)
+
+-- ---- how much a group adds
+
+settle-few : (k : ℕ) (rho : Float) (ms vs : List Float) (t : ℕ) (ds : List ℕ) → settle k rho ms vs t ds .changes ≤ k
+settle-few zero rho ms vs t ds = unfold settle in zero-le
+settle-few (suc k) rho ms vs t ds =
+    (elim (eqb (total ds) t) as (λ s. eqb (total ds) t ≡ s → settle (suc k) rho ms vs t ds .changes ≤ suc k) [
+      | true ↦ λ e. rw (settle-there rho ms vs t (suc k) ds (eqb-true (total ds) t e)) zero-le
+      | false ↦ λ e. rw (settle-turn rho ms vs t k ds (ltb (total ds) t) (eqb-false (total ds) t e) refl) (omega (arith, settle-few k rho ms vs t (step (ltb (total ds) t) rho ms vs ds)))
+    ])
+    refl
+
+cond-few : (b : Bool) (p q : Outcome) (m : ℕ) → p .changes ≤ m → q .changes ≤ m → cond b p q .changes ≤ m
+cond-few true p q m h k = h
+cond-few false p q m h k = k
+
+pub fit-few : (ms vs : List Float) (t : ℕ) → fitTo ms vs t .changes ≤ mostFrames
+unfolding fitTo
+fit-few ms vs t = cond-few (plain (length ms) t) (unchanged _) _ mostFrames zero-le (settle-few mostFrames _ ms vs t _)
+
+-- ---- a group's refusals, and a run's, clear the work space
+
+late-or : (k : ℕ) (b : Bool) → clears k ≡ true → clears (orElse k (cond b 8 0)) ≡ true
+late-or zero true e = refl
+late-or zero false e = refl
+late-or (suc k) b e = e
+
+late-then : (k l : ℕ) → clears k ≡ true → clears l ≡ true → clears (orElse k l) ≡ true
+late-then zero l p q = q
+late-then (suc k) l p q = p
+
+pub along-clears : (ms vs : List Float) (gs : List Group) (frames : ℕ) → clears (refusalAlong ms vs gs frames) ≡ true
+unfolding refusalAlong refusalOf
+along-clears ms vs [] frames = refl
+along-clears ms vs (g ∷ gs) frames =
+    late-then (refusalOf ms vs g frames) (refusalAlong ms vs gs (frames + total (fitOf ms vs g frames .durations)))
+    (late-or (refusalTo (within g ms) (within g vs) (targetOf g frames)) (ltb mostFrames (frames + total (fitOf ms vs g frames .durations))) (fit-clears (within g ms) (within g vs) (targetOf g frames)))
+    (along-clears ms vs gs (frames + total (fitOf ms vs g frames .durations)))

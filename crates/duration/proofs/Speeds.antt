@@ -1,0 +1,166 @@
+-- What a speed does at its limits: at +0 it is refused; at -0, below 0, at NaN and at the infinities every state gets one frame. Assumes nothing.
+use mathlib.Core.Path.{_≡_, refl, sym, ap, _∙_}
+use mathlib.Core.Bool.{Bool, true, false, cond, _&&_, _||_}
+use mathlib.Core.List.{List}
+use Prim.Native.Nat.{ℕ, zero, suc, _+_, _-_, _*_, _/_, _%_, _^_, _≤_, _<_, suc-le-suc, compare}
+use native.Mathlib.Nat.{mul-one, mul-pos, le-trans, mul-lt-mul-of-pos-right}
+use lib.Pow.{pow-add, pow-pos}
+use native.Mathlib.Bridge.{le-by-compare, IsLe}
+use native.Mathlib.Omega.{arith}
+use lib.Dec.{ltb, eqb}
+use lib.IntN.{ℤ, pos, negℤ}
+use lib.ListN.{length, replicate}
+use lib.Ieee.{Float, nan, inf, fin, binary64, prec, low, emax, up, down, size, nearest, odd, units, round, ofInt, ofBits, div, eq, level}
+use lib.Ieee.Exact.{HasValue, round-exact}
+use lib.Ieee.Fits.{down-pos}
+use borrow.Author.Tests.{le-ltb, le-leb, ne-eqb, eqb-true}
+use Rattle.lists.specs.Totals.{total}
+use Rattle.floats.specs.Rounding.{whole, nearestHalf, toIntegral, framesOf, roundedOf}
+use Rattle.model.specs.Pair.{nought, one}
+use Rattle.duration.specs.Estimate.{number, shortest}
+use Rattle.duration.specs.Steps.{unchanged}
+use Rattle.duration.specs.Fit.{mostFrames, fitTo, refusalTo}
+use Rattle.duration.specs.Speed.{naturals, targetAt, fitAt, refusalAt}
+use Rattle.duration.proofs.Estimates.{length-estimates}
+use Rattle.duration.proofs.Settling.{Positive}
+use Rattle.duration.proofs.Settling.Positive.{none, more}
+use Rattle.duration.proofs.Demand3.{estimates-positive}
+
+-- ---- below zero all counts of frames are 1
+
+frames-below : (n : ℕ) → framesOf (whole (negℤ (pos n))) ≡ 1
+unfolding framesOf
+frames-below zero = refl
+frames-below (suc n) = refl
+
+rounded-below : (m : ℕ) (e : ℤ) → roundedOf (fin true m e) ≡ 1
+unfolding roundedOf toIntegral
+rounded-below m e = frames-below (nearestHalf (m * up e) (down e))
+
+odd-below : (d q k l : ℕ) → roundedOf (odd d true q k l) ≡ 1
+unfolding odd
+odd-below d zero k l = rounded-below zero (pos zero)
+odd-below d (suc q) k l = rounded-below _ _
+
+endless-below : roundedOf (inf true) ≡ 1
+unfolding roundedOf toIntegral framesOf
+endless-below = refl
+
+cond-below : (b : Bool) (x y : Float) → roundedOf x ≡ 1 → roundedOf y ≡ 1 → roundedOf (cond b x y) ≡ 1
+cond-below true x y e f = e
+cond-below false x y e f = f
+
+units-below : (q k : ℕ) → roundedOf (units binary64 true q k) ≡ 1
+unfolding units
+units-below q k = cond-below (ltb (q * 2 ^ k) (2 ^ (low binary64 + suc (emax binary64)))) (odd (suc (prec binary64)) true q k (low binary64)) (inf true) (odd-below (suc (prec binary64)) q k (low binary64)) endless-below
+
+round-below : (a b : ℕ) → roundedOf (round binary64 true a b) ≡ 1
+unfolding round
+round-below a b =
+    let n : ℕ = a * 2 ^ low binary64 in
+    let k : ℕ = size (n / b) - prec binary64 in
+    let u : ℕ = b * 2 ^ k in
+    units-below (nearest (n / u) (compare (n % u * 2) u)) k
+
+-- ---- a count of frames as a float
+
+fine : (n a b : ℕ) → n < 2 ^ a → n * 2 ^ b < 2 ^ (b + a)
+fine n a b h = rw (let e : b + a ≡ a + b = omega arith in e, pow-add 2 a b) (mul-lt-mul-of-pos-right h (pow-pos b))
+
+frames-value : (n : ℕ) → n ≤ mostFrames → HasValue (number n) false n 1
+unfolding ofInt IsLe
+frames-value n h = round-exact binary64 false n 1 n 1074 (omega arith) (omega arith) (fine n 1024 1074 (le-trans (suc-le-suc h) (le-by-compare 65537 (2 ^ 1024) tt))) (sym (mul-one (n * 2 ^ 1074)))
+
+-- ---- their quotients
+
+module _ (n : ℕ) where
+  by-zero : (x : Float) (e : ℤ) → HasValue x false n 1 → 0 < n → roundedOf (div binary64 x (fin false 0 e)) ≡ 65537
+  unfolding div roundedOf toIntegral framesOf
+  by-zero nan e v z = absurd v
+  by-zero (inf s) e v z = absurd v
+  by-zero (fin true m k) e v z = absurd (let q = v .0 in let r : _≡_ {A = ℕ} 0 1 = cc in omega arith)
+  by-zero (fin false m k) e v z =
+      let p : 0 < n * down k = mul-pos z (down-pos k) in
+      rw (ne-eqb m 0 (λ q. (let r : 0 * up k * 1 ≡ n * down k = ap (λ (i : ℕ). i * up k * 1) (sym q) ∙ v .1 in omega arith)))
+
+  by-below : (x : Float) (m : ℕ) (e : ℤ) → HasValue x false n 1 → roundedOf (div binary64 x (fin true m e)) ≡ 1
+  unfolding div
+  by-below nan m e v = absurd v
+  by-below (inf s) m e v = absurd v
+  by-below (fin true a k) m e v = absurd (let q = v .0 in let r : _≡_ {A = ℕ} 0 1 = cc in omega arith)
+  by-below (fin false a k) m e v =
+      cond-below (eqb m 0) (cond (eqb a 0) nan (inf true)) (round binary64 true (a * up k * down e) (m * up e * down k)) (cond-below (eqb a 0) nan (inf true) (unfold roundedOf toIntegral framesOf in refl) endless-below)
+      (round-below (a * up k * down e) (m * up e * down k))
+
+  by-infinite : (x : Float) (s : Bool) → HasValue x false n 1 → roundedOf (div binary64 x (inf s)) ≡ 1
+  unfolding div roundedOf toIntegral framesOf nearestHalf
+  by-infinite nan s v = absurd v
+  by-infinite (inf t) s v = absurd v
+  by-infinite (fin true a k) s v = absurd (let q = v .0 in let r : _≡_ {A = ℕ} 0 1 = cc in omega arith)
+  by-infinite (fin false a k) true v = refl
+  by-infinite (fin false a k) false v = refl
+
+by-nan : (x : Float) → roundedOf (div binary64 x nan) ≡ 1
+unfolding div roundedOf toIntegral framesOf
+by-nan nan = refl
+by-nan (inf s) = refl
+by-nan (fin s m e) = refl
+
+-- ---- none of these speeds is 1
+
+level-apart : (a b : ℕ) → 0 < b → level true a false b ≡ false
+level-apart a b h =
+    (elim (eqb a b) as (λ s. eqb a b ≡ s → s && (false || eqb a 0) ≡ false) [
+      | true ↦ λ e. ne-eqb a 0 (λ q. omega (arith, eqb-true a b e))
+      | false ↦ λ e. refl
+    ])
+    refl
+
+not-one-below : (m : ℕ) (e : ℤ) → eq (fin true m e) one ≡ false
+unfolding eq ofBits
+not-one-below m e = level-apart _ _ (let h : 0 < 1 * 1 * down e = omega (arith, down-pos e) in h)
+
+not-one-zero : (e : ℤ) → eq (fin false 0 e) one ≡ false
+unfolding eq ofBits
+not-one-zero e = rw (ne-eqb (0 * up e * 1) (1 * 1 * down e) (λ q. omega (arith, down-pos e)))
+
+-- ---- the theorems
+
+total-some : {xs : List ℕ} → Positive xs → 0 < length xs → 0 < total xs
+unfolding total
+total-some none h = h
+total-some (more p ps) h = omega arith
+
+module _ (ms vs : List Float) (some : 0 < length ms) (agree : length vs ≡ length ms) (small : total (naturals ms vs) ≤ mostFrames) where
+  value : HasValue (number (total (naturals ms vs))) false (total (naturals ms vs)) 1
+  value = frames-value (total (naturals ms vs)) small
+
+  -- every state gets one frame, with no change
+  pub OneEach : Float → Type 0
+  OneEach speed = (refusalAt ms vs speed ≡ 0) × (fitAt ms vs speed ≡ unchanged (replicate (length ms) shortest))
+
+  one-each : (speed : Float) → eq speed one ≡ false → targetAt ms vs speed ≡ 1 → OneEach speed
+  unfolding OneEach refusalAt fitAt refusalTo fitTo
+  one-each speed e t =
+      let z : eqb (length ms) 0 ≡ false = ne-eqb (length ms) 0 (λ q. omega arith) in
+      (rw (le-ltb mostFrames (total (naturals ms vs)) small, e, t, z, le-leb 1 (length ms) some), rw (e, t, z, le-leb 1 (length ms) some))
+
+  pub speed-nan : OneEach nan
+  unfolding targetAt eq
+  speed-nan = one-each nan refl (by-nan (number (total (naturals ms vs))))
+
+  pub speed-infinite : (s : Bool) → OneEach (inf s)
+  unfolding targetAt eq ofBits
+  speed-infinite s = one-each (inf s) refl (by-infinite (total (naturals ms vs)) (number (total (naturals ms vs))) s value)
+
+  -- -0 too
+  pub speed-below : (m : ℕ) (e : ℤ) → OneEach (fin true m e)
+  unfolding targetAt
+  speed-below m e = one-each (fin true m e) (not-one-below m e) (by-below (total (naturals ms vs)) (number (total (naturals ms vs))) m e value)
+
+  pub speed-zero : (e : ℤ) → refusalAt ms vs (fin false 0 e) ≡ 7
+  unfolding refusalAt refusalTo targetAt naturals
+  speed-zero e =
+      let p : 0 < total (naturals ms vs) = total-some (estimates-positive nought ms vs) (let h : length (naturals ms vs) ≡ length ms = length-estimates nought ms vs agree in omega arith) in
+      let t : targetAt ms vs (fin false 0 e) ≡ 65537 = by-zero (total (naturals ms vs)) (number (total (naturals ms vs))) e value p in
+      rw (le-ltb mostFrames (total (naturals ms vs)) small, not-one-zero e, t, ne-eqb (length ms) 0 (λ q. omega arith))

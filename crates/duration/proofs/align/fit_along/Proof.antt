@@ -1,0 +1,118 @@
+-- `duration::align::fit_along` meets its contract. Assumes nothing.
+use mathlib.Core.Path.{_∙_}
+use Prim.Native.Nat.{_-_}
+use native.Mathlib.Omega.{arith}
+use borrow.Author.Needs.{needs}
+use lib.ListN.{length}
+use Rattle.duration.proofs.Along.{Along, along, next-in, along-open, group-lies, Turn, turn-barred, turn-frames, turn-changes, turn-grown, along-done}
+use Rattle.duration.proofs.align.fit_along.Statement.{statement}
+use Rattle.duration.proofs.align.fit_along.Tie as tie
+
+abbrev Inv-loop : tie.InvT-loop
+Inv-loop means varis nstate ends work₀ done₀ first₀ frames₀ changes₀ i₀ work done first frames changes i = Along means varis nstate ends work₀ work done first frames changes i
+
+abbrev μ-loop : tie.MeasureT-loop
+μ-loop means varis nstate ends work₀ done₀ first₀ frames₀ changes₀ i₀ work done first frames changes i = length ends - i
+
+-- where a group has been closed, or refused
+turn : (c : tie.After-close-group Inv-loop μ-loop) → let a = c .before .before .before .before .before .before .before .before .before .before .before .before .before .before .args in let l = c .before .before .before .before .before .before .before .before .before .loop in Turn (a .means .now) (a .varis .now) (a .nstate) (a .ends .now) (a .work .now) (l .work) (l .done) (l .first) (l .frames) (l .changes) (l .i) (c .before .before .before .before .before .before .new .result) (c .before .before .before .end .given .0 .0) (c .close-group .result) (c .close-group .last .1 .1 .1 .1 .1 .1 .0)
+turn c = record { labels = c .before .before .before .before .before .before .before .before .before .before .before .before .before .before .pre; before = c .before .before .before .before .before .before .before .before .before .loop .inv; here = c .before .before .before .before .before .before .before .before .loop-test .taken; made = c .before .before .before .before .before .before .new .ensures; given = c .before .before .before .end .given .1; closes = c .close-group .ensures }
+
+loop-holds : tie.Need-loop-holds Inv-loop μ-loop
+loop-holds c = along _ _ _ _ _ (c .before .before .before .before .pre)
+
+mul-new : tie.Need-mul-new Inv-loop μ-loop
+mul-new c = search needs
+
+shared-slice-read-new : tie.Need-shared-slice-read-new Inv-loop μ-loop
+shared-slice-read-new c = search needs
+
+new-requires : tie.Need-new-requires Inv-loop μ-loop
+new-requires c κs = search needs
+
+add-next : tie.Need-add-next Inv-loop μ-loop
+add-next c = omega (arith, next-in _ _ _ _ _ _ _ _ _ _ _ (c .before .before .before .before .before .before .before .before .before .pre) (c .before .before .before .before .loop .inv) (c .before .before .before .loop-test .taken) _ (c .before .new .ensures))
+
+add-i : tie.Need-add-i Inv-loop μ-loop
+add-i c = search needs
+
+enum-told : tie.Need-enum-told Inv-loop μ-loop
+enum-told c = search needs
+
+loop-less : tie.Need-loop-less Inv-loop μ-loop
+loop-less c = search needs
+
+loop-again : tie.Need-loop-again Inv-loop μ-loop
+loop-again c = along-open _ _ _ _ _ _ _ _ _ _ _ (c .before .before .before .before .before .before .before .before .before .before .before .pre) (c .before .before .before .before .before .before .loop .inv) (c .before .before .before .before .before .loop-test .taken) _ (c .before .before .before .new .ensures) (c .enum-told .given .1)
+
+enum-known-end : tie.Need-enum-known-end Inv-loop μ-loop
+enum-known-end c = search needs
+
+close-group-requires : tie.Need-close-group-requires Inv-loop μ-loop
+close-group-requires c κs = group-lies _ _ _ _ _ _ _ _ _ _ _ (c .before .before .before .before .before .before .before .before .before .before .before .before .before .pre) (c .before .before .before .before .before .before .before .before .loop .inv) (c .before .before .before .before .before .before .before .loop-test .taken) _ (c .before .before .before .before .before .new .ensures) _ (c .before .before .end .given .1)
+
+enum-known-group : tie.Need-enum-known-group Inv-loop μ-loop
+enum-known-group c = search needs
+
+enum-told-2 : tie.Need-enum-told-2 Inv-loop μ-loop
+enum-told-2 c = search needs
+
+number-of-group-requires : tie.Need-number-of-group-requires Inv-loop μ-loop
+number-of-group-requires c κs = search needs
+
+same-length : tie.Need-same-length Inv-loop μ-loop
+same-length c = c .before .before .before .before .before .close-group .kept .1 .1 .1 .1 .1 .1 .0 ∙ c .before .before .before .before .before .before .before .before .before .before .before .before .before .before .loop .inv .long
+
+returns : tie.Need-returns Inv-loop μ-loop
+returns c = turn-barred _ _ _ _ (turn (c .before .before .before .before .before)) _ _ (c .before .enum-told2 .given .1) (c .number-of-group .ensures) _
+
+add-changes : tie.Need-add-changes Inv-loop μ-loop
+add-changes c = omega (arith, turn-changes _ _ _ _ (turn (c .before .before .before .before .before)) _ _ (c .before .group .given .1))
+
+add-frames : tie.Need-add-frames Inv-loop μ-loop
+add-frames c = omega (arith, turn-frames _ _ _ _ (turn (c .before .before .before .before .before)) _ _ (c .before .group .given .1))
+
+loop-less-2 : tie.Need-loop-less-2 Inv-loop μ-loop
+loop-less-2 c = search needs
+
+loop-again-2 : tie.Need-loop-again-2 Inv-loop μ-loop
+loop-again-2 c = turn-grown _ _ _ _ (turn (c .before .before .before .before .before)) _ _ (c .before .group .given .1) (c .before .before .before .before .before .close-group .kept .1 .1 .1 .1 .1 .1 .0)
+
+cast-t25 : tie.Need-cast-t25 Inv-loop μ-loop
+cast-t25 c = let l = c .before .loop in omega (arith, l .inv .order, l .inv .place, c .before .before .before .before .before .before .pre .lists .few)
+
+same-length-2 : tie.Need-same-length-2 Inv-loop μ-loop
+same-length-2 c = c .before .loop .inv .long
+
+returns-2 : tie.Need-returns-2 Inv-loop μ-loop
+returns-2 c = along-done _ _ _ _ _ _ _ _ _ _ _ (c .before .before .before .before .before .before .pre) (c .before .loop .inv) (c .loop-test .left)
+
+pub fit-along-spec : {M : Type 1} → statement M
+fit-along-spec =
+    tie.close
+    (tie.spec
+    Inv-loop
+    μ-loop
+    loop-holds
+    mul-new
+    shared-slice-read-new
+    new-requires
+    add-next
+    add-i
+    enum-told
+    loop-less
+    loop-again
+    enum-known-end
+    close-group-requires
+    enum-known-group
+    enum-told-2
+    number-of-group-requires
+    same-length
+    returns
+    add-changes
+    add-frames
+    loop-less-2
+    loop-again-2
+    cast-t25
+    same-length-2
+    returns-2)

@@ -1,0 +1,70 @@
+-- `duration::create` meets its contract. Assumes nothing.
+use mathlib.Core.Path.{_≡_, sym, _∙_, subst}
+use mathlib.Core.List.{List}
+use Prim.Native.Nat.{ℕ, _≤_}
+use borrow.Author.Needs.{needs}
+use lib.ListN.{length}
+use lib.Seq.{length-take-le}
+use Rattle.duration.specs.Promise.{refusalOfLists}
+use Rattle.duration.proofs.Refusals.{Fitting, fitting, lists-early}
+use Rattle.duration.proofs.Fits.{speed-clears}
+use Rattle.duration.proofs.Calls.{says-early, says-handed}
+use Rattle.duration.proofs.create.Statement.{statement}
+use Rattle.duration.proofs.create.Tie as tie
+
+-- the lists fit
+lists : (c : tie.Else1) → let a = c .before .before .before .before .before .before .args in Fitting (length (a .means .now)) (length (a .varis .now)) (length (a .out .now)) (length (a .work .now))
+lists c = fitting _ _ _ _ (sym (c .before .refusal-of-lists .ensures) ∙ c .if1 .left)
+
+-- the front of the work space, as the fit leaves it
+abbrev W : tie.After-fit-at → List ℕ
+W c = c .fit-at .last .1 .1 .1 .0
+
+W-length : (c : tie.After-fit-at) → length (W c) ≡ length (c .before .before .before .before .before .before .before .before .args .means .now)
+W-length c = c .fit-at .kept .1 .1 .1 .0 ∙ length-take-le _ _ (lists (c .before .before) .workspace)
+
+refusal-of-lists-requires : tie.Need-refusal-of-lists-requires
+refusal-of-lists-requires c κs = search needs
+
+returns : tie.Need-returns
+returns c =
+    let e = c .before .refusal-of-lists .ensures in
+    rw (← e) (says-early _ _ _ _ _ _ _ (c .if1 .taken) (subst (λ (k : ℕ). k ≤ 6) (sym e) (lists-early _ _ _ _)))
+
+slice-relend-prefix-fit-at : tie.Need-slice-relend-prefix-fit-at
+slice-relend-prefix-fit-at c = lists c .workspace
+
+slice-aggregate-fit-at : tie.Need-slice-aggregate-fit-at
+slice-aggregate-fit-at c = sym (length-take-le _ _ (lists (c .before) .workspace))
+
+fit-at-requires : tie.Need-fit-at-requires
+fit-at-requires c κs = let s = lists (c .before) in record { few = s .few; varis = s .agree; workspace = length-take-le _ _ (s .workspace) }
+
+hand-out-requires : tie.Need-hand-out-requires
+hand-out-requires c κs = search needs
+
+same-length : tie.Need-same-length
+same-length c = search needs
+
+same-length-2 : tie.Need-same-length-2
+same-length-2 c = search needs
+
+returns-2 : tie.Need-returns-2
+returns-2 c =
+    let f = c .before .before .before .before .before .before .before .before .before in
+    let e : refusalOfLists _ _ _ _ ≡ 0 = sym (c .before .before .before .before .before .before .before .before .before .before .before .before .refusal-of-lists .ensures) ∙ c .before .before .before .before .before .before .before .before .before .before .before .if1 .left in
+    rw e (says-handed _ _ _ _ _ (W f) (W-length f) (speed-clears _ _ _) _ _ _ _ _ (f .fit-at .ensures .answer) (f .fit-at .ensures .output) (lists (c .before .before .before .before .before .before .before .before .before .before .before) .output) (c .before .before .before .before .hand-out .ensures))
+
+pub create-spec : {M : Type 1} → statement M
+create-spec =
+    tie.close
+    (tie.spec
+    refusal-of-lists-requires
+    returns
+    slice-relend-prefix-fit-at
+    slice-aggregate-fit-at
+    fit-at-requires
+    hand-out-requires
+    same-length
+    same-length-2
+    returns-2)

@@ -1,0 +1,103 @@
+-- `duration::create_with_alignment` meets its contract. Assumes nothing.
+use mathlib.Core.Path.{_≡_, refl, sym, ap, _∙_, subst}
+use mathlib.Core.List.{List}
+use Prim.Native.Nat.{ℕ, _≤_}
+use borrow.Author.Needs.{needs}
+use lib.ListN.{length}
+use lib.Seq.{length-take-le}
+use Rattle.duration.specs.Promise.{aligned, refusalOfLabels}
+use Rattle.duration.proofs.Refusals.{Labels, Fitting, labelled, labels-early}
+use Rattle.duration.proofs.Closing.{along-clears}
+use Rattle.duration.proofs.Calls.{says-early, says-late, says-front}
+use Rattle.duration.proofs.create_with_alignment.Statement.{statement}
+use Rattle.duration.proofs.create_with_alignment.Tie as tie
+
+-- the labels cover the states, and the lists fit
+lists : (c : tie.Else1) → let a = c .before .before .before .before .before .before .before .args in Labels (a .nstate) (length (a .ends .now)) (length (a .means .now)) × Fitting (length (a .means .now)) (length (a .varis .now)) (length (a .out .now)) (length (a .work .now))
+lists c = labelled _ _ _ _ _ _ (sym (c .before .refusal-of-labels .ensures) ∙ c .if1 .left)
+
+-- the front of the work space, as the alignment leaves it
+abbrev W : tie.After-fit-along → List ℕ
+W c = c .fit-along .last .1 .1 .1 .1 .0
+
+W-length : (c : tie.After-fit-along) → length (W c) ≡ length (c .before .before .before .before .before .before .before .before .before .args .means .now)
+W-length c = c .fit-along .kept .1 .1 .1 .1 .0 ∙ length-take-le _ _ (lists (c .before .before) .1 .workspace)
+
+refusal-of-labels-requires : tie.Need-refusal-of-labels-requires
+refusal-of-labels-requires c κs = search needs
+
+returns : tie.Need-returns
+returns c =
+    let e = c .before .refusal-of-labels .ensures in
+    rw (← e) (says-early _ _ _ _ _ _ _ (c .if1 .taken) (subst (λ (k : ℕ). k ≤ 6) (sym e) (labels-early _ _ _ _ _ _)))
+
+slice-relend-prefix-fit-along : tie.Need-slice-relend-prefix-fit-along
+slice-relend-prefix-fit-along c = lists c .1 .workspace
+
+slice-aggregate-fit-along : tie.Need-slice-aggregate-fit-along
+slice-aggregate-fit-along c = sym (length-take-le _ _ (lists (c .before) .1 .workspace))
+
+fit-along-requires : tie.Need-fit-along-requires
+fit-along-requires c κs =
+    let s = lists (c .before) in
+    record { lists = record { few = s .1 .few; varis = s .1 .agree; workspace = length-take-le _ _ (s .1 .workspace) }; some = s .0 .some; cover = s .0 .cover }
+
+enum-known-answer : tie.Need-enum-known-answer
+enum-known-answer c = search needs
+
+enum-told : tie.Need-enum-told
+enum-told c = search needs
+
+fill-u32-requires : tie.Need-fill-u32-requires
+fill-u32-requires c κs = search needs
+
+same-length : tie.Need-same-length
+same-length c = search needs
+
+returns-2 : tie.Need-returns-2
+returns-2 c =
+    let f = c .before .before .before .before .before .before .before .before in
+    let e : refusalOfLabels _ _ _ _ _ _ ≡ 0 = sym (c .before .before .before .before .before .before .before .before .before .before .before .refusal-of-labels .ensures) ∙ c .before .before .before .before .before .before .before .before .before .before .if1 .left in
+    rw e (says-late _ _ _ _ _ (W f) (W-length f) (along-clears _ _ _ _) _ _ _ _ _ (ap aligned (c .before .before .before .before .enum-told .given .1)) (f .fit-along .ensures .answer) (c .before .before .fill-u32 .ensures))
+
+cast-copy-u32 : tie.Need-cast-copy-u32
+cast-copy-u32 c = search needs
+
+copy-u32-requires : tie.Need-copy-u32-requires
+copy-u32-requires c κs = search needs
+
+fill-u32-requires-2 : tie.Need-fill-u32-requires-2
+fill-u32-requires-2 c κs = search needs
+
+same-length-2 : tie.Need-same-length-2
+same-length-2 c = search needs
+
+same-length-3 : tie.Need-same-length-3
+same-length-3 c = search needs
+
+returns-3 : tie.Need-returns-3
+returns-3 c =
+    let f = c .before .before .before .before .before .before .before .before .before .before .before .before .before .before in
+    let e : refusalOfLabels _ _ _ _ _ _ ≡ 0 = sym (c .before .before .before .before .before .before .before .before .before .before .before .before .before .before .before .before .before .refusal-of-labels .ensures) ∙ c .before .before .before .before .before .before .before .before .before .before .before .before .before .before .before .before .if1 .left in
+    rw e (says-front _ _ _ _ _ (W f) (W-length f) (along-clears _ _ _ _) _ _ _ _ _ _ refl (ap aligned (sym (c .before .before .before .before .before .before .before .before .before .before .answer .given .1)) ∙ f .fit-along .ensures .answer) (lists (c .before .before .before .before .before .before .before .before .before .before .before .before .before .before .before .before) .1 .output) (f .fit-along .ensures .output) (c .before .before .before .before .before .before .copy-u32 .ensures) (c .before .before .fill-u322 .ensures))
+
+pub create-with-alignment-spec : {M : Type 1} → statement M
+create-with-alignment-spec =
+    tie.close
+    (tie.spec
+    refusal-of-labels-requires
+    returns
+    slice-relend-prefix-fit-along
+    slice-aggregate-fit-along
+    fit-along-requires
+    enum-known-answer
+    enum-told
+    fill-u32-requires
+    same-length
+    returns-2
+    cast-copy-u32
+    copy-u32-requires
+    fill-u32-requires-2
+    same-length-2
+    same-length-3
+    returns-3)

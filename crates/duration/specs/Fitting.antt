@@ -1,0 +1,70 @@
+-- Demand 3: what a fit to a target above the count comes to. Assumes nothing.
+use mathlib.Core.Path.{_≡_}
+use mathlib.Core.Logic.{_⊎_}
+use mathlib.Core.List.{List, [], _∷_, _++_}
+use Prim.Native.Nat.{ℕ, _+_, _≤_, _<_}
+use lib.ListN.{length, getD, drop}
+use lib.Ieee.{Float}
+use Rattle.lists.specs.Totals.{total, gap}
+use Rattle.duration.specs.declared.Fitted.{Fitted}
+use Rattle.duration.specs.declared.Fitted.the-variants.{Done}
+use Rattle.duration.specs.declared.Aligned.{Aligned}
+use Rattle.duration.specs.declared.Aligned.the-variants.{Written}
+use Rattle.duration.specs.Estimate.{shortest}
+use Rattle.duration.specs.Steps.{Outcome, Settles}
+use Rattle.duration.specs.Fit.{mostFrames, rhoOf, startOf}
+use Rattle.duration.specs.Align.{Group, within, targetOf}
+
+-- how far apart two lists of durations are: the states' own changes, summed
+unfoldable pub distance : List ℕ → List ℕ → ℕ
+distance [] ys = 0
+distance (x ∷ xs) [] = 0
+distance (x ∷ xs) (y ∷ ys) = gap x y + distance xs ys
+
+-- nowhere longer
+abbrev pub Under : List ℕ → List ℕ → Type 0
+Under xs ys = (i : ℕ) → getD xs i 0 ≤ getD ys i 0
+
+-- from the start, the estimate with rho, to the durations of an outcome
+pub record Fair (ms vs : List Float) (t : ℕ) (o : Outcome) : Type 0 where
+  pub count : length (o .durations) ≡ length ms
+  pub positive : (i : ℕ) → i < length ms → shortest ≤ getD (o .durations) i 0
+  pub sum : total (o .durations) ≡ t
+  pub one-way : Under (startOf ms vs t) (o .durations) ⊎ Under (o .durations) (startOf ms vs t)
+  pub by-steps : Settles (rhoOf ms vs t) ms vs t (startOf ms vs t) (o .durations) (o .changes)
+  pub by-gap : o .changes ≡ gap (total (startOf ms vs t)) t
+  pub by-states : o .changes ≡ distance (startOf ms vs t) (o .durations)
+  pub nearest : (es : List ℕ) → length es ≡ length ms → total es ≡ t → distance (startOf ms vs t) (o .durations) ≤ distance (startOf ms vs t) es
+
+-- group after group, from the frames so far: where a group's target is above its count, its outcome is fair
+pub data FairAlong (ms vs : List Float) : List Group → ℕ → List ℕ → ℕ → Type 0 where
+  ended : {frames : ℕ} → FairAlong ms vs [] frames [] 0
+  next : {g : Group} {gs : List Group} {frames c k : ℕ} {ds es : List ℕ}
+      → (length (within g ms) < targetOf g frames → Fair (within g ms) (within g vs) (targetOf g frames) (record { durations = ds; changes = c }))
+      → FairAlong ms vs gs (frames + total ds) es k
+      → FairAlong ms vs (g ∷ gs) frames (ds ++ es) (c + k)
+
+-- what demand 3 takes: lists within the sizes that agree, room, and a target above the count that is not refused
+pub record Ample (ms vs : List Float) (t : ℕ) (out work : List ℕ) : Type 0 where
+  pub some : 0 < length ms
+  pub few : length ms ≤ 4096
+  pub agree : length vs ≡ length ms
+  pub output : length ms ≤ length out
+  pub workspace : length ms ≤ length work
+  pub above : length ms < t
+  pub within : t ≤ mostFrames
+  pub start : total (startOf ms vs t) ≤ mostFrames
+
+-- a call that is accepted, with a fair outcome at the front of its output
+pub record Accepted (ms vs : List Float) (t : ℕ) (out : List ℕ) (r : Fitted) (out′ : List ℕ) : Type 0 where
+  pub outcome : Outcome
+  pub answer : r ≡ Done (outcome .changes)
+  pub output : out′ ≡ outcome .durations ++ drop (length ms) out
+  pub fair : Fair ms vs t outcome
+
+-- an alignment that is accepted, with a fair outcome group after group
+pub record AcceptedAlong (ms vs : List Float) (gs : List Group) (out : List ℕ) (r : Aligned) (out′ : List ℕ) : Type 0 where
+  pub outcome : Outcome
+  pub answer : r ≡ Written (length (outcome .durations)) (outcome .changes)
+  pub output : out′ ≡ outcome .durations ++ drop (length (outcome .durations)) out
+  pub fair : FairAlong ms vs gs 0 (outcome .durations) (outcome .changes)

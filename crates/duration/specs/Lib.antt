@@ -1,0 +1,9 @@
+-- What the contracts of src/ cite.
+pub mod Estimate
+pub mod Steps
+pub mod Fit
+pub mod Speed
+pub mod Align
+pub mod Promise
+pub mod Fitting
+pub mod Inner

@@ -1,0 +1,83 @@
+-- What the three calls promise. Assumes nothing.
+use mathlib.Core.Path.{_≡_}
+use mathlib.Core.Bool.{Bool, not, _||_, cond}
+use mathlib.Core.List.{List, [], _∷_, _++_}
+use Prim.Native.Nat.{ℕ, zero, suc, _*_}
+use lib.Dec.{ltb, eqb}
+use lib.ListN.{length, drop, replicate}
+use lib.Ieee.{Float}
+use Rattle.floats.specs.Rounding.{roundedOf}
+use Rattle.duration.specs.declared.Fitted.{Fitted}
+use Rattle.duration.specs.declared.Fitted.the-variants.{Done, Refused}
+use Rattle.duration.specs.declared.Aligned.{Aligned}
+use Rattle.duration.specs.declared.Aligned.the-variants.{Written, Denied}
+use Rattle.duration.specs.Fit.{fitTo, refusalTo}
+use Rattle.lists.specs.Refusals.{orElse}
+use Rattle.duration.specs.Speed.{fitAt, refusalAt}
+use Rattle.duration.specs.Align.{groups, fitAlong, refusalAlong}
+
+-- 01, Refusal numbers: an answer's number, 0 for none, and its values; "A refusal carries its number only"
+pub record Answer : Type 0 where
+  pub number : ℕ
+  pub values : List ℕ
+
+-- of a fit or a speed: the unit changes
+abbrev pub fitted : Fitted → Answer
+fitted (Done changes) = record { number = 0; values = changes ∷ [] }
+fitted (Refused number) = record { number = number; values = [] }
+
+-- of an alignment: how many durations were written, and the unit changes
+abbrev pub aligned : Aligned → Answer
+aligned (Written written changes) = record { number = 0; values = written ∷ changes ∷ [] }
+aligned (Denied number) = record { number = number; values = [] }
+
+-- the answer of a call with this refusal number, 0 for none, and these values where it is accepted
+unfoldable pub answerOf : ℕ → List ℕ → Answer
+answerOf zero values = record { number = 0; values = values }
+answerOf (suc k) values = record { number = suc k; values = [] }
+
+-- 01, Refusal numbers: on a refusal "output is untouched"; "An accepted call writes the stated places of the output .. and touches nothing beyond"
+unfoldable pub outputOf : ℕ → List ℕ → List ℕ → List ℕ
+outputOf zero new out = new ++ drop (length new) out
+outputOf (suc k) new out = out
+
+-- 01, Refusal numbers: an accepted call "zeros the work space it is entitled to (the same part that 7 and 8 zero)"; the others leave it untouched
+abbrev pub clears : ℕ → Bool
+clears k = eqb k 0 || (eqb k 7 || eqb k 8)
+
+-- the first n numbers of the work space cleared, or all as it was
+unfoldable pub workOf : ℕ → ℕ → List ℕ → List ℕ
+workOf k n work = cond (clears k) (replicate n 0 ++ drop n work) work
+
+-- 01, Refusal numbers, 3, 4 and 6: of n states and v variances, with room for o and w numbers
+unfoldable pub refusalOfLists : ℕ → ℕ → ℕ → ℕ → ℕ
+refusalOfLists n v o w = cond (ltb 4096 n) 3 (cond (not (eqb v n)) 4 (cond (ltb o n) 6 (cond (ltb w n) 6 0)))
+
+-- the same of l labels with k states each
+unfoldable pub refusalOfLabels : ℕ → ℕ → ℕ → ℕ → ℕ → ℕ → ℕ
+refusalOfLabels k l n v o w = cond (ltb 4096 n) 3 (cond (ltb k 1) 3 (cond (ltb 16 k) 3 (cond (not (eqb (l * k) n)) 4 (refusalOfLists n v o w))))
+
+-- A call of n states with the refusal number k, 0 for none, and these values and durations where it is accepted: its answer, and the lists at exit.
+pub record Says (k : ℕ) (values new : List ℕ) (n : ℕ) (out work : List ℕ) (r : Answer) (out′ work′ : List ℕ) : Type 0 where
+  pub answer : r ≡ answerOf k values
+  pub output : out′ ≡ outputOf k new out
+  pub workspace : work′ ≡ workOf k n work
+
+-- `estimate_duration_with_frame_length`
+abbrev pub FitSays : List Float → List Float → Float → List ℕ → List ℕ → Fitted → List ℕ → List ℕ → Type 0
+FitSays ms vs len out work r =
+    let o = fitTo ms vs (roundedOf len) in
+    Says (orElse (refusalOfLists (length ms) (length vs) (length out) (length work)) (refusalTo ms vs (roundedOf len))) (o .changes ∷ []) (o .durations) (length ms) out work (fitted r)
+
+-- `create`
+abbrev pub SpeedSays : List Float → List Float → Float → List ℕ → List ℕ → Fitted → List ℕ → List ℕ → Type 0
+SpeedSays ms vs speed out work r =
+    let o = fitAt ms vs speed in
+    Says (orElse (refusalOfLists (length ms) (length vs) (length out) (length work)) (refusalAt ms vs speed)) (o .changes ∷ []) (o .durations) (length ms) out work (fitted r)
+
+-- `create_with_alignment`
+abbrev pub AlignSays : List Float → List Float → ℕ → List Float → List ℕ → List ℕ → Aligned → List ℕ → List ℕ → Type 0
+AlignSays ms vs nstate ends out work r =
+    let gs = groups nstate 0 0 ends in
+    let o = fitAlong ms vs gs 0 in
+    Says (orElse (refusalOfLabels nstate (length ends) (length ms) (length vs) (length out) (length work)) (refusalAlong ms vs gs 0)) (length (o .durations) ∷ o .changes ∷ []) (o .durations) (length ms) out work (aligned r)

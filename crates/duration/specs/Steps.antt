@@ -1,0 +1,79 @@
+-- The step rule. Assumes nothing.
+use mathlib.Core.Path.{_≡_}
+use mathlib.Core.Bool.{Bool, true, false, cond}
+use mathlib.Core.List.{List, [], _∷_}
+use Prim.Native.Nat.{ℕ, zero, suc, _+_, _-_, _<_}
+use lib.Dec.{ltb, eqb}
+use lib.ListN.{getD, set}
+use lib.Ieee.{Float, binary64, sub, div}
+use Rattle.lists.specs.Totals.{total}
+use Rattle.floats.specs.Order.{absOf, costBelow}
+use Rattle.duration.specs.declared.steps.Key.{Key}
+use Rattle.duration.specs.declared.steps.Key.the-variants.{Fixed, Cost}
+use Rattle.duration.specs.Estimate.{number, shortest}
+
+-- 01, Durations: "Cost is the absolute value of rho − (d − mean)/variance."
+abbrev pub costOf : Float → Float → Float → ℕ → Float
+costOf rho m v d = absOf (sub binary64 rho (div binary64 (sub binary64 (number d) m) v))
+
+-- 01, Durations: "add 1" (true) and "take 1" (false)
+abbrev pub moved : Bool → ℕ → ℕ
+moved true d = d + 1
+moved false d = d - 1
+
+-- 01, Durations: "cost at its duration + 1", and of a "state above 1" the "cost at duration − 1"; a state of 1 is fixed
+unfoldable pub keyOf : Bool → Float → Float → Float → ℕ → Key
+keyOf true rho m v d = Cost (costOf rho m v (d + 1))
+keyOf false rho m v d = cond (ltb shortest d) (Cost (costOf rho m v (d - 1))) Fixed
+
+-- one key a state
+unfoldable pub keys : Bool → Float → List Float → List Float → List ℕ → List Key
+keys w rho [] vs ds = []
+keys w rho (m ∷ ms) [] ds = []
+keys w rho (m ∷ ms) (v ∷ vs) [] = []
+keys w rho (m ∷ ms) (v ∷ vs) (d ∷ ds) = keyOf w rho m v d ∷ keys w rho ms vs ds
+
+-- 01, Durations: "All NaN costs are equal and come after infinity"; a fixed state comes after all costs
+abbrev pub sooner : Key → Key → Bool
+sooner Fixed b = false
+sooner (Cost x) Fixed = true
+sooner (Cost x) (Cost y) = costBelow x y
+
+-- 01, Durations: "Equal costs take the first state": the first key, unless the first least of the others is sooner
+unfoldable pub leastOf : List Key → ℕ
+leastOf [] = 0
+leastOf (x ∷ xs) = let i = leastOf xs in cond (sooner (getD xs i Fixed) x) (suc i) 0
+
+-- one step, up (true) or down (false), of the state whose key is the first least
+unfoldable pub step : Bool → Float → List Float → List Float → List ℕ → List ℕ
+step w rho ms vs ds = let i = leastOf (keys w rho ms vs ds) in set ds i (moved w (getD ds i 0))
+
+-- 01, Durations: "while the total is below T, add 1 to the state whose cost at its duration + 1 is least; while above T, take 1 from the state
+-- above 1 whose cost at duration − 1 is least": from the durations ds the rule ends at es, after k steps
+pub data Settles (rho : Float) (ms vs : List Float) (t : ℕ) : List ℕ → List ℕ → ℕ → Type 0 where
+  there : {ds : List ℕ} → total ds ≡ t → Settles rho ms vs t ds ds 0
+  below : {ds es : List ℕ} {k : ℕ} → total ds < t → Settles rho ms vs t (step true rho ms vs ds) es k → Settles rho ms vs t ds es (suc k)
+  above : {ds es : List ℕ} {k : ℕ} → t < total ds → Settles rho ms vs t (step false rho ms vs ds) es k → Settles rho ms vs t ds es (suc k)
+
+-- the durations that a fit comes to, and its unit changes
+pub record Outcome : Type 0 where
+  pub durations : List ℕ
+  pub changes : ℕ
+
+-- with no change
+abbrev pub unchanged : List ℕ → Outcome
+unchanged ds = record { durations = ds; changes = 0 }
+
+-- with one change more
+abbrev pub onceMore : Outcome → Outcome
+onceMore o = record { durations = o .durations; changes = suc (o .changes) }
+
+-- The same as a computation: while the total is not t, a step. It takes at most as many as it is given; where that is enough, it ends where
+-- `Settles` does, and nowhere else (`settle-settles`, `settles-one`).
+unfoldable pub settle : ℕ → Float → List Float → List Float → ℕ → List ℕ → Outcome
+settle zero rho ms vs t ds = unchanged ds
+settle (suc most) rho ms vs t ds =
+    elim (eqb (total ds) t) [
+      | true ↦ unchanged ds
+      | false ↦ onceMore (settle most rho ms vs t (step (ltb (total ds) t) rho ms vs ds))
+    ]

@@ -1,0 +1,128 @@
+// Alignment: labels with an end close groups of states.
+ghost use mathlib.Core.Path.{_≡_};
+ghost use Rattle.duration.specs.Align.{labelOf, groups, fitAlong, refusalAlong};
+ghost use Rattle.duration.specs.Promise.{fitted};
+ghost use Rattle.duration.specs.Inner.{Lies, closed, Closes, Labelled, AtFront};
+use crate::Aligned;
+use crate::Fitted;
+
+// A label's end: a time in frames, or open.
+pub enum End {
+    At(f64),
+    Open,
+}
+
+pub struct Label {
+    pub first: usize,
+    pub end: End,
+}
+
+impl Label {
+    pub fn new(first: usize, end: f64) -> Self
+        ensures { λ r. ⌜ r ≡ labelOf first end ⌝ }
+    {
+        if end >= 0.0 {
+            return Label {
+                first,
+                end: End::At(end),
+            };
+        }
+        Label {
+            first,
+            end: End::Open,
+        }
+    }
+}
+
+// A group's unit changes and frames, or its refusal.
+pub enum Closed {
+    Grown(u32, u32),
+    Barred(u8),
+}
+
+// The refusal number of an answer, 0 for none.
+fn number_of(answer: Fitted) -> u8
+    ensures { λ k. ⌜ k ≡ fitted answer .number ⌝ }
+{
+    match answer {
+        Fitted::Done(_) => 0,
+        Fitted::Refused(number) => number,
+    }
+}
+
+fn number_of_group(answer: Closed) -> u8
+    ensures { λ k. ⌜ k ≡ closed answer .number ⌝ }
+{
+    match answer {
+        Closed::Grown(_, _) => 0,
+        Closed::Barred(number) => number,
+    }
+}
+
+// Fits the states from one place up to another to the end that they are given, after so many frames, in place in work.
+fn close_group(
+    means: &[f64],
+    varis: &[f64],
+    end: f64,
+    frames: u32,
+    from: usize,
+    to: usize,
+    work: &mut [u32],
+) -> Closed
+    requires { ⌜ Lies (now means) (now varis) (now work) (record { from = from; to = to; end = end }) frames ⌝ }
+    ensures { λ r. ⌜ Closes (now (means .entry)) (now (varis .entry)) (record { from = from; to = to; end = end }) frames (now (work .entry)) r (now (work .exit)) ⌝ }
+{
+    let target = floats::rounded(end - (frames as f64));
+    let answer = crate::fit::fit(
+        &means[from..to],
+        &varis[from..to],
+        target,
+        &mut work[from..to],
+    );
+    let Fitted::Done(changes) = answer else {
+        return Closed::Barred(number_of(answer));
+    };
+    let sum = lists::total_u32(&work[from..to]);
+    if sum > (65_536 - frames) as u64 {
+        return Closed::Barred(8);
+    }
+    Closed::Grown(changes, sum as u32)
+}
+
+// Fits each group of labels to its end, in place in work, and counts the states of closed groups and the unit changes.
+pub fn fit_along(
+    means: &[f64],
+    varis: &[f64],
+    nstate: usize,
+    ends: &[f64],
+    work: &mut [u32],
+) -> Aligned
+    requires { ⌜ Labelled (now means) (now varis) nstate (now ends) (now work) ⌝ }
+    ensures { λ r. ⌜ AtFront (refusalAlong (now (means .entry)) (now (varis .entry)) (groups nstate 0 0 (now (ends .entry))) 0) (fitAlong (now (means .entry)) (now (varis .entry)) (groups nstate 0 0 (now (ends .entry))) 0) r (now (work .exit)) ⌝ }
+{
+    let mut done = 0;
+    let mut first = 0;
+    let mut frames: u32 = 0;
+    let mut changes: u32 = 0;
+    let mut i = 0;
+    while i < ends.len() {
+        let label = Label::new(first, ends[i]);
+        let next = label.first + nstate;
+        let end = label.end;
+        first = next;
+        i += 1;
+        match end {
+            End::Open => {}
+            End::At(time) => {
+                let group = close_group(means, varis, time, frames, done, next, work);
+                let Closed::Grown(more, length) = group else {
+                    return Aligned::Denied(number_of_group(group));
+                };
+                changes += more;
+                frames += length;
+                done = next;
+            }
+        }
+    }
+    Aligned::Written(done as u32, changes)
+}

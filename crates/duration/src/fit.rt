@@ -1,0 +1,56 @@
+// Estimates, and the fit of states to a target.
+ghost use mathlib.Core.Path.{_≡_};
+ghost use Rattle.duration.specs.Estimate.{estimateOf, estimates};
+ghost use Rattle.duration.specs.Fit.{rhoOf, fitTo, refusalTo};
+ghost use Rattle.duration.specs.Inner.{Agree, InPlace};
+use crate::Fitted;
+
+fn estimate(rho: f64, mean: f64, vari: f64) -> u32
+    ensures { λ r. ⌜ r ≡ estimateOf rho mean vari ⌝ }
+{
+    floats::rounded(mean + rho * vari)
+}
+
+// The states' estimates, into work.
+pub fn estimate_duration(means: &[f64], varis: &[f64], rho: f64, work: &mut [u32])
+    requires { ⌜ Agree (now means) (now varis) (now work) ⌝ }
+    ensures { λ _. ⌜ now (work .exit) ≡ estimates rho (now (means .entry)) (now (varis .entry)) ⌝ }
+{
+    let mut i = 0;
+    while i < means.len() {
+        work[i] = estimate(rho, means[i], varis[i]);
+        i += 1;
+    }
+}
+
+fn rho_of(means: &[f64], varis: &[f64], target: u32) -> f64
+    ensures { λ r. ⌜ r ≡ rhoOf (now (means .entry)) (now (varis .entry)) target ⌝ }
+{
+    let sum = model::mean_vari::sum(means, varis);
+    ((target as f64) - sum.0) / sum.1
+}
+
+// The fit to a target, in place in work.
+pub fn fit(means: &[f64], varis: &[f64], target: u32, work: &mut [u32]) -> Fitted
+    requires { ⌜ Agree (now means) (now varis) (now work) ⌝ }
+    ensures { λ r. ⌜ InPlace (refusalTo (now (means .entry)) (now (varis .entry)) target) (fitTo (now (means .entry)) (now (varis .entry)) target) r (now (work .exit)) ⌝ }
+{
+    let n = means.len();
+    if n == 0 {
+        return Fitted::Done(0);
+    }
+    if target > 65_536 {
+        return Fitted::Refused(7);
+    }
+    if target as usize <= n {
+        lists::fill_u32(work, n, 1);
+        return Fitted::Done(0);
+    }
+    let rho = rho_of(means, varis, target);
+    estimate_duration(means, varis, rho, work);
+    let sum = lists::total_u32(work);
+    if sum > 65_536 {
+        return Fitted::Refused(8);
+    }
+    Fitted::Done(crate::steps::settle(sum as u32, target, rho, means, varis, work))
+}

@@ -1,0 +1,139 @@
+// The durations of states: fitted to a length, to a speed, or to given ends.
+ghost use mathlib.Core.Path.{_≡_};
+ghost use Rattle.duration.specs.Inner.{HandsOut};
+ghost use Rattle.duration.specs.Promise.{refusalOfLists, refusalOfLabels, FitSays, SpeedSays, AlignSays};
+
+mod align;
+mod fit;
+mod speed;
+mod steps;
+
+pub enum Fitted {
+    Done(u32),
+    Refused(u8),
+}
+
+pub enum Aligned {
+    Written(u32, u32),
+    Denied(u8),
+}
+
+// The refusal of the lists' lengths, 0 for none.
+fn refusal_of_lists(states: usize, varis: usize, out: usize, work: usize) -> u8
+    ensures { λ r. ⌜ r ≡ refusalOfLists states varis out work ⌝ }
+{
+    if states > 4096 {
+        return 3;
+    }
+    if varis != states {
+        return 4;
+    }
+    if out < states {
+        return 6;
+    }
+    if work < states {
+        return 6;
+    }
+    0
+}
+
+// The same for labels of nstate states each. More labels than states can't agree, so the product stays small.
+fn refusal_of_labels(
+    nstate: usize,
+    labels: usize,
+    states: usize,
+    varis: usize,
+    out: usize,
+    work: usize,
+) -> u8
+    ensures { λ r. ⌜ r ≡ refusalOfLabels nstate labels states varis out work ⌝ }
+{
+    if states > 4096 {
+        return 3;
+    }
+    if nstate < 1 {
+        return 3;
+    }
+    if nstate > 16 {
+        return 3;
+    }
+    if labels > states {
+        return 4;
+    }
+    if labels * nstate != states {
+        return 4;
+    }
+    refusal_of_lists(states, varis, out, work)
+}
+
+// Hands out the n durations at the front of work, unless they are refused, and clears it.
+fn hand_out(answer: Fitted, n: usize, out: &mut [u32], work: &mut [u32]) -> Fitted
+    ensures { λ r. ⌜ HandsOut answer n (now (out .entry)) (now (work .entry)) r (now (out .exit)) (now (work .exit)) ⌝ }
+{
+    let Fitted::Done(_) = answer else {
+        lists::fill_u32(work, n, 0);
+        return answer;
+    };
+    lists::copy_u32(work, n, out);
+    lists::fill_u32(work, n, 0);
+    answer
+}
+
+// The states' durations, fitted to a length in frames.
+pub fn estimate_duration_with_frame_length(
+    means: &[f64],
+    varis: &[f64],
+    frame_length: f64,
+    out: &mut [u32],
+    work: &mut [u32],
+) -> Fitted
+    ensures { λ r. ⌜ FitSays (now (means .entry)) (now (varis .entry)) «frame_length» (now (out .entry)) (now (work .entry)) r (now (out .exit)) (now (work .exit)) ⌝ }
+{
+    let n = means.len();
+    let refusal = refusal_of_lists(n, varis.len(), out.len(), work.len());
+    if refusal != 0 {
+        return Fitted::Refused(refusal);
+    }
+    let answer = fit::fit(means, varis, floats::rounded(frame_length), &mut work[..n]);
+    hand_out(answer, n, out, work)
+}
+
+// The states' durations at a speed.
+pub fn create(means: &[f64], varis: &[f64], speed: f64, out: &mut [u32], work: &mut [u32]) -> Fitted
+    ensures { λ r. ⌜ SpeedSays (now (means .entry)) (now (varis .entry)) speed (now (out .entry)) (now (work .entry)) r (now (out .exit)) (now (work .exit)) ⌝ }
+{
+    let n = means.len();
+    let refusal = refusal_of_lists(n, varis.len(), out.len(), work.len());
+    if refusal != 0 {
+        return Fitted::Refused(refusal);
+    }
+    let answer = speed::fit_at(means, varis, speed, &mut work[..n]);
+    hand_out(answer, n, out, work)
+}
+
+// The states' durations, with each label that has an end closed at it: how many were written, and the unit changes.
+pub fn create_with_alignment(
+    means: &[f64],
+    varis: &[f64],
+    nstate: u32,
+    ends: &[f64],
+    out: &mut [u32],
+    work: &mut [u32],
+) -> Aligned
+    ensures { λ r. ⌜ AlignSays (now (means .entry)) (now (varis .entry)) nstate (now (ends .entry)) (now (out .entry)) (now (work .entry)) r (now (out .exit)) (now (work .exit)) ⌝ }
+{
+    let n = means.len();
+    let width = nstate as usize;
+    let refusal = refusal_of_labels(width, ends.len(), n, varis.len(), out.len(), work.len());
+    if refusal != 0 {
+        return Aligned::Denied(refusal);
+    }
+    let answer = align::fit_along(means, varis, width, ends, &mut work[..n]);
+    let Aligned::Written(written, _) = answer else {
+        lists::fill_u32(work, n, 0);
+        return answer;
+    };
+    lists::copy_u32(work, written as usize, out);
+    lists::fill_u32(work, n, 0);
+    answer
+}

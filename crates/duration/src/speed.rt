@@ -1,0 +1,20 @@
+// Durations at a speed.
+ghost use Rattle.duration.specs.Speed.{fitAt, refusalAt};
+ghost use Rattle.duration.specs.Inner.{Agree, InPlace};
+use crate::Fitted;
+
+// The durations at a speed, in place in work.
+pub fn fit_at(means: &[f64], varis: &[f64], speed: f64, work: &mut [u32]) -> Fitted
+    requires { ⌜ Agree (now means) (now varis) (now work) ⌝ }
+    ensures { λ r. ⌜ InPlace (refusalAt (now (means .entry)) (now (varis .entry)) speed) (fitAt (now (means .entry)) (now (varis .entry)) speed) r (now (work .exit)) ⌝ }
+{
+    crate::fit::estimate_duration(means, varis, 0.0, work);
+    let sum = lists::total_u32(work);
+    if sum > 65_536 {
+        return Fitted::Refused(8);
+    }
+    if speed == 1.0 {
+        return Fitted::Done(0);
+    }
+    crate::fit::fit(means, varis, floats::rounded((sum as f64) / speed), work)
+}

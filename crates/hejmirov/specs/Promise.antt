@@ -1,0 +1,57 @@
+-- What the C calls promise: a call below is made, and its answer taken apart into a number and what stands behind pointers. Assumes nothing.
+use mathlib.Core.Path.{_≡_}
+use mathlib.Core.List.{List}
+use Prim.Native.Nat.{ℕ}
+use lib.ListN.{getD}
+use lib.Ieee.{Float}
+use Rattle.duration.specs.Promise.{fitted, aligned, FitSays, SpeedSays, AlignSays}
+use Rattle.duration.specs.declared.Fitted.{Fitted}
+use Rattle.duration.specs.declared.Aligned.{Aligned}
+use Rattle.spool.specs.Promise.{placeNumber, placeValues, spanNumber, spanValues, PlaceSays, SpanSays}
+use Rattle.spool.specs.declared.Placed.{Placed}
+use Rattle.spool.specs.declared.Span.{Span}
+
+-- 01, Refusal numbers: "A refusal carries its number only": value i of an answer is handed out where there is one, and what was there stays where not
+abbrev pub handed : List ℕ → ℕ → ℕ → ℕ
+handed values i old = getD values i old
+
+-- an answer's number, and its one value behind a pointer
+pub record HandsOne (number : ℕ) (values : List ℕ) (old r new : ℕ) : Type 0 where
+  pub answers : r ≡ number
+  pub value : new ≡ handed values 0 old
+
+-- an answer's number, and its two values behind pointers
+pub record HandsTwo (number : ℕ) (values : List ℕ) (old₀ old₁ r new₀ new₁ : ℕ) : Type 0 where
+  pub answers : r ≡ number
+  pub first : new₀ ≡ handed values 0 old₀
+  pub second : new₁ ≡ handed values 1 old₁
+
+-- `hejmirov_fit`
+pub record FitCallSays (ms vs : List Float) (len : Float) (out work : List ℕ) (changes r : ℕ) (out′ work′ : List ℕ) (changes′ : ℕ) : Type 0 where
+  pub answer : Fitted
+  pub says : FitSays ms vs len out work answer out′ work′
+  pub gives : HandsOne (fitted answer .number) (fitted answer .values) changes r changes′
+
+-- `hejmirov_speed`
+pub record SpeedCallSays (ms vs : List Float) (speed : Float) (out work : List ℕ) (changes r : ℕ) (out′ work′ : List ℕ) (changes′ : ℕ) : Type 0 where
+  pub answer : Fitted
+  pub says : SpeedSays ms vs speed out work answer out′ work′
+  pub gives : HandsOne (fitted answer .number) (fitted answer .values) changes r changes′
+
+-- `hejmirov_align`
+pub record AlignCallSays (ms vs : List Float) (nstate : ℕ) (ends : List Float) (out work : List ℕ) (written changes r : ℕ) (out′ work′ : List ℕ) (written′ changes′ : ℕ) : Type 0 where
+  pub answer : Aligned
+  pub says : AlignSays ms vs nstate ends out work answer out′ work′
+  pub gives : HandsTwo (aligned answer .number) (aligned answer .values) written changes r written′ changes′
+
+-- `hejmirov_place`
+pub record PlaceCallSays (frame component v place r place′ : ℕ) : Type 0 where
+  pub answer : Placed
+  pub says : PlaceSays frame component v answer
+  pub gives : HandsOne (placeNumber answer) (placeValues answer) place r place′
+
+-- `hejmirov_excerpt`
+pub record ExcerptCallSays (trajectory : List Float) (durations : List ℕ) (v state first count r first′ count′ : ℕ) : Type 0 where
+  pub answer : Span
+  pub says : SpanSays trajectory durations v state answer
+  pub gives : HandsTwo (spanNumber answer) (spanValues answer) first count r first′ count′

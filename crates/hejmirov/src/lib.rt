@@ -1,0 +1,140 @@
+// The calls for C and Rust. Each answers a refusal number, 0 for none, and gives its values through pointers, which a refusal leaves as they were.
+// A list is a pointer and a length.
+ghost use Rattle.duration.specs.Promise.{fitted, aligned};
+ghost use Rattle.spool.specs.Promise.{placeNumber, placeValues, spanNumber, spanValues};
+ghost use Rattle.hejmirov.specs.Promise.{HandsOne, HandsTwo, FitCallSays, SpeedCallSays, AlignCallSays, PlaceCallSays, ExcerptCallSays};
+use duration::Aligned;
+use duration::Fitted;
+use spool::Placed;
+use spool::Span;
+
+// States' durations, fitted to a length in frames.
+#[no_mangle]
+pub extern "C" fn hejmirov_fit(
+    means: &[f64],
+    varis: &[f64],
+    frame_length: f64,
+    out: &mut [u32],
+    work: &mut [u32],
+    changes: &mut u32,
+) -> u32
+    ensures { λ r. ⌜ FitCallSays (now (means .entry)) (now (varis .entry)) «frame_length» (now (out .entry)) (now (work .entry)) (now (changes .entry)) r (now (out .exit)) (now (work .exit)) (now (changes .exit)) ⌝ }
+{
+    let answer = duration::estimate_duration_with_frame_length(
+        means,
+        varis,
+        frame_length,
+        out,
+        work,
+    );
+    hand_out_fit(answer, changes)
+}
+
+// States' durations at a speed.
+#[no_mangle]
+pub extern "C" fn hejmirov_speed(
+    means: &[f64],
+    varis: &[f64],
+    speed: f64,
+    out: &mut [u32],
+    work: &mut [u32],
+    changes: &mut u32,
+) -> u32
+    ensures { λ r. ⌜ SpeedCallSays (now (means .entry)) (now (varis .entry)) speed (now (out .entry)) (now (work .entry)) (now (changes .entry)) r (now (out .exit)) (now (work .exit)) (now (changes .exit)) ⌝ }
+{
+    let answer = duration::create(means, varis, speed, out, work);
+    hand_out_fit(answer, changes)
+}
+
+// A fit's number; its changes go through the pointer.
+fn hand_out_fit(answer: Fitted, changes: &mut u32) -> u32
+    ensures { λ r. ⌜ HandsOne (fitted answer .number) (fitted answer .values) (now (changes .entry)) r (now (changes .exit)) ⌝ }
+{
+    match answer {
+        Fitted::Done(count) => {
+            *changes = count;
+            0
+        }
+        Fitted::Refused(number) => number as u32,
+    }
+}
+
+// States' durations, with each label that has an end closed at it.
+#[no_mangle]
+pub extern "C" fn hejmirov_align(
+    means: &[f64],
+    varis: &[f64],
+    nstate: u32,
+    ends: &[f64],
+    out: &mut [u32],
+    work: &mut [u32],
+    written: &mut u32,
+    changes: &mut u32,
+) -> u32
+    ensures { λ r. ⌜ AlignCallSays (now (means .entry)) (now (varis .entry)) nstate (now (ends .entry)) (now (out .entry)) (now (work .entry)) (now (written .entry)) (now (changes .entry)) r (now (out .exit)) (now (work .exit)) (now (written .exit)) (now (changes .exit)) ⌝ }
+{
+    let answer = duration::create_with_alignment(means, varis, nstate, ends, out, work);
+    hand_out_alignment(answer, written, changes)
+}
+
+fn hand_out_alignment(answer: Aligned, written: &mut u32, changes: &mut u32) -> u32
+    ensures { λ r. ⌜ HandsTwo (aligned answer .number) (aligned answer .values) (now (written .entry)) (now (changes .entry)) r (now (written .exit)) (now (changes .exit)) ⌝ }
+{
+    match answer {
+        Aligned::Written(states, count) => {
+            *written = states;
+            *changes = count;
+            0
+        }
+        Aligned::Denied(number) => number as u32,
+    }
+}
+
+// The byte place of a frame's component in the spool.
+#[no_mangle]
+pub extern "C" fn hejmirov_place(frame: u32, component: u32, v: u32, place: &mut u64) -> u32
+    ensures { λ r. ⌜ PlaceCallSays frame component v (now (place .entry)) r (now (place .exit)) ⌝ }
+{
+    hand_out_place(spool::place(frame, component, v), place)
+}
+
+fn hand_out_place(answer: Placed, place: &mut u64) -> u32
+    ensures { λ r. ⌜ HandsOne (placeNumber answer) (placeValues answer) (now (place .entry)) r (now (place .exit)) ⌝ }
+{
+    match answer {
+        Placed::At(byte) => {
+            *place = byte;
+            0
+        }
+        Placed::Refused(number) => number as u32,
+    }
+}
+
+// Where a state's numbers stand in a trajectory: the first, and how many.
+#[no_mangle]
+pub extern "C" fn hejmirov_excerpt(
+    trajectory: &[f64],
+    durations: &[u32],
+    v: u32,
+    state: u32,
+    first: &mut u64,
+    count: &mut u64,
+) -> u32
+    ensures { λ r. ⌜ ExcerptCallSays (now (trajectory .entry)) (now (durations .entry)) v state (now (first .entry)) (now (count .entry)) r (now (first .exit)) (now (count .exit)) ⌝ }
+{
+    let answer = spool::excerpt_span(trajectory, durations, v, state);
+    hand_out_span(answer, first, count)
+}
+
+fn hand_out_span(answer: Span, first: &mut u64, count: &mut u64) -> u32
+    ensures { λ r. ⌜ HandsTwo (spanNumber answer) (spanValues answer) (now (first .entry)) (now (count .entry)) r (now (first .exit)) (now (count .exit)) ⌝ }
+{
+    match answer {
+        Span::Numbers(from, numbers) => {
+            *first = from;
+            *count = numbers;
+            0
+        }
+        Span::Refused(number) => number as u32,
+    }
+}

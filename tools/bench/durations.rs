@@ -1,0 +1,114 @@
+//! Durations: estimates alone, speeds, and the largest gaps.
+
+use std::hint::black_box;
+
+use jbonsai::{duration::DurationEstimator, model::MeanVari};
+
+use crate::{Inputs, least_time, row};
+
+unsafe extern "C" {
+    fn hejmirov_fit(
+        means: *const f64, n_means: usize, varis: *const f64, n_varis: usize, frame_length: f64,
+        out: *mut u32, n_out: usize, work: *mut u32, n_work: usize, changes: *mut u32,
+    ) -> u32;
+    fn hejmirov_speed(
+        means: *const f64, n_means: usize, varis: *const f64, n_varis: usize, speed: f64,
+        out: *mut u32, n_out: usize, work: *mut u32, n_work: usize, changes: *mut u32,
+    ) -> u32;
+}
+
+const MOST_FRAMES: f64 = 65_536.0;
+
+/// What is asked of the states: a speed, or a length in frames.
+#[derive(Clone, Copy)]
+enum Asked {
+    Speed(f64),
+    Length(f64),
+}
+
+/// States as both sides take them, with room for our answer.
+struct States {
+    estimator: DurationEstimator,
+    parameters: Vec<MeanVari>,
+    means: Vec<f64>,
+    varis: Vec<f64>,
+    out: Vec<u32>,
+    work: Vec<u32>,
+}
+
+impl States {
+    fn new(count: usize, mut pair: impl FnMut() -> (f64, f64)) -> Self {
+        let (means, varis): (Vec<f64>, Vec<f64>) = (0..count).map(|_| pair()).unzip();
+        let parameters: Vec<_> = means.iter().zip(&varis).map(|(&mean, &vari)| MeanVari(mean, vari)).collect();
+        let estimator = DurationEstimator::new(parameters.clone(), 5);
+        Self { estimator, parameters, means, varis, out: vec![0; count], work: vec![0; count] }
+    }
+
+    fn rust(&self, asked: Asked) -> Vec<usize> {
+        match asked {
+            Asked::Speed(speed) => self.estimator.create(speed),
+            Asked::Length(length) => {
+                DurationEstimator::estimate_duration_with_frame_length(&self.parameters, length)
+            }
+        }
+    }
+
+    /// Our answer, in `out`; how many unit changes it took.
+    fn ours(&mut self, asked: Asked) -> u32 {
+        let count = self.means.len();
+        let (means, varis) = (self.means.as_ptr(), self.varis.as_ptr());
+        let (out, work) = (self.out.as_mut_ptr(), self.work.as_mut_ptr());
+        let mut changes = 0;
+        // Every list has `count` numbers and outlives the call.
+        let refusal = unsafe {
+            match asked {
+                Asked::Speed(speed) => {
+                    hejmirov_speed(means, count, varis, count, speed, out, count, work, count, &mut changes)
+                }
+                Asked::Length(length) => {
+                    hejmirov_fit(means, count, varis, count, length, out, count, work, count, &mut changes)
+                }
+            }
+        };
+        assert_eq!(refusal, 0);
+        changes
+    }
+
+    fn compare(&mut self, what: &str, asked: Asked) {
+        let steps = self.ours(asked);
+        let same = self.rust(asked).iter().zip(&self.out).all(|(&rust, &ours)| rust == ours as usize);
+        assert!(same, "the two differ: {what}");
+        let ours = least_time(|| {
+            black_box(self.ours(black_box(asked)));
+        });
+        let rust = least_time(|| {
+            black_box(self.rust(black_box(asked)));
+        });
+        row(&format!("{what}, {steps} steps"), rust, ours);
+    }
+}
+
+pub fn run() {
+    for count in [100, 1_000, 4_096] {
+        let mut inputs = Inputs::new();
+        let mut states = States::new(count, || (inputs.between(1.0, 12.0), inputs.between(0.5, 20.0)));
+        for speed in [1.0, 0.8, 1.25, 2.0] {
+            states.compare(&format!("{count} states, speed {speed}"), Asked::Speed(speed));
+        }
+    }
+    for count in [100, 1_000, 4_096] {
+        // Without variances rho is infinite, every estimate 1, and all frames are given by steps.
+        let mut up = States::new(count, || (1.0, 0.0));
+        up.compare(&format!("{count} states, the largest gap up"), Asked::Length(MOST_FRAMES));
+        // Means that cancel out leave rho near 0: half of the estimates are long, half are 1, and nearly all is taken again.
+        let target = count as f64 + 1.0;
+        let long = 2.0 * MOST_FRAMES / count as f64 - 2.0;
+        let short = 2.0 * target / count as f64 - long;
+        let mut next = short;
+        let mut down = States::new(count, || {
+            next = if next == long { short } else { long };
+            (next, 1.0)
+        });
+        down.compare(&format!("{count} states, the largest gap down"), Asked::Length(target));
+    }
+}

@@ -1,0 +1,72 @@
+//! Times the Rust and this library on the same inputs and prints a Markdown table. Each time is the least of several
+//! runs; both answers are compared before they are timed.
+
+mod durations;
+
+use std::time::{Duration, Instant};
+
+/// A fixed source of inputs, so that every run times the same ones.
+pub struct Inputs(u64);
+
+impl Inputs {
+    pub fn new() -> Self {
+        Self(0x9e37_79b9_7f4a_7c15)
+    }
+
+    /// A number from `low` up to `high`.
+    pub fn between(&mut self, low: f64, high: f64) -> f64 {
+        self.0 ^= self.0 << 13;
+        self.0 ^= self.0 >> 7;
+        self.0 ^= self.0 << 17;
+        low + (self.0 >> 11) as f64 / (1u64 << 53) as f64 * (high - low)
+    }
+}
+
+/// The least time of a call, from as many runs as fit a fifth of a second, three at least.
+pub fn least_time(mut call: impl FnMut()) -> Duration {
+    let begin = Instant::now();
+    let mut least = Duration::MAX;
+    let mut runs = 0;
+    while runs < 3 || begin.elapsed() < Duration::from_millis(200) {
+        let start = Instant::now();
+        call();
+        least = least.min(start.elapsed());
+        runs += 1;
+    }
+    least
+}
+
+/// One row: what was timed, the Rust's time, ours, and how many times as fast ours is.
+pub fn row(what: &str, rust: Duration, ours: Duration) {
+    let ratio = rust.as_secs_f64() / ours.as_secs_f64();
+    println!("| {what} | {} | {} | {ratio:.1} |", shown(rust), shown(ours));
+}
+
+fn shown(time: Duration) -> String {
+    let nanoseconds = time.as_nanos() as f64;
+    match nanoseconds {
+        n if n < 1e4 => format!("{n:.0} ns"),
+        n if n < 1e7 => format!("{:.1} µs", n / 1e3),
+        n => format!("{:.1} ms", n / 1e6),
+    }
+}
+
+type Group = (&'static str, fn());
+
+const GROUPS: [Group; 1] = [("durations", durations::run)];
+
+fn main() {
+    let asked: Vec<String> = std::env::args().skip(1).collect();
+    if let Some(unknown) = asked.iter().find(|name| GROUPS.iter().all(|(group, _)| group != name)) {
+        let known: Vec<&str> = GROUPS.iter().map(|(group, _)| *group).collect();
+        eprintln!("bench: no group {unknown}; there are {}", known.join(", "));
+        std::process::exit(2);
+    }
+    for (name, run) in GROUPS {
+        if asked.is_empty() || asked.iter().any(|one| one == name) {
+            println!("| {name} | Rust | Hejmirov | times as fast |\n|---|---|---|---|");
+            run();
+            println!();
+        }
+    }
+}
