@@ -12,7 +12,7 @@ fresh = record { seen = 0; differ = 0; first = 0; ended = false }
 abbrev pub oneMore : ℕ → ℕ
 oneMore n = min (n + 1) (2 ^ 64 - 1)
 
--- the tally with one vector more: only one that differs is counted as such, and only the first of these is remembered
+-- the tally with one case more: only one that differs is counted as such, and only the first of these is remembered
 unfoldable pub counted : Tally → Bool → Tally
 counted t true = record { seen = oneMore (t .seen); differ = t .differ; first = t .first; ended = t .ended }
 counted t false =
@@ -23,6 +23,6 @@ counted t false =
       ended = t .ended;
     }
 
--- the tally at the input's end
+-- the tally where no case can be read any more
 abbrev pub closed : Tally → Tally
 closed t = record { seen = t .seen; differ = t .differ; first = t .first; ended = true }

@@ -1,2 +1,4 @@
 -- What the contracts of src/ cite.
 pub mod Count
+pub mod Input
+pub mod Same

@@ -1,28 +1,38 @@
-// What programs that replay stored vectors share: reading one, the tally of those that differ, and the line that says it.
+// What programs that replay stored vectors and cases share: reading one, comparing lists, the tally of those that differ, and the line that says it.
 ghost use mathlib.Core.Path.{_≡_};
 ghost use Prim.Native.Nat.{_+_, _-_, _^_, min};
+ghost use mathlib.Core.Bool.{false};
 ghost use Rattle.replay.specs.Count.{fresh, counted, closed};
 
-// What standard input had for a vector.
-pub enum Came {
-    Whole,
-    Cut,
-    Nothing,
-}
+mod compare;
+mod input;
 
-// Fills bytes, all of a vector or a part of one, from standard input. No contract can say what is read.
-pub fn read(bytes: &mut [u8]) -> Came {
-    let got = io::read_full(libc::STDIN_FILENO, bytes);
-    if got == bytes.len() {
-        return Came::Whole;
-    }
-    if got == 0 {
-        return Came::Nothing;
-    }
-    Came::Cut
-}
+pub use compare::front_u32;
+pub use compare::same_f64;
+pub use compare::same_u32;
+pub use input::Came;
+pub use input::Float;
+pub use input::Listed;
+pub use input::Number;
+pub use input::read;
+pub use input::read_byte;
+pub use input::read_cases;
+pub use input::read_float;
+pub use input::read_floats;
+pub use input::read_number;
+pub use input::read_numbers;
+pub use input::read_pairs;
 
-// How many vectors were replayed, how many of them differ, the number of the first that does, from 1 (0 while none does), and whether the input ended.
+// What a lent output holds at entry, and still where nothing is written.
+pub const OUT: u32 = 0xa5a5_a5a5;
+
+// The same of a work space: another number, so that what is copied too far from the one into the other shows.
+pub const WORK: u32 = 0x5a5a_5a5a;
+
+// The same of an output of floats.
+pub const OUT_F64: f64 = -1e6;
+
+// How many cases were replayed, how many of them differ, the number of the first that does, from 1 (0 while none does), and whether the input ended.
 pub struct Tally {
     pub seen: u64,
     pub differ: u64,
@@ -42,7 +52,7 @@ impl Tally {
         }
     }
 
-    // One vector more, that agrees or differs.
+    // One case more, that agrees or differs.
     pub fn with(self, agrees: bool) -> Self
         ensures { λ r. ⌜ r ≡ counted self agrees ⌝ }
     {
@@ -71,7 +81,7 @@ impl Tally {
         }
     }
 
-    // No vector is left.
+    // No case can be read any more.
     pub fn at_end(self) -> Self
         ensures { λ r. ⌜ r ≡ closed self ⌝ }
     {
@@ -83,19 +93,52 @@ impl Tally {
         }
     }
 
-    // `NAME: N vectors, M differ`, and which is the first where any does. No contract can say what is written.
-    pub fn print(self, name: &[u8]) {
+    // A case that can't be read to its end differs, and none can be read after it.
+    pub fn cut(self) -> Self
+        ensures { λ r. ⌜ r ≡ closed (counted self false) ⌝ }
+    {
+        self.with(false).at_end()
+    }
+
+    // After as many cases as the file says nothing may come: if anything does, it counts as one that differs. No contract can say what is read.
+    fn past_the_last(self) -> Self {
+        if self.ended {
+            return self;
+        }
+        let mut byte = [0u8; 1];
+        let Came::Nothing = input::read(&mut byte) else {
+            return self.cut();
+        };
+        self.at_end()
+    }
+
+    // `NAME: N ITEMs, M differ`, and which is the first where any does. No contract can say what is written.
+    fn say_line(self, name: &[u8], item: &[u8]) {
         say(name);
         say(b": ");
         say_number(self.seen);
-        say(b" vectors, ");
+        say(b" ");
+        say(item);
+        say(b"s, ");
         say_number(self.differ);
         say(b" differ\n");
         if self.differ > 0 {
-            say(b"first: vector ");
+            say(b"first: ");
+            say(item);
+            say(b" ");
             say_number(self.first);
             say(b"\n");
         }
+    }
+
+    // The line of vectors that were replayed until the input ended.
+    pub fn print(self, name: &[u8]) {
+        self.say_line(name, b"vector");
+    }
+
+    // The line of a file that says at its start how many cases it has.
+    pub fn finish(self, name: &[u8]) {
+        self.past_the_last().say_line(name, b"case");
     }
 }
 

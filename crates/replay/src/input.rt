@@ -1,0 +1,142 @@
+// What a replay reads from standard input. No contract can say what is read.
+ghost use Rattle.replay.specs.Input.{Within, Front};
+
+// What standard input had for some bytes.
+pub enum Came {
+    Whole,
+    Cut,
+    Nothing,
+}
+
+// A number of 32 bits, if it came whole.
+pub enum Number {
+    Of(u32),
+    Cut,
+}
+
+// A float, if it came whole.
+pub enum Float {
+    Of(f64),
+    Cut,
+}
+
+// How long a list is, if it came whole and there is room for it.
+pub enum Listed {
+    Of(usize),
+    Cut,
+}
+
+// Fills bytes, all of a case or a part of one.
+pub fn read(bytes: &mut [u8]) -> Came {
+    let got = io::read_full(libc::STDIN_FILENO, bytes);
+    if got == bytes.len() {
+        return Came::Whole;
+    }
+    if got == 0 {
+        return Came::Nothing;
+    }
+    Came::Cut
+}
+
+// The number of four bytes at most, the least first.
+fn number_of(bytes: &[u8]) -> Number {
+    Number::Of((lists::little_endian(bytes, 0, 4) % 0x1_0000_0000) as u32)
+}
+
+pub fn read_byte() -> Number {
+    let mut bytes = [0u8; 1];
+    let Came::Whole = read(&mut bytes) else {
+        return Number::Cut;
+    };
+    number_of(&bytes)
+}
+
+pub fn read_number() -> Number {
+    let mut bytes = [0u8; 4];
+    let Came::Whole = read(&mut bytes) else {
+        return Number::Cut;
+    };
+    number_of(&bytes)
+}
+
+// How many cases a file says at its start that it has, and none where it doesn't.
+pub fn read_cases() -> u32 {
+    let Number::Of(cases) = read_number() else {
+        return 0;
+    };
+    cases
+}
+
+pub fn read_float() -> Float {
+    let mut bytes = [0u8; 8];
+    let Came::Whole = read(&mut bytes) else {
+        return Float::Cut;
+    };
+    Float::Of(floats::of_bytes(&bytes, 0))
+}
+
+// A list's count, if there is room for so many.
+fn read_count(room: usize) -> Listed
+    ensures { λ r. ⌜ Within r room ⌝ }
+{
+    let Number::Of(number) = read_number() else {
+        return Listed::Cut;
+    };
+    let n = number as usize;
+    if n > room {
+        return Listed::Cut;
+    }
+    Listed::Of(n)
+}
+
+// A list of numbers over the first of those that are lent; what is beyond stays.
+pub fn read_numbers(into: &mut [u32]) -> Listed
+    ensures { λ r. ⌜ Front r (now (into .entry)) (now (into .exit)) ⌝ }
+{
+    let Listed::Of(n) = read_count(into.len()) else {
+        return Listed::Cut;
+    };
+    let mut i = 0;
+    while i < n {
+        let Number::Of(x) = read_number() else {
+            return Listed::Cut;
+        };
+        into[i] = x;
+        i += 1;
+    }
+    Listed::Of(n)
+}
+
+// A list of floats over the first of those that are lent; what is beyond stays.
+pub fn read_floats(into: &mut [f64]) -> Listed
+    ensures { λ r. ⌜ Front r (now (into .entry)) (now (into .exit)) ⌝ }
+{
+    let Listed::Of(n) = read_count(into.len()) else {
+        return Listed::Cut;
+    };
+    let mut i = 0;
+    while i < n {
+        let Float::Of(x) = read_float() else {
+            return Listed::Cut;
+        };
+        into[i] = x;
+        i += 1;
+    }
+    Listed::Of(n)
+}
+
+// Means and as many variances, each over the first of those that are lent.
+pub fn read_pairs(means: &mut [f64], varis: &mut [f64]) -> Listed
+    ensures { λ r. ⌜ Front r (now (means .entry)) (now (means .exit)) × Front r (now (varis .entry)) (now (varis .exit)) ⌝ }
+{
+    let Listed::Of(n) = read_floats(means) else {
+        return Listed::Cut;
+    };
+    let Listed::Of(m) = read_floats(varis) else {
+        return Listed::Cut;
+    };
+    if m != n {
+        return Listed::Cut;
+    }
+    Listed::Of(n)
+}
