@@ -5,9 +5,13 @@ use Prim.Native.Nat.{ℕ}
 use lib.Ieee.{Float}
 use Rattle.duration.specs.Promise.{fitted, aligned}
 use Rattle.duration.proofs.Calls.{fit-says-one, speed-says-one, align-says-one}
+use Rattle.mlpg_adjust.specs.MaskPromise.{maskNumber, maskValues}
+use Rattle.mlpg_adjust.specs.BandPromise.{bandNumber}
+use Rattle.mlpg_adjust.proofs.MaskWays.{masked-one}
+use Rattle.mlpg_adjust.proofs.BandWays.{band-one}
 use Rattle.spool.specs.Promise.{placeNumber, placeValues, spanNumber, spanValues}
 use Rattle.spool.proofs.One.{place-one, span-one}
-use Rattle.hejmirov.specs.Promise.{handed, HandsOne, HandsTwo, FitCallSays, SpeedCallSays, AlignCallSays, PlaceCallSays, ExcerptCallSays}
+use Rattle.hejmirov.specs.Promise.{handed, HandsOne, HandsTwo, FitCallSays, SpeedCallSays, AlignCallSays, MaskCallSays, BandCallSays, PlaceCallSays, ExcerptCallSays}
 
 -- one answer gives one number and one value
 hands-one : {A : Type 0} (number : A → ℕ) (values : A → List ℕ) (a b : A) (old r s x y : ℕ) → a ≡ b → HandsOne (number a) (values a) old r x → HandsOne (number b) (values b) old s y → (r ≡ s) × (x ≡ y)
@@ -46,3 +50,16 @@ pub excerpt-call-one : (trajectory : List Float) (durations : List ℕ) (v state
     → (r ≡ s) × (x₀ ≡ y₀) × (x₁ ≡ y₁)
 excerpt-call-one trajectory durations v state first count r s x₀ x₁ y₀ y₁ f g =
     hands-two spanNumber spanValues (f .answer) (g .answer) first count r s x₀ x₁ y₀ y₁ (span-one trajectory durations v state (f .answer) (g .answer) (f .says) (g .says)) (f .gives) (g .gives)
+
+pub mask-call-one : (ws : List Float) (threshold : Float) (ds voiced left right : List ℕ) (frames r s : ℕ) (v₁ l₁ r₁ v₂ l₂ r₂ : List ℕ) (x y : ℕ)
+    → MaskCallSays ws threshold ds voiced left right frames r v₁ l₁ r₁ x → MaskCallSays ws threshold ds voiced left right frames s v₂ l₂ r₂ y → (r ≡ s) × (v₁ ≡ v₂) × (l₁ ≡ l₂) × (r₁ ≡ r₂) × (x ≡ y)
+mask-call-one ws threshold ds voiced left right frames r s v₁ l₁ r₁ v₂ l₂ r₂ x y f g =
+    let t = masked-one ws threshold ds voiced left right (f .answer) (g .answer) v₁ l₁ r₁ v₂ l₂ r₂ (f .says) (g .says) in
+    let h = hands-one maskNumber maskValues (f .answer) (g .answer) frames r s x y (t .0) (f .gives) (g .gives) in
+    (h .0, t .1, t .2, t .3, h .1)
+
+pub band-call-one : (widths : List ℕ) (coefs means ivars rows right : List Float) (r s : ℕ) (A₁ R₁ A₂ R₂ : List Float)
+    → BandCallSays widths coefs means ivars rows right r A₁ R₁ → BandCallSays widths coefs means ivars rows right s A₂ R₂ → (r ≡ s) × (A₁ ≡ A₂) × (R₁ ≡ R₂)
+band-call-one widths coefs means ivars rows right r s A₁ R₁ A₂ R₂ f g =
+    let t = band-one widths coefs means ivars rows right (f .answer) (g .answer) A₁ R₁ A₂ R₂ (f .says) (g .says) in
+    (f .gives ∙ ap bandNumber (t .0) ∙ sym (g .gives), t .1, t .2)

@@ -7,6 +7,10 @@ use lib.Ieee.{Float}
 use Rattle.duration.specs.Promise.{fitted, aligned, FitSays, SpeedSays, AlignSays}
 use Rattle.duration.specs.declared.Fitted.{Fitted}
 use Rattle.duration.specs.declared.Aligned.{Aligned}
+use Rattle.mlpg_adjust.specs.MaskPromise.{maskNumber, maskValues, MaskedDistancesSays}
+use Rattle.mlpg_adjust.specs.BandPromise.{bandNumber, BandSays}
+use Rattle.mlpg_adjust.specs.declared.mask.Masked.{Masked}
+use Rattle.mlpg_adjust.specs.declared.band.Banded.{Banded}
 use Rattle.spool.specs.Promise.{placeNumber, placeValues, spanNumber, spanValues, PlaceSays, SpanSays}
 use Rattle.spool.specs.declared.Placed.{Placed}
 use Rattle.spool.specs.declared.Span.{Span}
@@ -43,6 +47,18 @@ pub record AlignCallSays (ms vs : List Float) (nstate : ℕ) (ends : List Float)
   pub answer : Aligned
   pub says : AlignSays ms vs nstate ends out work answer out′ work′
   pub gives : HandsTwo (aligned answer .number) (aligned answer .values) written changes r written′ changes′
+
+-- `hejmirov_mask`
+pub record MaskCallSays (ws : List Float) (threshold : Float) (ds voiced left right : List ℕ) (frames r : ℕ) (voiced′ left′ right′ : List ℕ) (frames′ : ℕ) : Type 0 where
+  pub answer : Masked
+  pub says : MaskedDistancesSays ws threshold ds voiced left right answer voiced′ left′ right′
+  pub gives : HandsOne (maskNumber answer) (maskValues answer) frames r frames′
+
+-- `hejmirov_band_rows`: the frame count is the caller's own, and is not handed out
+pub record BandCallSays (widths : List ℕ) (coefs means ivars rows right : List Float) (r : ℕ) (rows′ right′ : List Float) : Type 0 where
+  pub answer : Banded
+  pub says : BandSays widths coefs means ivars rows right answer rows′ right′
+  pub gives : r ≡ bandNumber answer
 
 -- `hejmirov_place`
 pub record PlaceCallSays (frame component v place r place′ : ℕ) : Type 0 where

@@ -1,10 +1,15 @@
 // The calls for C and Rust. Each answers a refusal number, 0 for none, and gives its values through pointers, which a refusal leaves as they were.
 // A list is a pointer and a length.
+ghost use mathlib.Core.Path.{_≡_};
 ghost use Rattle.duration.specs.Promise.{fitted, aligned};
+ghost use Rattle.mlpg_adjust.specs.MaskPromise.{maskNumber, maskValues};
+ghost use Rattle.mlpg_adjust.specs.BandPromise.{bandNumber};
 ghost use Rattle.spool.specs.Promise.{placeNumber, placeValues, spanNumber, spanValues};
-ghost use Rattle.hejmirov.specs.Promise.{HandsOne, HandsTwo, FitCallSays, SpeedCallSays, AlignCallSays, PlaceCallSays, ExcerptCallSays};
+ghost use Rattle.hejmirov.specs.Promise.{HandsOne, HandsTwo, FitCallSays, SpeedCallSays, AlignCallSays, MaskCallSays, BandCallSays, PlaceCallSays, ExcerptCallSays};
 use duration::Aligned;
 use duration::Fitted;
+use mlpg_adjust::band::Banded;
+use mlpg_adjust::mask::Masked;
 use spool::Placed;
 use spool::Span;
 
@@ -87,6 +92,67 @@ fn hand_out_alignment(answer: Aligned, written: &mut u32, changes: &mut u32) -> 
             0
         }
         Aligned::Denied(number) => number as u32,
+    }
+}
+
+// Which frames are voiced, and how far each is from the ends of its run.
+#[no_mangle]
+pub extern "C" fn hejmirov_mask(
+    weights: &[f64],
+    threshold: f64,
+    durations: &[u32],
+    voiced: &mut [u32],
+    left: &mut [u32],
+    right: &mut [u32],
+    frames: &mut u32,
+) -> u32
+    ensures { λ r. ⌜ MaskCallSays (now (weights .entry)) threshold (now (durations .entry)) (now (voiced .entry)) (now (left .entry)) (now (right .entry)) (now (frames .entry)) r (now (voiced .exit)) (now (left .exit)) (now (right .exit)) (now (frames .exit)) ⌝ }
+{
+    let answer = mlpg_adjust::mask::mask_with_distances(
+        weights,
+        threshold,
+        durations,
+        voiced,
+        left,
+        right,
+    );
+    hand_out_mask(answer, frames)
+}
+
+fn hand_out_mask(answer: Masked, frames: &mut u32) -> u32
+    ensures { λ r. ⌜ HandsOne (maskNumber answer) (maskValues answer) (now (frames .entry)) r (now (frames .exit)) ⌝ }
+{
+    match answer {
+        Masked::Done(count) => {
+            *frames = count;
+            0
+        }
+        Masked::Refused(number) => number as u32,
+    }
+}
+
+// The rows of the band matrix and the right side.
+#[no_mangle]
+pub extern "C" fn hejmirov_band_rows(
+    widths: &[u32],
+    coefficients: &[f64],
+    means: &[f64],
+    ivars: &[f64],
+    rows: &mut [f64],
+    right: &mut [f64],
+) -> u32
+    ensures { λ r. ⌜ BandCallSays (now (widths .entry)) (now (coefficients .entry)) (now (means .entry)) (now (ivars .entry)) (now (rows .entry)) (now (right .entry)) r (now (rows .exit)) (now (right .exit)) ⌝ }
+{
+    let answer = mlpg_adjust::band::band_rows(widths, coefficients, means, ivars, rows, right);
+    number_of_rows(answer)
+}
+
+fn number_of_rows(answer: Banded) -> u32
+    ensures { λ r. ⌜ r ≡ bandNumber answer ⌝ }
+{
+    match answer {
+        Banded::Done(_) => 0,
+        Banded::Refused(number) => number as u32,
     }
 }
 

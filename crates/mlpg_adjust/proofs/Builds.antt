@@ -1,0 +1,41 @@
+-- Laws of lists by a rule. Assumes nothing.
+use mathlib.Core.Path.{_≡_, refl, sym, ap, _∙_}
+use mathlib.Core.List.{List, [], _∷_, _++_}
+use mathlib.Core.Logic.{⊎-elim}
+use Prim.Native.Nat.{ℕ, zero, suc, _+_, _-_, _<_, _≤_}
+use native.Mathlib.Omega.{arith}
+use lib.ListN.{length, getD, drop, length-append, length-drop, List·getD-append}
+use lib.Seq.{ext-getD, getD-at, getD-append-add, getD-drop}
+use Rattle.lists.specs.Build.{build}
+use Rattle.lists.proofs.Fills.{build-length}
+use Rattle.lists.proofs.Numbers.{le-or-lt}
+
+module _ {A : Type 0} (f : ℕ → A) where
+  pub build-at : (n j : ℕ) (z : A) → j < n → getD (build f n) j z ≡ f j
+  unfolding build
+  build-at zero j z h = absurd (omega arith)
+  build-at (suc n) j z h = ⊎-elim
+      (λ (l : n ≤ j). let e : j ≡ n = omega arith in rw e (getD-at (build f n) (f n) [] z n (build-length f n)))
+      (λ (l : j < n). List·getD-append (build f n) (f n ∷ []) z j (rw (build-length f n) l) ∙ build-at n j z l)
+      (le-or-lt n j)
+
+  -- a list with these elements
+  pub build-is : (n : ℕ) (l : List A) (z : A) → length l ≡ n → ((j : ℕ) → j < n → getD l j z ≡ f j) → l ≡ build f n
+  build-is n l z e h = ext-getD z l (build f n) (e ∙ sym (build-length f n)) (λ j b. let q : j < n = omega arith in h j q ∙ sym (build-at n j z q))
+
+  pub build-same : (g : ℕ → A) (n : ℕ) → ((j : ℕ) → j < n → f j ≡ g j) → build f n ≡ build g n
+  unfolding build
+  build-same g zero h = refl
+  build-same g (suc n) h = rw (build-same g n (λ j l. h j (omega arith)), h n (omega arith))
+
+  -- the elements from m on are there already
+  pub build-rest : (d : List A) (m : ℕ) (z : A) → m ≤ length d → ((j : ℕ) → m ≤ j → j < length d → getD d j z ≡ f j) → build f m ++ drop m d ≡ build f (length d)
+  build-rest d m z l h =
+      let front : length (build f m) ≡ m = build-length f m in
+      build-is (length d) (build f m ++ drop m d) z (simp (length-append, length-drop) (omega (arith, front)))
+      (λ j b. ⊎-elim
+      (λ (g : m ≤ j). let e : j ≡ length (build f m) + (j - m) = omega arith in
+      let p : m + (j - m) ≡ j = omega arith in
+      ap (λ (i : ℕ). getD (build f m ++ drop m d) i z) e ∙ getD-append-add (build f m) (drop m d) (j - m) z ∙ getD-drop m d (j - m) z ∙ rw p (h j g b))
+      (λ (g : j < m). List·getD-append (build f m) (drop m d) z j (omega arith) ∙ build-at m j z g)
+      (le-or-lt m j))

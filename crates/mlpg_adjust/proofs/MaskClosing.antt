@@ -1,0 +1,305 @@
+-- Closing up: what the loops over states do at each turn, and that closing up along the frames is by the distances. Assumes nothing.
+use mathlib.Core.Path.{_≡_, refl, sym, ap, _∙_}
+use mathlib.Core.Bool.{Bool, true, false}
+use mathlib.Core.List.{List, [], _∷_, _++_, append-nil, map}
+use Prim.Native.Nat.{ℕ, zero, suc, _+_, _-_, _*_, _<_, _≤_}
+use native.Mathlib.Nat.{add-sub-cancel-left}
+use native.Mathlib.Numerals.{add-one}
+use native.Mathlib.Omega.{arith}
+use borrow.Author.Tests.{le-ltb}
+use borrow.Rule.Slice.PartMut.{midOf, putMid, same-len-mid}
+use lib.ListN.{length, take, drop, getD, replicate, length-drop, length-map, length-replicate, take-append-drop, drop-of-length-le, List·getD-map}
+use lib.Seq.{sets, drop-append-add, drop-cons, drop-drop, length-take-le, take-all, take-at}
+use lib.Ieee.{Float, nan}
+use Rattle.lists.specs.Totals.{total}
+use Rattle.lists.specs.Build.{build}
+use Rattle.lists.proofs.Sums.{total-append, total-more}
+use Rattle.lists.proofs.Fills.{finished, build-length}
+use Rattle.model.specs.Pair.{ivarOf}
+use Rattle.model.specs.Weight.{voicedAt}
+use Rattle.model.specs.declared.voice.model.Weight.the-variants.{Absent}
+use Rattle.mlpg_adjust.specs.declared.mask.Voicing.{Voicing}
+use Rattle.mlpg_adjust.specs.Frames.{expand, select, count}
+use Rattle.mlpg_adjust.specs.MaskVoicing.{maskOf, weightAt, weightsOf, column}
+use Rattle.mlpg_adjust.specs.MaskBoundaries.{ahead, lefts, rights, shut, closeUp, shutAll}
+use Rattle.mlpg_adjust.proofs.MaskLaws.{build-at, expand-next, part-put, part-length, part-filled}
+use Rattle.mlpg_adjust.proofs.MaskTheory.{expand-length, lefts-length, rights-length, weights-length, weights-at}
+
+-- ---- a state's frames
+
+-- the first frame of state s
+abbrev pub frame : List ℕ → ℕ → ℕ
+frame ds s = total (take s ds)
+
+pub frame-next : (ds : List ℕ) (s : ℕ) → s < length ds → frame ds (s + 1) ≡ frame ds s + getD ds s 0
+frame-next ds s h = total-more ds s h
+
+pub total-most : (ds : List ℕ) (s : ℕ) → frame ds s ≤ total ds
+total-most ds s = omega (arith, ap total (take-append-drop s ds), total-append (take s ds) (drop s ds))
+
+module _ {A : Type 0} where
+  expand-drop : (ds : List ℕ) (xs : List A) (s : ℕ) → length xs ≡ length ds → drop (frame ds s) (expand ds xs) ≡ expand (drop s ds) (drop s xs)
+  unfolding expand total
+  expand-drop ds xs zero e = refl
+  expand-drop [] [] (suc s) e = refl
+  expand-drop [] (x ∷ xs) (suc s) e = absurd (omega arith)
+  expand-drop (d ∷ ds) [] (suc s) e = absurd (omega arith)
+  expand-drop (d ∷ ds) (x ∷ xs) (suc s) e =
+      let l : length (replicate d x) ≡ d = length-replicate d x in
+      ap (λ (n : ℕ). drop (n + total (take s ds)) (replicate d x ++ expand ds xs)) (sym l) ∙ drop-append-add (replicate d x) (expand ds xs) (total (take s ds)) ∙ expand-drop ds xs s (omega arith)
+
+  -- a state's frames all have its item
+  pub expand-at : (ds : List ℕ) (xs : List A) (s : ℕ) (z : A) → length xs ≡ length ds → s < length ds
+      → drop (frame ds s) (expand ds xs) ≡ replicate (getD ds s 0) (getD xs s z) ++ drop (frame ds (s + 1)) (expand ds xs)
+  expand-at ds xs s z e h = expand-drop ds xs s e ∙ expand-next ds xs s z h (omega arith) ∙ rw (expand-drop ds xs (s + 1) e)
+
+  pub items-at : (ds : List ℕ) (xs : List A) (s d : ℕ) (x z : A) → length xs ≡ length ds → s < length ds → d ≡ getD ds s 0 → x ≡ getD xs s z → replicate d x ≡ take d (drop (frame ds s) (expand ds xs))
+  items-at ds xs s d x z e h o q = rw (expand-at ds xs s z e h, o, q) (sym (take-at (replicate (getD ds s 0) (getD xs s z)) _ (getD ds s 0) (length-replicate (getD ds s 0) (getD xs s z))))
+
+  -- ---- frames that are voiced or unvoiced together
+
+  select-off : (d : ℕ) (bs : List Bool) (xs : List A) → d ≤ length xs → select (replicate d false ++ bs) xs ≡ select bs (drop d xs)
+  unfolding select
+  select-off zero bs xs h = refl
+  select-off (suc d) bs [] h = absurd (omega arith)
+  select-off (suc d) bs (x ∷ xs) h = select-off d bs xs (omega arith)
+
+  select-on : (d : ℕ) (bs : List Bool) (xs : List A) → d ≤ length xs → select (replicate d true ++ bs) xs ≡ take d xs ++ select bs (drop d xs)
+  unfolding select
+  select-on zero bs xs h = refl
+  select-on (suc d) bs [] h = absurd (omega arith)
+  select-on (suc d) bs (x ∷ xs) h = ap (λ (l : List A). x ∷ l) (select-on d bs xs (omega arith))
+
+pub count-off : (d : ℕ) (bs : List Bool) → count (replicate d false ++ bs) ≡ count bs
+unfolding count
+count-off zero bs = refl
+count-off (suc d) bs = count-off d bs
+
+pub count-on : (d : ℕ) (bs : List Bool) → count (replicate d true ++ bs) ≡ d + count bs
+unfolding count
+count-on zero bs = omega arith
+count-on (suc d) bs = omega (arith, count-on d bs)
+
+pub count-most : (bs : List Bool) → count bs ≤ length bs
+unfolding count
+count-most [] = omega arith
+count-most (true ∷ bs) = omega (arith, count-most bs)
+count-most (false ∷ bs) = omega (arith, count-most bs)
+
+-- ---- the voiced frames of the first s states are closed up, k of them: bs is the mask and ys the frames' items
+
+module _ {A : Type 0} where
+  pub record Closing (bs : List Bool) (ds : List ℕ) (ys old out : List A) (s k : ℕ) : Type 0 where
+    pub within : s ≤ length ds
+    pub long : length out ≡ length old
+    pub room : k + count (drop (frame ds s) bs) ≡ length old
+    pub done : take k out ++ select (drop (frame ds s) bs) (drop (frame ds s) ys) ≡ select bs ys
+
+  pub closing : (bs : List Bool) (ds : List ℕ) (ys old : List A) → length old ≡ count bs → Closing bs ds ys old old 0 0
+  unfolding total
+  closing bs ds ys old e = record { within = omega arith; long = refl; room = omega arith; done = refl }
+
+  module _ (bs : List Bool) (ds : List ℕ) (ys old out : List A) (s k : ℕ) (i : Closing bs ds ys old out s k) where
+    pub closed : length bs ≡ total ds → length ds ≤ s → out ≡ select bs ys
+    unfolding select count
+    closed e h =
+        let f : frame ds s ≡ total ds = ap total (take-all s ds h) in
+        let l : length bs ≤ frame ds s = omega arith in
+        let b : drop (frame ds s) bs ≡ [] = drop-of-length-le bs l in
+        let c : count (drop (frame ds s) bs) ≡ 0 = rw b in
+        finished out k _ _ (omega (arith, i .room, i .long)) (rw b) (i .done)
+
+    module _ (t : s < length ds) (y : length ys ≡ total ds) where
+      ends : frame ds s + getD ds s 0 ≤ length ys
+      ends = omega (arith, frame-next ds s t, total-most ds (s + 1))
+
+      rest : drop (getD ds s 0) (drop (frame ds s) ys) ≡ drop (frame ds (s + 1)) ys
+      rest = drop-drop (getD ds s 0) (frame ds s) ys ∙ rw (frame-next ds s t)
+
+      far : getD ds s 0 ≤ length (drop (frame ds s) ys)
+      far = rw length-drop (omega (arith, ends))
+
+      pub closing-off : drop (frame ds s) bs ≡ replicate (getD ds s 0) false ++ drop (frame ds (s + 1)) bs → Closing bs ds ys old out (s + 1) k
+      closing-off b =
+          record {
+            within = omega arith;
+            long = i .long;
+            room = omega (arith, i .room, ap count b, count-off (getD ds s 0) (drop (frame ds (s + 1)) bs));
+            done = rw (← rest, ← select-off (getD ds s 0) (drop (frame ds (s + 1)) bs) (drop (frame ds s) ys) far, ← b) (i .done);
+          }
+
+      module _ (b : drop (frame ds s) bs ≡ replicate (getD ds s 0) true ++ drop (frame ds (s + 1)) bs) where
+        pub closing-room : k + getD ds s 0 ≤ length out
+        closing-room = omega (arith, i .room, i .long, ap count b, count-on (getD ds s 0) (drop (frame ds (s + 1)) bs))
+
+        pub closing-on : (d : ℕ) (w : List A) → d ≡ getD ds s 0 → w ≡ take d (drop (frame ds s) ys) → Closing bs ds ys old (putMid k (k + d - k) out w) (s + 1) (k + d)
+        closing-on d w e o =
+            let r = closing-room in
+            let a : length w ≡ d = rw o (length-take-le d (drop (frame ds s) ys) (rw e far)) in
+            record {
+              within = omega arith;
+              long = same-len-mid k (k + d - k) out w (a ∙ sym (part-length out k d (omega arith))) ∙ i .long;
+              room = omega (arith, i .room, ap count b, count-on (getD ds s 0) (drop (frame ds (s + 1)) bs));
+              done = part-put out w k d _ _ (omega arith) a (rw (o, e, ← rest, ← select-on (getD ds s 0) (drop (frame ds (s + 1)) bs) (drop (frame ds s) ys) far, ← b) (i .done));
+            }
+
+  -- a state's item at its frames
+  pub closing-filled : (bs : List Bool) (ds : List ℕ) (xs old out : List A) (s k : ℕ) → Closing bs ds (expand ds xs) old out s k → s < length ds → length xs ≡ length ds
+      → drop (frame ds s) bs ≡ replicate (getD ds s 0) true ++ drop (frame ds (s + 1)) bs → (d : ℕ) (x z : A) (w : List A) → d ≡ getD ds s 0 → x ≡ getD xs s z
+      → w ≡ sets (midOf k (k + d - k) out) 0 (replicate d x) → Closing bs ds (expand ds xs) old (putMid k (k + d - k) out w) (s + 1) (k + d)
+  closing-filled bs ds xs old out s k i t e b d x z w o q r =
+      let y = expand-length ds xs e in
+      let room : k + d ≤ length out = omega (arith, closing-room bs ds (expand ds xs) old out s k i t y b) in
+      closing-on bs ds (expand ds xs) old out s k i t y b d w o (part-filled out w k d x room r ∙ items-at ds xs s d x z e t o q)
+
+-- ---- the mask of a stream
+
+module _ (u : Voicing) (records : List Float) (ds : List ℕ) where
+  abbrev pub maskBy : List Bool
+  maskBy = maskOf (u .threshold) (weightsOf (u .size) records (length ds)) ds
+
+  states-long : length (map (voicedAt (u .threshold)) (weightsOf (u .size) records (length ds))) ≡ length ds
+  states-long = simp length-map (weights-length (u .size) records (length ds))
+
+  pub mask-long : length maskBy ≡ total ds
+  unfolding maskOf
+  mask-long = expand-length ds (map (voicedAt (u .threshold)) (weightsOf (u .size) records (length ds))) states-long
+
+  -- a state's frames are voiced or unvoiced as it is
+  pub mask-state : (s : ℕ) (b : Bool) → s < length ds → voicedAt (u .threshold) (weightAt (u .size) records s) ≡ b → drop (frame ds s) maskBy ≡ replicate (getD ds s 0) b ++ drop (frame ds (s + 1)) maskBy
+  unfolding maskOf
+  mask-state s b h e =
+      let w : getD (map (voicedAt (u .threshold)) (weightsOf (u .size) records (length ds))) s (voicedAt (u .threshold) Absent) ≡ b =
+      List·getD-map (voicedAt (u .threshold)) (weightsOf (u .size) records (length ds)) s Absent ∙ ap (voicedAt (u .threshold)) (weights-at (u .size) records (length ds) s h) ∙ e in
+      expand-at ds (map (voicedAt (u .threshold)) (weightsOf (u .size) records (length ds))) s (voicedAt (u .threshold) Absent) states-long h ∙ rw w
+
+  -- and the distances are as many
+  pub lefts-long : (ls : List ℕ) → ls ≡ lefts 0 maskBy → length ls ≡ total ds
+  lefts-long ls e = ap length e ∙ lefts-length 0 maskBy ∙ mask-long
+
+  pub rights-long : (rs : List ℕ) → rs ≡ rights maskBy → length rs ≡ total ds
+  rights-long rs e = ap length e ∙ rights-length maskBy ∙ mask-long
+
+  -- ---- counting
+
+  pub record Counted (s n : ℕ) : Type 0 where
+    pub within : s ≤ length ds
+    pub left : n + count (drop (frame ds s) maskBy) ≡ count maskBy
+
+  pub counted : Counted 0 0
+  unfolding total
+  counted = record { within = omega arith; left = omega arith }
+
+  module _ (s n : ℕ) (k : Counted s n) where
+    pub counted-done : length ds ≤ s → n ≡ count maskBy
+    unfolding count
+    counted-done h =
+        let f : frame ds s ≡ total ds = ap total (take-all s ds h) in
+        let l : length maskBy ≤ frame ds s = omega (arith, mask-long) in
+        let b : drop (frame ds s) maskBy ≡ [] = drop-of-length-le maskBy l in
+        let c : count (drop (frame ds s) maskBy) ≡ 0 = rw b in
+        omega (arith, k .left)
+
+    module _ (t : s < length ds) where
+      pub counted-off : voicedAt (u .threshold) (weightAt (u .size) records s) ≡ false → Counted (s + 1) n
+      counted-off e = record { within = omega arith; left = omega (arith, k .left, ap count (mask-state s false t e), count-off (getD ds s 0) (drop (frame ds (s + 1)) maskBy)) }
+
+      module _ (e : voicedAt (u .threshold) (weightAt (u .size) records s) ≡ true) where
+        pub counted-on : (d : ℕ) → d ≡ getD ds s 0 → Counted (s + 1) (n + d)
+        counted-on d o = record { within = omega arith; left = omega (arith, k .left, ap count (mask-state s true t e), count-on (getD ds s 0) (drop (frame ds (s + 1)) maskBy)) }
+
+        pub counted-fits : n + getD ds s 0 ≤ total ds
+        counted-fits = omega (arith, k .left, ap count (mask-state s true t e), count-on (getD ds s 0) (drop (frame ds (s + 1)) maskBy), count-most maskBy, mask-long)
+
+-- ---- columns
+
+pub column-length : (size : ℕ) (records : List Float) (j n : ℕ) → length (column size records j n) ≡ n
+unfolding column
+column-length size records j n = build-length (λ s. getD records (s * size + j) nan) n
+
+pub column-at : (size : ℕ) (records : List Float) (j n s : ℕ) → s < n → getD (column size records j n) s nan ≡ getD records (s * size + j) nan
+unfolding column
+column-at size records j n s h = build-at (λ s. getD records (s * size + j) nan) n s nan h
+
+-- the inverse variances of a column
+pub ivars-length : (size : ℕ) (records : List Float) (j n : ℕ) → length (map ivarOf (column size records j n)) ≡ n
+ivars-length size records j n = simp length-map (column-length size records j n)
+
+pub ivars-at : (size : ℕ) (records : List Float) (j n s : ℕ) → s < n → getD (map ivarOf (column size records j n)) s (ivarOf nan) ≡ ivarOf (getD records (s * size + j) nan)
+ivars-at size records j n s h = List·getD-map ivarOf (column size records j n) s nan ∙ ap ivarOf (column-at size records j n s h)
+
+-- ---- the boundaries: closing up along the frames is by the distances, frame by frame
+
+pub close-select : (before after l : ℕ) (bs : List Bool) (vs : List Float) → closeUp before after l bs vs ≡ select bs (shutAll before after (lefts l bs) (rights bs) vs)
+unfolding closeUp select shutAll lefts rights
+close-select before after l [] vs = refl
+close-select before after l (true ∷ bs) [] = refl
+close-select before after l (false ∷ bs) [] = refl
+close-select before after l (true ∷ bs) (v ∷ vs) = ap (λ (r : List Float). shut before after l (ahead bs) v ∷ r) (close-select before after (suc l) bs vs)
+close-select before after l (false ∷ bs) (v ∷ vs) = close-select before after 0 bs vs
+
+-- a window that reaches no further than its own frame loses nothing: the first window's case
+pub close-first : (l : ℕ) (bs : List Bool) (vs : List Float) → closeUp 0 0 l bs vs ≡ select bs vs
+unfolding closeUp select
+close-first l [] vs = refl
+close-first l (true ∷ bs) [] = refl
+close-first l (false ∷ bs) [] = refl
+close-first l (true ∷ bs) (v ∷ vs) = rw (le-ltb l 0 (omega arith), le-ltb (ahead bs) 0 (omega arith)) (ap (λ (r : List Float). v ∷ r) (close-first (suc l) bs vs))
+close-first l (false ∷ bs) (v ∷ vs) = close-first 0 bs vs
+
+module _ (before after : ℕ) where
+  pub shut-length : (ls rs : List ℕ) (vs : List Float) → length rs ≡ length ls → length vs ≡ length ls → length (shutAll before after ls rs vs) ≡ length ls
+  unfolding shutAll
+  shut-length [] rs vs a b = refl
+  shut-length (l ∷ ls) [] vs a b = absurd (omega arith)
+  shut-length (l ∷ ls) (r ∷ rs) [] a b = absurd (omega arith)
+  shut-length (l ∷ ls) (r ∷ rs) (v ∷ vs) a b = ap suc (shut-length ls rs vs (omega arith) (omega arith))
+
+  pub shut-drop : (f : ℕ) (ls rs : List ℕ) (vs : List Float) → length rs ≡ length ls → length vs ≡ length ls → drop f (shutAll before after ls rs vs) ≡ shutAll before after (drop f ls) (drop f rs) (drop f vs)
+  unfolding shutAll
+  shut-drop zero ls rs vs a b = refl
+  shut-drop (suc f) [] rs vs a b = refl
+  shut-drop (suc f) (l ∷ ls) [] vs a b = absurd (omega arith)
+  shut-drop (suc f) (l ∷ ls) (r ∷ rs) [] a b = absurd (omega arith)
+  shut-drop (suc f) (l ∷ ls) (r ∷ rs) (v ∷ vs) a b = shut-drop f ls rs vs (omega arith) (omega arith)
+
+  pub shut-take : (d : ℕ) (ls rs : List ℕ) (vs : List Float) → length rs ≡ length ls → length vs ≡ length ls → take d (shutAll before after ls rs vs) ≡ shutAll before after (take d ls) (take d rs) (take d vs)
+  unfolding shutAll
+  shut-take zero ls rs vs a b = refl
+  shut-take (suc d) [] rs vs a b = refl
+  shut-take (suc d) (l ∷ ls) [] vs a b = absurd (omega arith)
+  shut-take (suc d) (l ∷ ls) (r ∷ rs) [] a b = absurd (omega arith)
+  shut-take (suc d) (l ∷ ls) (r ∷ rs) (v ∷ vs) a b = ap (λ (k : List Float). shut before after l r v ∷ k) (shut-take d ls rs vs (omega arith) (omega arith))
+
+  -- one state's inverse variance v, at one frame more
+  pub shut-next : (ls rs : List ℕ) (v : Float) (j n : ℕ) → j < n → j < length ls → j < length rs
+      → shutAll before after (drop j ls) (drop j rs) (replicate (n - j) v) ≡ shut before after (getD ls j 0) (getD rs j 0) v ∷ shutAll before after (drop (j + 1) ls) (drop (j + 1) rs) (replicate (n - (j + 1)) v)
+  unfolding shutAll
+  shut-next ls rs v j n h a b =
+      let z : n - j ≡ suc (n - (j + 1)) = omega arith in
+      rw (z, drop-cons ls j 0 a, drop-cons rs j 0 b, add-one)
+
+  pub shut-start : (ls rs : List ℕ) (v : Float) (n : ℕ) → shutAll before after ls rs (replicate (n - 0) v) ≡ shutAll before after ls rs (replicate n v)
+  shut-start ls rs v n = let z : n - 0 ≡ n = omega arith in rw z
+
+  pub shut-none : (ls rs : List ℕ) (vs : List Float) (j : ℕ) → length ls ≤ j → shutAll before after (drop j ls) (drop j rs) vs ≡ []
+  unfolding shutAll
+  shut-none ls rs vs j h = rw (drop-of-length-le ls h)
+
+  -- a voiced state's frames, by their distances
+  pub closing-shut : (bs : List Bool) (ds ls rs : List ℕ) (xs old out : List Float) (s k : ℕ) → Closing bs ds (shutAll before after ls rs (expand ds xs)) old out s k → s < length ds
+      → length xs ≡ length ds → length ls ≡ total ds → length rs ≡ total ds → drop (frame ds s) bs ≡ replicate (getD ds s 0) true ++ drop (frame ds (s + 1)) bs
+      → (d f : ℕ) (x z : Float) (w : List Float) → d ≡ getD ds s 0 → f ≡ frame ds s → x ≡ getD xs s z
+      → w ≡ shutAll before after (midOf f (f + d - f) ls) (midOf f (f + d - f) rs) (replicate (length (midOf k (k + d - k) out)) x)
+      → Closing bs ds (shutAll before after ls rs (expand ds xs)) old (putMid k (k + d - k) out w) (s + 1) (k + d)
+  closing-shut bs ds ls rs xs old out s k i t e a c b d f x z w o p q r =
+      let v = expand-length ds xs e in
+      let y : length (shutAll before after ls rs (expand ds xs)) ≡ total ds = shut-length ls rs (expand ds xs) (c ∙ sym a) (v ∙ sym a) ∙ a in
+      let room : k + d ≤ length out = omega (arith, closing-room bs ds _ old out s k i t y b) in
+      let m : f + d - f ≡ d = add-sub-cancel-left f d in
+      let n = part-length out k d room in
+      let g : length (drop f rs) ≡ length (drop f ls) = simp (length-drop, a, c) in
+      let h : length (drop f (expand ds xs)) ≡ length (drop f ls) = simp (length-drop, a, v) in
+      let j = items-at ds xs s d x z e t o q in
+      closing-on bs ds _ old out s k i t y b d w o
+      (r ∙ rw (m, n, j, ← p, ← shut-take d (drop f ls) (drop f rs) (drop f (expand ds xs)) g h, ← shut-drop f ls rs (expand ds xs) (c ∙ sym a) (v ∙ sym a)))

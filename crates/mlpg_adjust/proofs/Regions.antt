@@ -1,0 +1,76 @@
+-- Laws of parts of a list into which numbers are stored. Assumes nothing.
+use mathlib.Core.Path.{_≡_, refl, sym, ap, _∙_}
+use mathlib.Core.List.{List, [], _∷_, _++_, append-assoc, append-nil}
+use Prim.Native.Nat.{ℕ, zero, suc, _+_, _-_, _<_, _≤_}
+use native.Mathlib.Nat.{add-zero, add-suc, suc-add}
+use native.Mathlib.Numerals.{add-one}
+use native.Mathlib.Omega.{arith}
+use borrow.Rule.Slice.PartMut.{putMid, post-is}
+use lib.ListN.{length, getD, set, take, drop, length-drop, length-set, length-take}
+use lib.Seq.{sets, sets-eq, drop-set-add, drop-set-lt, take-set-le, take-set-lt, take-suc-set, take-append-le, drop-append-le, length-take-le, append-snoc}
+use Rattle.lists.specs.Build.{build}
+use Rattle.lists.proofs.Fills.{build-length}
+use Rattle.lists.proofs.Stores.{sets-append}
+
+module _ {A : Type 0} where
+  abbrev cut : ℕ → ℕ → List A → List A
+  cut o k l = take k (drop o l)
+
+  pub cut-length : (o k : ℕ) (l : List A) → o + k ≤ length l → length (cut o k l) ≡ k
+  cut-length o k l h = length-take-le k (drop o l) (simp length-drop (omega arith))
+
+  -- a part of the front
+  pub part-front : (a b : List A) (o k : ℕ) → o + k ≤ length a → cut o k (a ++ b) ≡ cut o k a
+  part-front a b o k h =
+      let i : k ≤ length (drop o a) = simp length-drop (omega arith) in
+      rw (drop-append-le o a b (omega arith), take-append-le k (drop o a) b i)
+
+  -- a store within a part
+  pub stored-within : (l : List A) (o k i : ℕ) (v : A) → i < k → cut o k (set l (o + i) v) ≡ set (cut o k l) i v
+  stored-within l o k i v h = rw (drop-set-add o l i v, take-set-lt k (drop o l) i v h)
+
+  -- a store behind a part, and one before it
+  under : (o k i : ℕ) (l : List A) (v : A) → o + k ≤ i → cut o k (set l i v) ≡ cut o k l
+  under o k i l v h =
+      let e : i ≡ o + (i - o) = omega arith in
+      ap (λ (j : ℕ). cut o k (set l j v)) e ∙ rw (drop-set-add o l (i - o) v) (take-set-le k (drop o l) (i - o) v (omega arith))
+
+  beyond : (o k i : ℕ) (l : List A) (v : A) → i < o → cut o k (set l i v) ≡ cut o k l
+  beyond o k i l v h = rw (drop-set-lt o l i v h)
+
+  -- stores behind a part leave it as it was, and so do stores before it
+  pub stored-behind : (vs l : List A) (o k i : ℕ) → o + k ≤ i → cut o k (sets l i vs) ≡ cut o k l
+  stored-behind [] l o k i h = refl
+  stored-behind (v ∷ vs) l o k i h = stored-behind vs (set l i v) o k (suc i) (omega arith) ∙ under o k i l v h
+
+  pub stored-before : (vs l : List A) (o k i : ℕ) → i + length vs ≤ o → cut o k (sets l i vs) ≡ cut o k l
+  stored-before [] l o k i h = refl
+  stored-before (v ∷ vs) l o k i h = stored-before vs (set l i v) o k (suc i) (omega arith) ∙ beyond o k i l v (omega arith)
+
+  -- stores at a part's end make it longer
+  pub stored-at : (vs l : List A) (o k i j : ℕ) → o + k ≡ i → k + length vs ≡ j → i + length vs ≤ length l → cut o j (sets l i vs) ≡ cut o k l ++ vs
+  stored-at [] l o k i j e f h = let z : j ≡ k = omega arith in rw z (sym (append-nil (cut o k l)))
+  stored-at (v ∷ vs) l o k i j e f h =
+      let b : k < length (drop o l) = simp length-drop (omega arith) in
+      stored-at vs (set l i v) o (suc k) (suc i) j (omega arith) (omega arith) (rw length-set (omega arith))
+      ∙ rw (← e, drop-set-add o l k v, take-suc-set (drop o l) k v b) (append-snoc (cut o k l) v vs)
+
+  -- a whole part is stored
+  pub stored-whole : (vs l : List A) (o k : ℕ) → length vs ≡ k → o + k ≤ length l → cut o k (sets l o vs) ≡ vs
+  stored-whole vs l o k e h = stored-at vs l o 0 o k (omega arith) (omega arith) (omega arith)
+
+  -- one more number by a rule
+  pub stored-rule : (f : ℕ → A) (d g : List A) (e t : ℕ) (v : A) → v ≡ f t → g ≡ sets d e (build f t) → set g (e + t) v ≡ sets d e (build f (t + 1))
+  unfolding build
+  stored-rule f d g e t v o h = rw (h, o, add-one, sets-append (build f t) (f t ∷ []) d e, build-length f t)
+
+  -- a part that was lent comes back
+  pub returned : (a e : ℕ) (l x : List A) → a ≤ e → e ≤ length l → length x ≡ e - a → putMid a (e - a) l x ≡ sets l a x
+  returned a e l x h g k =
+      let z : a + length x ≡ e = omega arith in
+      sym (sets-eq x l a (omega arith) ∙ rw (z, post-is a e l h, append-assoc))
+
+  pub build-first : (f : ℕ → A) (n : ℕ) → build f (suc n) ≡ f 0 ∷ build (λ i. f (suc i)) n
+  unfolding build
+  build-first f zero = refl
+  build-first f (suc n) = ap (λ (l : List A). l ++ (f (suc n) ∷ [])) (build-first f n)

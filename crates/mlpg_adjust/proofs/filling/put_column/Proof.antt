@@ -1,0 +1,82 @@
+-- `mlpg_adjust::filling::put_column` meets its contract. Assumes nothing.
+use mathlib.Core.Path.{_≡_, refl, ap, _∙_}
+use Prim.Native.Nat.{_+_, _-_, _*_, _<_, _≤_}
+use native.Mathlib.Nat.{zero-mul}
+use native.Mathlib.Omega.{arith}
+use lib.ListN.{length, drop}
+use Rattle.mlpg_adjust.specs.Frames.{setsBy}
+use Rattle.mlpg_adjust.proofs.MaskFilling.{column-next, column-in, put-next, put-done}
+use borrow.Author.Needs.{needs}
+use Rattle.mlpg_adjust.proofs.filling.put_column.Statement.{statement}
+use Rattle.mlpg_adjust.proofs.filling.put_column.Tie as tie
+
+abbrev Inv-loop : tie.InvT-loop
+Inv-loop values v p out₀ j₀ q₀ out j q = (j ≤ length values) × (q ≡ p + j * v) × (length out ≡ length out₀) × (setsBy v q (drop j values) out ≡ setsBy v p values out₀)
+
+abbrev μ-loop : tie.MeasureT-loop
+μ-loop values v p out₀ j₀ q₀ out j q = length values - j
+
+here : (c : tie.After-handed-out Inv-loop μ-loop) → c .before .before .before .loop .q < length (c .before .before .before .loop .out)
+here c = column-in (c .before .before .before .before .before .before .args .p) _ _ (length (c .before .before .before .before .before .before .args .values .now)) (c .before .before .before .before .before .before .args .v) _ (c .before .before .before .loop .inv .1) (c .before .before .loop-test .taken) (omega (arith, c .before .before .before .before .before .before .pre .1, c .before .before .before .loop .inv .2))
+
+loop-holds : tie.Need-loop-holds Inv-loop μ-loop
+loop-holds c = (search needs, omega (arith, zero-mul (c .before .before .args .v)), refl, refl)
+
+mul-handed-out : tie.Need-mul-handed-out Inv-loop μ-loop
+mul-handed-out c = search needs
+
+shared-slice-read-handed-out : tie.Need-shared-slice-read-handed-out Inv-loop μ-loop
+shared-slice-read-handed-out c = search needs
+
+handed-out-requires : tie.Need-handed-out-requires Inv-loop μ-loop
+handed-out-requires c κs = search needs
+
+mul-out : tie.Need-mul-out Inv-loop μ-loop
+mul-out c = record { fits = omega (arith, here c) }
+
+slice-write-out : tie.Need-slice-write-out Inv-loop μ-loop
+slice-write-out c = here c
+
+add-q : tie.Need-add-q Inv-loop μ-loop
+add-q c = omega (arith, here c, c .before .before .before .before .before .before .pre .0)
+
+add-j : tie.Need-add-j Inv-loop μ-loop
+add-j c = search needs
+
+loop-less : tie.Need-loop-less Inv-loop μ-loop
+loop-less c = search needs
+
+loop-again : tie.Need-loop-again Inv-loop μ-loop
+loop-again c =
+    let l = c .before .before .before .loop in
+    let s = c .before .before .before .before .before .before .args in (
+      search needs,
+      column-next (s .p) (l .q) (l .j) (s .v) (l .inv .1),
+      search needs,
+      rw (c .handed-out .ensures) (put-next (s .v) (l .q) (l .j) (s .values .now) (l .out) _ _ (c .before .before .loop-test .taken) (l .inv .3)),
+    )
+
+same-length : tie.Need-same-length Inv-loop μ-loop
+same-length c = c .before .loop .inv .2
+
+returns : tie.Need-returns Inv-loop μ-loop
+returns c = put-done _ _ _ _ _ _ (c .loop-test .left) (c .before .loop .inv .3)
+
+pub put-column-spec : {M : Type 1} → statement M
+put-column-spec =
+    tie.close
+    (tie.spec
+    Inv-loop
+    μ-loop
+    loop-holds
+    mul-handed-out
+    shared-slice-read-handed-out
+    handed-out-requires
+    mul-out
+    slice-write-out
+    add-q
+    add-j
+    loop-less
+    loop-again
+    same-length
+    returns)

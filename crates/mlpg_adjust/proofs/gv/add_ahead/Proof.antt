@@ -1,0 +1,33 @@
+-- `mlpg_adjust::gv::add_ahead` meets its contract. Assumes nothing.
+use Prim.Native.Nat.{_+_}
+use native.Mathlib.Omega.{arith}
+use borrow.Author.Tests.{lt-ltb, le-ltb}
+use lib.ListN.{length}
+use Rattle.lists.proofs.Rows.{row-fits}
+use Rattle.mlpg_adjust.specs.Gv.{ahead}
+use borrow.Author.Needs.{needs}
+use Rattle.mlpg_adjust.proofs.gv.add_ahead.Statement.{statement}
+use Rattle.mlpg_adjust.proofs.gv.add_ahead.Tie as tie
+
+add-if1 : tie.Need-add-if1
+add-if1 c = search needs
+
+at-requires : tie.Need-at-requires
+at-requires c κs = let s = c .before .before .before .args in omega (arith, row-fits (s .w) (s .t) (length (s .par .now)) (omega arith))
+
+add-el : tie.Need-add-el
+add-el c = search needs
+
+el-requires : tie.Need-el-requires
+el-requires c κs = search needs
+
+returns : tie.Need-returns
+unfolding ahead
+returns c = let s = c .before .before .before .before .before .args in rw (c .before .at .ensures, c .el .ensures, lt-ltb (s .t + s .i) (length (s .par .now)) (c .before .before .if1 .taken))
+
+returns-2 : tie.Need-returns-2
+unfolding ahead
+returns-2 c = let s = c .before .before .before .args in rw (le-ltb (s .t + s .i) (length (s .par .now)) (c .if1 .left))
+
+pub add-ahead-spec : {M : Type 1} → statement M
+add-ahead-spec = tie.close (tie.spec add-if1 at-requires add-el el-requires returns returns-2)

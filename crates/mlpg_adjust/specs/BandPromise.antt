@@ -1,0 +1,63 @@
+-- What the call of the band rows promises. Assumes nothing.
+use mathlib.Core.Path.{_≡_}
+use mathlib.Core.Bool.{cond}
+use mathlib.Core.List.{List, [], _∷_, _++_}
+use Prim.Native.Nat.{ℕ, zero, suc, _*_, _/_, _%_}
+use lib.ListN.{length, drop}
+use lib.Dec.{ltb, eqb}
+use lib.Ieee.{Float}
+use Rattle.lists.specs.Refusals.{orElse}
+use Rattle.model.specs.Windows.{windowRefusal, bandWidth}
+use Rattle.mlpg_adjust.specs.Paper.{bandRows, rightSide}
+use Rattle.mlpg_adjust.specs.declared.band.Banded.{Banded}
+use Rattle.mlpg_adjust.specs.declared.band.Banded.the-variants.{Done, Refused}
+
+-- 01's number of each answer, 0 for none
+abbrev pub bandNumber : Banded → ℕ
+bandNumber (Done n) = 0
+bandNumber (Refused k) = k
+
+-- and its values: the frame count, of an accepted call alone
+abbrev pub bandValues : Banded → List ℕ
+bandValues (Done n) = n ∷ []
+bandValues (Refused k) = []
+
+-- the answer of a number, with n frames where nothing is refused
+abbrev pub bandAnswer : ℕ → ℕ → Banded
+bandAnswer zero n = Done n
+bandAnswer (suc k) n = Refused (suc k)
+
+-- what an accepted call gives, and a refused one doesn't
+abbrev pub unlessRefused : ℕ → List ℕ → List ℕ
+unlessRefused zero xs = xs
+unlessRefused (suc k) xs = []
+
+-- a lent list at exit: new in front, and untouched by a refused call and beyond
+abbrev pub atExit : ℕ → List Float → List Float → List Float
+atExit zero new old = new ++ drop (length new) old
+atExit (suc k) new old = old
+
+-- a number a window and frame: means / windows frames
+abbrev pub framesOf : List ℕ → ℕ → ℕ
+framesOf widths means = means / length widths
+
+-- 01, Refusal numbers: 1, 2 and 4 of the windows; 4 for a remainder, and for another number of inverse variances; 5 for more than 65,536 frames
+unfoldable pub setRefusal : List ℕ → List Float → ℕ → ℕ → ℕ
+unfolding windowRefusal
+setRefusal widths coefs means ivars =
+    orElse (windowRefusal widths coefs)
+    (orElse (cond (eqb (means % length widths) 0) 0 4) (orElse (cond (eqb ivars means) 0 4) (cond (ltb 65536 (framesOf widths means)) 5 0)))
+
+-- the smallest number that applies: then 6 for rows or a right side that is too short
+unfoldable pub bandRefusal : List ℕ → List Float → List Float → List Float → List Float → List Float → ℕ
+unfolding setRefusal
+bandRefusal widths coefs means ivars rows right =
+    let n = framesOf widths (length means) in
+    orElse (setRefusal widths coefs (length means) (length ivars)) (orElse (cond (ltb (length rows) (n * bandWidth widths)) 6 0) (cond (ltb (length right) n) 6 0))
+
+-- the frame count, the rows and the right side
+pub record BandSays (widths : List ℕ) (coefs means ivars rows right : List Float) (r : Banded) (rows′ right′ : List Float) : Type 0 where
+  pub number : bandNumber r ≡ bandRefusal widths coefs means ivars rows right
+  pub values : bandValues r ≡ unlessRefused (bandRefusal widths coefs means ivars rows right) (framesOf widths (length means) ∷ [])
+  pub matrix : rows′ ≡ atExit (bandRefusal widths coefs means ivars rows right) (bandRows widths coefs (framesOf widths (length means)) ivars (bandWidth widths)) rows
+  pub side : right′ ≡ atExit (bandRefusal widths coefs means ivars rows right) (rightSide widths coefs (framesOf widths (length means)) ivars means) right

@@ -1,0 +1,19 @@
+-- What the contracts of src/ cite.
+pub mod Frames
+pub mod MaskVoicing
+pub mod MaskBoundaries
+pub mod MaskWindows
+pub mod MaskPromise
+pub mod MaskCases
+pub mod Sums
+pub mod Rows
+pub mod Paper
+pub mod Solve
+pub mod Inner
+pub mod Region
+pub mod Gv
+pub mod Parmgen
+pub mod GvInner
+pub mod BandPromise
+pub mod BandCases
+pub mod GvCases

@@ -1,0 +1,43 @@
+-- Worked cases of masks, distances and boundaries, computed from the definitions. Assumes nothing.
+use mathlib.Core.Path.{_≡_, refl}
+use mathlib.Core.Bool.{Bool, true, false}
+use mathlib.Core.List.{List, [], _∷_}
+use Prim.Native.Nat.{ℕ}
+use lib.IntN.{pos}
+use lib.Ieee.{Float, nan, fin, binary64, ofBits, lt}
+use Rattle.model.specs.declared.voice.model.Weight.the-variants.{Given}
+use Rattle.mlpg_adjust.specs.Frames.{expand, select, fill}
+use Rattle.mlpg_adjust.specs.MaskVoicing.{maskOf}
+use Rattle.mlpg_adjust.specs.MaskBoundaries.{ahead, lefts, rights, closeUp}
+
+-- a run of three, a gap, a run of one
+abbrev runs : List Bool
+runs = true ∷ true ∷ true ∷ false ∷ true ∷ []
+
+pub left-distances : lefts 0 runs ≡ 0 ∷ 1 ∷ 2 ∷ 0 ∷ 0 ∷ []
+unfolding lefts
+left-distances = refl
+
+pub right-distances : rights runs ≡ 2 ∷ 1 ∷ 0 ∷ 0 ∷ 0 ∷ []
+unfolding rights ahead
+right-distances = refl
+
+abbrev one : Float
+one = fin false 1 (pos 0)
+
+abbrev nought : Float
+nought = fin false 0 (pos 0)
+
+-- at the threshold and NaN are unvoiced, a state of no frames has no part
+pub frames : maskOf nought (Given one ∷ Given nought ∷ Given one ∷ Given nan ∷ []) (2 ∷ 1 ∷ 0 ∷ 1 ∷ []) ≡ true ∷ true ∷ false ∷ false ∷ []
+unfolding maskOf expand lt
+frames = refl
+
+-- 01, case 10: a window of three over three voiced frames loses its first and its last
+pub case-10-boundaries : closeUp 1 1 0 (true ∷ true ∷ true ∷ []) (one ∷ one ∷ one ∷ []) ≡ nought ∷ one ∷ nought ∷ []
+unfolding closeUp ahead ofBits
+case-10-boundaries = refl
+
+pub filled-back : fill nought runs (one ∷ one ∷ one ∷ one ∷ []) ≡ one ∷ one ∷ one ∷ nought ∷ one ∷ []
+unfolding fill
+filled-back = refl

@@ -1,0 +1,86 @@
+-- What the calls of the mask promise. Assumes nothing.
+use mathlib.Core.Path.{_≡_}
+use mathlib.Core.Bool.{Bool, cond, not}
+use mathlib.Core.List.{List, [], _∷_, _++_, map}
+use Prim.Native.Nat.{ℕ, zero, suc}
+use lib.ListN.{length, drop}
+use lib.Dec.{ltb, eqb}
+use lib.Ieee.{Float}
+use Rattle.lists.specs.Totals.{total}
+use Rattle.lists.specs.Refusals.{orElse}
+use Rattle.model.specs.declared.voice.model.Weight.the-variants.{Given}
+use Rattle.mlpg_adjust.specs.MaskVoicing.{flag, isOn, maskOf}
+use Rattle.mlpg_adjust.specs.MaskBoundaries.{lefts, rights}
+use Rattle.mlpg_adjust.specs.declared.mask.Masked.{Masked}
+use Rattle.mlpg_adjust.specs.declared.mask.Masked.the-variants.{Done, Refused}
+
+-- 01's number of each answer, 0 for none
+abbrev pub maskNumber : Masked → ℕ
+maskNumber (Done n) = 0
+maskNumber (Refused k) = k
+
+-- and its values: the frame count, of an accepted call alone
+abbrev pub maskValues : Masked → List ℕ
+maskValues (Done n) = n ∷ []
+maskValues (Refused k) = []
+
+-- the answer of a number, with n frames where nothing is refused
+abbrev pub answerOf : ℕ → ℕ → Masked
+answerOf zero n = Done n
+answerOf (suc k) n = Refused (suc k)
+
+-- what an accepted call gives, and a refused one doesn't
+abbrev pub unless : ℕ → List ℕ → List ℕ
+unless zero xs = xs
+unless (suc k) xs = []
+
+-- a lent list at exit: new in front, and untouched by a refused call and beyond
+abbrev pub leaves : ℕ → List ℕ → List ℕ → List ℕ
+leaves zero new old = new ++ drop (length new) old
+leaves (suc k) new old = old
+
+-- 01, Refusal numbers: 5 for a total above 65,536
+abbrev pub tooMany : ℕ → ℕ
+tooMany frames = cond (ltb 65536 frames) 5 0
+
+-- 01, Refusal numbers: 6 for an output that is too short
+abbrev pub tooShort : ℕ → List ℕ → ℕ
+tooShort frames out = cond (ltb (length out) frames) 6 0
+
+-- 01, Refusal numbers: 3 for too many states, 4 for lists that disagree, 5
+unfoldable pub framesRefusal : ℕ → List ℕ → ℕ
+framesRefusal weights ds = cond (ltb 4096 (length ds)) 3 (cond (not (eqb weights (length ds))) 4 (tooMany (total ds)))
+
+-- the smallest number that applies to `mask`
+abbrev pub maskRefusal : List Float → List ℕ → List ℕ → ℕ
+maskRefusal ws ds voiced = orElse (framesRefusal (length ws) ds) (tooShort (total ds) voiced)
+
+-- to `boundary_distances`
+abbrev pub distancesRefusal : ℕ → List ℕ → List ℕ → ℕ
+distancesRefusal frames left right = orElse (tooMany frames) (orElse (tooShort frames left) (tooShort frames right))
+
+-- and to both in one call
+abbrev pub maskedDistancesRefusal : List Float → List ℕ → List ℕ → List ℕ → List ℕ → ℕ
+maskedDistancesRefusal ws ds voiced left right =
+    orElse (framesRefusal (length ws) ds) (orElse (tooShort (total ds) voiced) (orElse (tooShort (total ds) left) (tooShort (total ds) right)))
+
+-- `mask`: the frame count, and the flags
+pub record MaskSays (ws : List Float) (threshold : Float) (ds voiced : List ℕ) (r : Masked) (voiced′ : List ℕ) : Type 0 where
+  pub number : maskNumber r ≡ maskRefusal ws ds voiced
+  pub values : maskValues r ≡ unless (maskRefusal ws ds voiced) (total ds ∷ [])
+  pub flags : voiced′ ≡ leaves (maskRefusal ws ds voiced) (map flag (maskOf threshold (map Given ws) ds)) voiced
+
+-- `boundary_distances`: the frame count, and the distances of any flags
+pub record DistancesSays (voiced left right : List ℕ) (r : Masked) (left′ right′ : List ℕ) : Type 0 where
+  pub number : maskNumber r ≡ distancesRefusal (length voiced) left right
+  pub values : maskValues r ≡ unless (distancesRefusal (length voiced) left right) (length voiced ∷ [])
+  pub before : left′ ≡ leaves (distancesRefusal (length voiced) left right) (lefts 0 (map isOn voiced)) left
+  pub after : right′ ≡ leaves (distancesRefusal (length voiced) left right) (rights (map isOn voiced)) right
+
+-- `mask_with_distances`: the frame count, the flags and the mask's distances
+pub record MaskedDistancesSays (ws : List Float) (threshold : Float) (ds voiced left right : List ℕ) (r : Masked) (voiced′ left′ right′ : List ℕ) : Type 0 where
+  pub number : maskNumber r ≡ maskedDistancesRefusal ws ds voiced left right
+  pub values : maskValues r ≡ unless (maskedDistancesRefusal ws ds voiced left right) (total ds ∷ [])
+  pub flags : voiced′ ≡ leaves (maskedDistancesRefusal ws ds voiced left right) (map flag (maskOf threshold (map Given ws) ds)) voiced
+  pub before : left′ ≡ leaves (maskedDistancesRefusal ws ds voiced left right) (lefts 0 (maskOf threshold (map Given ws) ds)) left
+  pub after : right′ ≡ leaves (maskedDistancesRefusal ws ds voiced left right) (rights (maskOf threshold (map Given ws) ds)) right

@@ -1,0 +1,144 @@
+// The band rows and the right side as a call of their own.
+ghost use mathlib.Core.Path.{_≡_};
+ghost use Prim.Native.Nat.{_*_, _/_, _<_};
+ghost use lib.ListN.{length};
+ghost use Rattle.lists.specs.Build.{build};
+ghost use Rattle.mlpg_adjust.specs.Paper.{rightSum, entryOf, bandRows, rightSide};
+ghost use Rattle.mlpg_adjust.specs.Inner.{Fits};
+ghost use Rattle.mlpg_adjust.specs.BandPromise.{bandAnswer, framesOf, setRefusal, BandSays};
+use super::mlpg::band_row;
+
+// How many frames there are, or 01's number of why not.
+pub enum Banded {
+    Done(u32),
+    Refused(u8),
+}
+
+fn wide(x: u32) -> usize
+    ensures { λ r. ⌜ r ≡ x ⌝ }
+{
+    x as usize
+}
+
+// x: a NaN that is handed out has the bits 0x7FF8000000000000.
+fn plain(x: f64) -> f64
+    ensures { λ r. ⌜ r ≡ x ⌝ }
+{
+    if x != x {
+        return 0.0 / 0.0;
+    }
+    x
+}
+
+fn settle(row: &mut [f64])
+    ensures { λ _. ⌜ now (row .exit) ≡ now (row .entry) ⌝ }
+{
+    let mut j = 0;
+    while j < row.len() {
+        row[j] = plain(row[j]);
+        j += 1;
+    }
+}
+
+// Row t and the right side at t, to be handed out.
+fn settled_row(
+    widths: &[u32],
+    coefficients: &[f64],
+    ivars: &[f64],
+    means: &[f64],
+    n: usize,
+    t: usize,
+    row: &mut [f64],
+) -> f64
+    requires { ⌜ (t < n) × Fits (now widths) (now coefficients) n (now ivars) (now means) (length (now row)) ⌝ }
+    ensures { λ x. ⌜ (now (row .exit) ≡ build (entryOf (now (widths .entry)) (now (coefficients .entry)) n (now (ivars .entry)) t) (length (now (row .entry))))
+        × (x ≡ rightSum (now (widths .entry)) (now (coefficients .entry)) n (now (ivars .entry)) (now (means .entry)) t) ⌝ }
+{
+    let x = band_row(widths, coefficients, ivars, means, n, t, row);
+    settle(row);
+    plain(x)
+}
+
+fn write_rows(
+    widths: &[u32],
+    coefficients: &[f64],
+    means: &[f64],
+    ivars: &[f64],
+    n: usize,
+    w: usize,
+    rows: &mut [f64],
+    right: &mut [f64],
+)
+    requires { ⌜ Fits (now widths) (now coefficients) n (now ivars) (now means) w × (length (now rows) ≡ n * w) × (length (now right) ≡ n) ⌝ }
+    ensures { λ _. ⌜ (now (rows .exit) ≡ bandRows (now (widths .entry)) (now (coefficients .entry)) n (now (ivars .entry)) w)
+        × (now (right .exit) ≡ rightSide (now (widths .entry)) (now (coefficients .entry)) n (now (ivars .entry)) (now (means .entry))) ⌝ }
+{
+    let mut t = 0;
+    let mut b = 0;
+    while t < n {
+        let e = b + w;
+        let x = settled_row(widths, coefficients, ivars, means, n, t, &mut rows[b..e]);
+        right[t] = x;
+        b = e;
+        t += 1;
+    }
+}
+
+// How many frames the lists have, or 01's number of why they are refused.
+fn frames_of(widths: &[u32], coefficients: &[f64], means: usize, ivars: usize) -> Banded
+    ensures { λ r. ⌜ r ≡ bandAnswer (setRefusal (now (widths .entry)) (now (coefficients .entry)) means ivars) (framesOf (now (widths .entry)) means) ⌝ }
+{
+    let refused = model::voice::window::refusal(widths, coefficients);
+    if refused != 0 {
+        return Banded::Refused(refused);
+    }
+    let windows = widths.len();
+    if means % windows != 0 {
+        return Banded::Refused(4);
+    }
+    if ivars != means {
+        return Banded::Refused(4);
+    }
+    let n = means / windows;
+    if 65_536 < n {
+        return Banded::Refused(5);
+    }
+    Banded::Done(n as u32)
+}
+
+// The rows of the band and the right side of means / windows frames; means and inverse variances are window after window.
+pub fn band_rows(
+    widths: &[u32],
+    coefficients: &[f64],
+    means: &[f64],
+    ivars: &[f64],
+    rows: &mut [f64],
+    right: &mut [f64],
+) -> Banded
+    ensures { λ r. ⌜ BandSays (now (widths .entry)) (now (coefficients .entry)) (now (means .entry)) (now (ivars .entry)) (now (rows .entry)) (now (right .entry)) r (now (rows .exit)) (now (right .exit)) ⌝ }
+{
+    let framed = frames_of(widths, coefficients, means.len(), ivars.len());
+    let Banded::Done(frames) = framed else {
+        return framed;
+    };
+    let n = wide(frames);
+    let w = model::voice::window::band_width(widths);
+    let k = n * w;
+    if rows.len() < k {
+        return Banded::Refused(6);
+    }
+    if right.len() < n {
+        return Banded::Refused(6);
+    }
+    write_rows(
+        widths,
+        coefficients,
+        means,
+        ivars,
+        n,
+        w,
+        &mut rows[..k],
+        &mut right[..n],
+    );
+    framed
+}

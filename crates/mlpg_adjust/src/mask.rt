@@ -1,0 +1,230 @@
+// Which frames are voiced, and how far each voiced frame stands from the ends of its run.
+ghost use mathlib.Core.Path.{_≡_};
+ghost use mathlib.Core.List.{map};
+ghost use Prim.Native.Nat.{_+_, _*_, _≤_, _<_};
+ghost use lib.ListN.{length};
+ghost use Rattle.lists.specs.Totals.{total};
+ghost use Rattle.model.specs.declared.voice.model.Weight.the-variants.{Given};
+ghost use Rattle.model.specs.Weight.{voicedAt};
+ghost use Rattle.mlpg_adjust.specs.MaskVoicing.{flag, isOn, maskOf, weightAt, weightsOf};
+ghost use Rattle.mlpg_adjust.specs.MaskBoundaries.{lefts, rights};
+ghost use Rattle.mlpg_adjust.specs.MaskPromise.{answerOf, framesRefusal, MaskSays, DistancesSays, MaskedDistancesSays};
+use model::voice::model::msd;
+
+// How many frames there are, or 01's number of why not.
+pub enum Masked {
+    Done(u32),
+    Refused(u8),
+}
+
+fn wide(x: u32) -> usize
+    ensures { λ r. ⌜ r ≡ x ⌝ }
+{
+    x as usize
+}
+
+// How states are voiced: by the weights of their records, of `size` numbers each.
+pub(crate) struct Voicing {
+    pub(crate) size: usize,
+    pub(crate) threshold: f64,
+}
+
+// Whether a state is voiced.
+pub(crate) fn voiced_at(records: &[f64], u: Voicing, s: usize) -> bool
+    requires { ⌜ s * u .size + u .size ≤ length (now records) ⌝ }
+    ensures { λ r. ⌜ r ≡ voicedAt (u .threshold) (weightAt (u .size) (now (records .entry)) s) ⌝ }
+{
+    let size = u.size;
+    let from = s * size;
+    let to = from + size;
+    let weight = msd(&records[from..to]);
+    weight.voiced(u.threshold)
+}
+
+// 1 for yes, and 0 for no.
+fn flag_of(yes: bool) -> u32
+    ensures { λ r. ⌜ r ≡ flag yes ⌝ }
+{
+    if yes { 1 } else { 0 }
+}
+
+// `Mask::create`: each state's flag once for each of its frames.
+pub(crate) fn mark_states(records: &[f64], u: Voicing, durations: &[u32], out: &mut [u32])
+    requires { ⌜ (length (now durations) * u .size ≤ length (now records)) × (total (now durations) ≡ length (now out)) ⌝ }
+    ensures { λ _. ⌜ now (out .exit) ≡ map flag (maskOf (u .threshold) (weightsOf (u .size) (now (records .entry)) (length (now (durations .entry)))) (now (durations .entry))) ⌝ }
+{
+    let mut s = 0;
+    let mut f = 0;
+    while s < durations.len() {
+        let d = wide(durations[s]);
+        let e = f + d;
+        let x = flag_of(voiced_at(records, u, s));
+        lists::fill_u32(&mut out[f..e], d, x);
+        f = e;
+        s += 1;
+    }
+}
+
+// The same of states that have a weight alone.
+fn mark_frames(weights: &[f64], threshold: f64, durations: &[u32], out: &mut [u32])
+    requires { ⌜ (length (now weights) ≡ length (now durations)) × (total (now durations) ≡ length (now out)) ⌝ }
+    ensures { λ _. ⌜ now (out .exit) ≡ map flag (maskOf threshold (map Given (now (weights .entry))) (now (durations .entry))) ⌝ }
+{
+    let u = Voicing { size: 1, threshold };
+    mark_states(weights, u, durations, out);
+}
+
+// Flags become left distances. An unvoiced frame's 0 stays.
+fn left_distances(marks: &mut [u32])
+    requires { ⌜ length (now marks) ≤ 65536 ⌝ }
+    ensures { λ _. ⌜ now (marks .exit) ≡ lefts 0 (map isOn (now (marks .entry))) ⌝ }
+{
+    let mut before = 0;
+    let mut f = 0;
+    while f < marks.len() {
+        if marks[f] == 0 {
+            before = 0;
+            f += 1;
+        } else {
+            marks[f] = before;
+            before += 1;
+            f += 1;
+        }
+    }
+}
+
+// Flags become right distances, from the last frame to the first.
+fn right_distances(marks: &mut [u32])
+    requires { ⌜ length (now marks) ≤ 65536 ⌝ }
+    ensures { λ _. ⌜ now (marks .exit) ≡ rights (map isOn (now (marks .entry))) ⌝ }
+{
+    let mut after = 0;
+    let mut f = marks.len();
+    while 0 < f {
+        f -= 1;
+        if marks[f] == 0 {
+            after = 0;
+        } else {
+            marks[f] = after;
+            after += 1;
+        }
+    }
+}
+
+// Left and right distances of the flags, which stay.
+fn distances(flags: &[u32], left: &mut [u32], right: &mut [u32])
+    requires { ⌜ (length (now flags) ≤ 65536) × (length (now left) ≡ length (now flags)) × (length (now right) ≡ length (now flags)) ⌝ }
+    ensures { λ _. ⌜ (now (left .exit) ≡ lefts 0 (map isOn (now (flags .entry)))) × (now (right .exit) ≡ rights (map isOn (now (flags .entry)))) ⌝ }
+{
+    lists::copy_u32(flags, flags.len(), left);
+    left_distances(left);
+    lists::copy_u32(flags, flags.len(), right);
+    right_distances(right);
+}
+
+// The frames' flags and distances, in lists of exactly so many frames.
+fn mark_and_measure(
+    weights: &[f64],
+    threshold: f64,
+    durations: &[u32],
+    flags: &mut [u32],
+    left: &mut [u32],
+    right: &mut [u32],
+)
+    requires { ⌜ (length (now weights) ≡ length (now durations)) × (total (now durations) ≤ 65536) × (total (now durations) ≡ length (now flags))
+        × (length (now left) ≡ length (now flags)) × (length (now right) ≡ length (now flags)) ⌝ }
+    ensures { λ _. ⌜ (now (flags .exit) ≡ map flag (maskOf threshold (map Given (now (weights .entry))) (now (durations .entry))))
+        × (now (left .exit) ≡ lefts 0 (maskOf threshold (map Given (now (weights .entry))) (now (durations .entry))))
+        × (now (right .exit) ≡ rights (maskOf threshold (map Given (now (weights .entry))) (now (durations .entry)))) ⌝ }
+{
+    mark_frames(weights, threshold, durations, flags);
+    distances(flags, left, right);
+}
+
+// How many frames the states have, as far as 3, 4 and 5 allow.
+fn frames_of(weights: usize, durations: &[u32]) -> Masked
+    ensures { λ r. ⌜ r ≡ answerOf (framesRefusal weights (now (durations .entry))) (total (now (durations .entry))) ⌝ }
+{
+    if 4096 < durations.len() {
+        return Masked::Refused(3);
+    }
+    if weights != durations.len() {
+        return Masked::Refused(4);
+    }
+    let frames = lists::total_u32(durations);
+    if 65_536 < frames {
+        return Masked::Refused(5);
+    }
+    Masked::Done(frames as u32)
+}
+
+// The frames' flags, 1 for a voiced one and 0 for another.
+pub fn mask(weights: &[f64], threshold: f64, durations: &[u32], voiced: &mut [u32]) -> Masked
+    ensures { λ r. ⌜ MaskSays (now (weights .entry)) threshold (now (durations .entry)) (now (voiced .entry)) r (now (voiced .exit)) ⌝ }
+{
+    let framed = frames_of(weights.len(), durations);
+    let Masked::Done(frames) = framed else {
+        return framed;
+    };
+    let n = wide(frames);
+    if voiced.len() < n {
+        return Masked::Refused(6);
+    }
+    mark_frames(weights, threshold, durations, &mut voiced[..n]);
+    framed
+}
+
+// `Mask::boundary_distances`, of any flags: 0 is unvoiced, and anything else voiced.
+pub fn boundary_distances(voiced: &[u32], left: &mut [u32], right: &mut [u32]) -> Masked
+    ensures { λ r. ⌜ DistancesSays (now (voiced .entry)) (now (left .entry)) (now (right .entry)) r (now (left .exit)) (now (right .exit)) ⌝ }
+{
+    let n = voiced.len();
+    if 65_536 < n {
+        return Masked::Refused(5);
+    }
+    if left.len() < n {
+        return Masked::Refused(6);
+    }
+    if right.len() < n {
+        return Masked::Refused(6);
+    }
+    distances(voiced, &mut left[..n], &mut right[..n]);
+    Masked::Done(n as u32)
+}
+
+// The frames' flags and distances in one call.
+pub fn mask_with_distances(
+    weights: &[f64],
+    threshold: f64,
+    durations: &[u32],
+    voiced: &mut [u32],
+    left: &mut [u32],
+    right: &mut [u32],
+) -> Masked
+    ensures { λ r. ⌜ MaskedDistancesSays (now (weights .entry)) threshold (now (durations .entry)) (now (voiced .entry)) (now (left .entry)) (now (right .entry))
+        r (now (voiced .exit)) (now (left .exit)) (now (right .exit)) ⌝ }
+{
+    let framed = frames_of(weights.len(), durations);
+    let Masked::Done(frames) = framed else {
+        return framed;
+    };
+    let n = wide(frames);
+    if voiced.len() < n {
+        return Masked::Refused(6);
+    }
+    if left.len() < n {
+        return Masked::Refused(6);
+    }
+    if right.len() < n {
+        return Masked::Refused(6);
+    }
+    mark_and_measure(
+        weights,
+        threshold,
+        durations,
+        &mut voiced[..n],
+        &mut left[..n],
+        &mut right[..n],
+    );
+    framed
+}
