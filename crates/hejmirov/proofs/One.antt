@@ -9,9 +9,11 @@ use Rattle.mlpg_adjust.specs.MaskPromise.{maskNumber, maskValues}
 use Rattle.mlpg_adjust.specs.BandPromise.{bandNumber}
 use Rattle.mlpg_adjust.proofs.MaskWays.{masked-one}
 use Rattle.mlpg_adjust.proofs.BandWays.{band-one}
+use Rattle.job.specs.Promise.{answered}
+use Rattle.job.proofs.Outcomes.{job-one}
 use Rattle.spool.specs.Promise.{placeNumber, placeValues, spanNumber, spanValues}
 use Rattle.spool.proofs.One.{place-one, span-one}
-use Rattle.hejmirov.specs.Promise.{handed, HandsOne, HandsTwo, FitCallSays, SpeedCallSays, AlignCallSays, MaskCallSays, BandCallSays, PlaceCallSays, ExcerptCallSays}
+use Rattle.hejmirov.specs.Promise.{handed, HandsOne, HandsTwo, HandsThree, FitCallSays, SpeedCallSays, AlignCallSays, MaskCallSays, BandCallSays, PlaceCallSays, ExcerptCallSays, JobCallSays}
 
 -- one answer gives one number and one value
 hands-one : {A : Type 0} (number : A → ℕ) (values : A → List ℕ) (a b : A) (old r s x y : ℕ) → a ≡ b → HandsOne (number a) (values a) old r x → HandsOne (number b) (values b) old s y → (r ≡ s) × (x ≡ y)
@@ -21,6 +23,11 @@ hands-one number values a b old r s x y e p q =
 hands-two : {A : Type 0} (number : A → ℕ) (values : A → List ℕ) (a b : A) (o₀ o₁ r s x₀ x₁ y₀ y₁ : ℕ) → a ≡ b → HandsTwo (number a) (values a) o₀ o₁ r x₀ x₁ → HandsTwo (number b) (values b) o₀ o₁ s y₀ y₁ → (r ≡ s) × (x₀ ≡ y₀) × (x₁ ≡ y₁)
 hands-two number values a b o₀ o₁ r s x₀ x₁ y₀ y₁ e p q =
     (p .answers ∙ ap number e ∙ sym (q .answers), p .first ∙ ap (λ c. handed (values c) 0 o₀) e ∙ sym (q .first), p .second ∙ ap (λ c. handed (values c) 1 o₁) e ∙ sym (q .second))
+
+hands-three : {A : Type 0} (number : A → ℕ) (values : A → List ℕ) (a b : A) (o₀ o₁ o₂ r s x₀ x₁ x₂ y₀ y₁ y₂ : ℕ) → a ≡ b → HandsThree (number a) (values a) o₀ o₁ o₂ r x₀ x₁ x₂ → HandsThree (number b) (values b) o₀ o₁ o₂ s y₀ y₁ y₂
+    → (r ≡ s) × (x₀ ≡ y₀) × (x₁ ≡ y₁) × (x₂ ≡ y₂)
+hands-three number values a b o₀ o₁ o₂ r s x₀ x₁ x₂ y₀ y₁ y₂ e p q =
+    (p .answers ∙ ap number e ∙ sym (q .answers), p .first ∙ ap (λ c. handed (values c) 0 o₀) e ∙ sym (q .first), p .second ∙ ap (λ c. handed (values c) 1 o₁) e ∙ sym (q .second), p .third ∙ ap (λ c. handed (values c) 2 o₂) e ∙ sym (q .third))
 
 module _ (ms vs : List Float) (out work o₁ w₁ o₂ w₂ : List ℕ) (changes r s x y : ℕ) where
   pub fit-call-one : (len : Float) → FitCallSays ms vs len out work changes r o₁ w₁ x → FitCallSays ms vs len out work changes s o₂ w₂ y → (r ≡ s) × (o₁ ≡ o₂) × (w₁ ≡ w₂) × (x ≡ y)
@@ -63,3 +70,10 @@ pub band-call-one : (widths : List ℕ) (coefs means ivars rows right : List Flo
 band-call-one widths coefs means ivars rows right r s A₁ R₁ A₂ R₂ f g =
     let t = band-one widths coefs means ivars rows right (f .answer) (g .answer) A₁ R₁ A₂ R₂ (f .says) (g .says) in
     (f .gives ∙ ap bandNumber (t .0) ∙ sym (g .gives), t .1, t .2)
+
+pub job-call-one : (bytes out work : List ℕ) (states frames changes r s : ℕ) (o₁ w₁ o₂ w₂ : List ℕ) (x₀ x₁ x₂ y₀ y₁ y₂ : ℕ)
+    → JobCallSays bytes out work states frames changes r o₁ w₁ x₀ x₁ x₂ → JobCallSays bytes out work states frames changes s o₂ w₂ y₀ y₁ y₂ → (r ≡ s) × (o₁ ≡ o₂) × (w₁ ≡ w₂) × (x₀ ≡ y₀) × (x₁ ≡ y₁) × (x₂ ≡ y₂)
+job-call-one bytes out work states frames changes r s o₁ w₁ o₂ w₂ x₀ x₁ x₂ y₀ y₁ y₂ f g =
+    let t = job-one bytes out work o₁ o₂ w₁ w₂ (f .answer) (g .answer) (f .says) (g .says) in
+    let h = hands-three (λ a. answered a .number) (λ a. answered a .values) (f .answer) (g .answer) states frames changes r s x₀ x₁ x₂ y₀ y₁ y₂ (t .0) (f .gives) (g .gives) in
+    (h .0, t .1, t .2, h .1, h .2, h .3)

@@ -11,6 +11,8 @@ use Rattle.mlpg_adjust.specs.MaskPromise.{maskNumber, maskValues, MaskedDistanc
 use Rattle.mlpg_adjust.specs.BandPromise.{bandNumber, BandSays}
 use Rattle.mlpg_adjust.specs.declared.mask.Masked.{Masked}
 use Rattle.mlpg_adjust.specs.declared.band.Banded.{Banded}
+use Rattle.job.specs.Promise.{answered, JobSays}
+use Rattle.job.specs.declared.Answered.{Answered}
 use Rattle.spool.specs.Promise.{placeNumber, placeValues, spanNumber, spanValues, PlaceSays, SpanSays}
 use Rattle.spool.specs.declared.Placed.{Placed}
 use Rattle.spool.specs.declared.Span.{Span}
@@ -29,6 +31,13 @@ pub record HandsTwo (number : ℕ) (values : List ℕ) (old₀ old₁ r new₀ n
   pub answers : r ≡ number
   pub first : new₀ ≡ handed values 0 old₀
   pub second : new₁ ≡ handed values 1 old₁
+
+-- an answer's number, and its three values behind pointers
+pub record HandsThree (number : ℕ) (values : List ℕ) (old₀ old₁ old₂ r new₀ new₁ new₂ : ℕ) : Type 0 where
+  pub answers : r ≡ number
+  pub first : new₀ ≡ handed values 0 old₀
+  pub second : new₁ ≡ handed values 1 old₁
+  pub third : new₂ ≡ handed values 2 old₂
 
 -- `hejmirov_fit`
 pub record FitCallSays (ms vs : List Float) (len : Float) (out work : List ℕ) (changes r : ℕ) (out′ work′ : List ℕ) (changes′ : ℕ) : Type 0 where
@@ -71,3 +80,9 @@ pub record ExcerptCallSays (trajectory : List Float) (durations : List ℕ) (v s
   pub answer : Span
   pub says : SpanSays trajectory durations v state answer
   pub gives : HandsTwo (spanNumber answer) (spanValues answer) first count r first′ count′
+
+-- `hejmirov_job`
+pub record JobCallSays (bytes out work : List ℕ) (states frames changes r : ℕ) (out′ work′ : List ℕ) (states′ frames′ changes′ : ℕ) : Type 0 where
+  pub answer : Answered
+  pub says : JobSays bytes out work answer out′ work′
+  pub gives : HandsThree (answered answer .number) (answered answer .values) states frames changes r states′ frames′ changes′

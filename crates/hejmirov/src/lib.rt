@@ -5,9 +5,11 @@ ghost use Rattle.duration.specs.Promise.{fitted, aligned};
 ghost use Rattle.mlpg_adjust.specs.MaskPromise.{maskNumber, maskValues};
 ghost use Rattle.mlpg_adjust.specs.BandPromise.{bandNumber};
 ghost use Rattle.spool.specs.Promise.{placeNumber, placeValues, spanNumber, spanValues};
-ghost use Rattle.hejmirov.specs.Promise.{HandsOne, HandsTwo, FitCallSays, SpeedCallSays, AlignCallSays, MaskCallSays, BandCallSays, PlaceCallSays, ExcerptCallSays};
+ghost use Rattle.job.specs.Promise.{answered};
+ghost use Rattle.hejmirov.specs.Promise.{HandsOne, HandsTwo, HandsThree, FitCallSays, SpeedCallSays, AlignCallSays, MaskCallSays, BandCallSays, PlaceCallSays, ExcerptCallSays, JobCallSays};
 use duration::Aligned;
 use duration::Fitted;
+use job::Answered;
 use mlpg_adjust::band::Banded;
 use mlpg_adjust::mask::Masked;
 use spool::Placed;
@@ -202,5 +204,39 @@ fn hand_out_span(answer: Span, first: &mut u64, count: &mut u64) -> u32
             0
         }
         Span::Refused(number) => number as u32,
+    }
+}
+
+// The durations of a job file's states, at its speed.
+#[no_mangle]
+pub extern "C" fn hejmirov_job(
+    bytes: &[u8],
+    out: &mut [u32],
+    work: &mut [u32],
+    states: &mut u32,
+    frames: &mut u32,
+    changes: &mut u32,
+) -> u32
+    ensures { λ r. ⌜ JobCallSays (now (bytes .entry)) (now (out .entry)) (now (work .entry)) (now (states .entry)) (now (frames .entry)) (now (changes .entry)) r (now (out .exit)) (now (work .exit)) (now (states .exit)) (now (frames .exit)) (now (changes .exit)) ⌝ }
+{
+    let answer = job::answer(bytes, out, work);
+    hand_out_job(answer, states, frames, changes)
+}
+
+fn hand_out_job(answer: Answered, states: &mut u32, frames: &mut u32, changes: &mut u32) -> u32
+    ensures { λ r. ⌜ HandsThree (answered answer .number) (answered answer .values) (now (states .entry)) (now (frames .entry)) (now (changes .entry)) r (now (states .exit)) (now (frames .exit)) (now (changes .exit)) ⌝ }
+{
+    match answer {
+        Answered::Done {
+            states: count,
+            frames: total,
+            changes: steps,
+        } => {
+            *states = count;
+            *frames = total;
+            *changes = steps;
+            0
+        }
+        Answered::Refused(number) => number as u32,
     }
 }

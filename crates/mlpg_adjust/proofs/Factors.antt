@@ -2,18 +2,17 @@
 use mathlib.Core.Path.{_≡_, refl, sym, ap, _∙_}
 use mathlib.Core.List.{List, [], _∷_, _++_, append-assoc, append-nil}
 use mathlib.Core.Logic.{⊎-elim}
-use Prim.Native.Nat.{ℕ, zero, suc, _+_, _-_, _*_, _<_, _≤_, min}
+use Prim.Native.Nat.{ℕ, zero, suc, _+_, _-_, _*_, _<_, _≤_}
 use native.Mathlib.Nat.{add-sub-cancel-left, mul-le-mul-right, suc-mul, zero-mul, le-refl}
 use native.Mathlib.Numerals.{add-one}
 use native.Mathlib.Omega.{arith}
-use lib.ListN.{length, getD, set, take, drop, length-append, List·getD-append}
+use lib.ListN.{length, set, take, drop, length-append, List·getD-append}
 use lib.Seq.{sets, getD-take, take-append-le, take-all, take-suc, take-length, length-take-le, drop-at, drop-cons, drop-length, set-at}
-use lib.Ieee.{Float, nan, binary64, mul, div}
+use lib.Ieee.{Float, nan, binary64, div}
 use Rattle.lists.specs.Build.{build}
 use Rattle.lists.proofs.Fills.{build-length}
 use Rattle.lists.proofs.Numbers.{le-or-lt}
 use Rattle.lists.proofs.Rows.{row-fits, row-in}
-use Rattle.mlpg_adjust.specs.Sums.{less}
 use Rattle.mlpg_adjust.specs.Rows.{elem, part, row, rows}
 use Rattle.mlpg_adjust.specs.Solve.{reach, reduced, factorAt, factor, forwardTerm, forwardAt, forward, backwardAt, backward}
 use Rattle.mlpg_adjust.proofs.Orders.{less-same}

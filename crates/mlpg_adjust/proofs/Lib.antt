@@ -16,3 +16,4 @@ pub mod Lanes
 pub mod Switches
 pub mod Turns
 pub mod BandWays
+pub mod TrajectoryLaws

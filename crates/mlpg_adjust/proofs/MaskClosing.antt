@@ -1,7 +1,7 @@
 -- Closing up: what the loops over states do at each turn, and that closing up along the frames is by the distances. Assumes nothing.
 use mathlib.Core.Path.{_≡_, refl, sym, ap, _∙_}
 use mathlib.Core.Bool.{Bool, true, false}
-use mathlib.Core.List.{List, [], _∷_, _++_, append-nil, map}
+use mathlib.Core.List.{List, [], _∷_, _++_, map}
 use Prim.Native.Nat.{ℕ, zero, suc, _+_, _-_, _*_, _<_, _≤_}
 use native.Mathlib.Nat.{add-sub-cancel-left}
 use native.Mathlib.Numerals.{add-one}
@@ -12,7 +12,6 @@ use lib.ListN.{length, take, drop, getD, replicate, length-drop, length-map, len
 use lib.Seq.{sets, drop-append-add, drop-cons, drop-drop, length-take-le, take-all, take-at}
 use lib.Ieee.{Float, nan}
 use Rattle.lists.specs.Totals.{total}
-use Rattle.lists.specs.Build.{build}
 use Rattle.lists.proofs.Sums.{total-append, total-more}
 use Rattle.lists.proofs.Fills.{finished, build-length}
 use Rattle.model.specs.Pair.{ivarOf}

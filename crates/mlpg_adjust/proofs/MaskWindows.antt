@@ -1,8 +1,8 @@
 -- Pairs gathered window after window: what the loops over windows do at each turn. Assumes nothing.
 use mathlib.Core.Path.{_≡_, refl, sym, ap, _∙_}
 use mathlib.Core.Bool.{Bool, true, false}
-use mathlib.Core.List.{List, [], _∷_, _++_, append-nil, map}
-use Prim.Native.Nat.{ℕ, zero, suc, _+_, _-_, _*_, _<_, _≤_}
+use mathlib.Core.List.{List, [], _∷_, append-nil}
+use Prim.Native.Nat.{ℕ, suc, _+_, _-_, _*_, _<_, _≤_}
 use native.Mathlib.Nat.{mul-comm, zero-mul, suc-mul}
 use native.Mathlib.Numerals.{add-one}
 use native.Mathlib.Omega.{arith}
@@ -12,11 +12,9 @@ use lib.Seq.{take-all}
 use lib.Ieee.{Float}
 use Rattle.lists.specs.Totals.{total}
 use Rattle.lists.proofs.Rows.{row-fits, row-in}
-use Rattle.model.specs.Pair.{ivarOf}
-use Rattle.mlpg_adjust.specs.Frames.{expand, select, count}
+use Rattle.mlpg_adjust.specs.Frames.{select, count}
 use Rattle.mlpg_adjust.specs.Rows.{rows}
-use Rattle.mlpg_adjust.specs.MaskVoicing.{column}
-use Rattle.mlpg_adjust.specs.MaskBoundaries.{lefts, rights, shutAll, closeUp}
+use Rattle.mlpg_adjust.specs.MaskBoundaries.{lefts, rights, closeUp}
 use Rattle.mlpg_adjust.specs.MaskWindows.{reachBefore, reachAfter, meansIn, ivarsIn}
 use Rattle.mlpg_adjust.proofs.MaskLaws.{part-put, part-length}
 use Rattle.mlpg_adjust.proofs.MaskTheory.{expand-length, lefts-length, rights-length}

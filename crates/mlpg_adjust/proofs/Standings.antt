@@ -1,11 +1,11 @@
 -- Laws of a component's region: a row is done, a value is put backward, all is solved. Assumes nothing.
 use mathlib.Core.Path.{_≡_, refl, sym, ap, _∙_}
-use mathlib.Core.List.{List, [], _∷_, _++_, append-nil}
-use Prim.Native.Nat.{ℕ, zero, suc, _+_, _-_, _*_, _<_, _≤_}
+use mathlib.Core.List.{List, [], _∷_, _++_}
+use Prim.Native.Nat.{ℕ, _+_, _-_, _*_, _<_, _≤_}
 use native.Mathlib.Nat.{suc-mul, zero-mul, add-sub-cancel-left}
 use native.Mathlib.Numerals.{add-one}
 use native.Mathlib.Omega.{arith}
-use lib.ListN.{length, getD, set, take, drop, length-set}
+use lib.ListN.{length, set, take, drop, length-set}
 use lib.Seq.{sets, length-sets, take-suc, take-all}
 use lib.Ieee.{Float, nan}
 use Rattle.lists.specs.Build.{build}
@@ -13,12 +13,12 @@ use Rattle.lists.proofs.Fills.{build-length}
 use Rattle.lists.proofs.Rows.{row-fits}
 use Rattle.mlpg_adjust.specs.Rows.{elem, part, row, rows}
 use Rattle.mlpg_adjust.specs.Paper.{entryOf, rightSum, bandRows, rightSide}
-use Rattle.mlpg_adjust.specs.Solve.{factorAt, factor, forwardAt, forward, backwardAt, backward, solution}
+use Rattle.mlpg_adjust.specs.Solve.{factorAt, factor, forwardAt, forward, backwardAt, solution}
 use Rattle.mlpg_adjust.specs.Region.{Spaced, Laid, matrixOf, sideOf, factorsOf, forwardOf, Standing, Backing, Solved}
 use Rattle.mlpg_adjust.specs.declared.solve.Places.{Places}
 use Rattle.mlpg_adjust.proofs.Builds.{build-at}
 use Rattle.mlpg_adjust.proofs.Regions.{stored-behind, stored-before, stored-at, stored-within}
-use Rattle.mlpg_adjust.proofs.Factors.{rows-length, rows-front, rows-row, factor-length, factor-front, factor-next, forward-looks, forward-length, forward-next, backward-next, backward-none}
+use Rattle.mlpg_adjust.proofs.Factors.{rows-length, rows-front, rows-row, factor-front, factor-next, forward-looks, forward-length, forward-next, backward-next, backward-none}
 
 -- ---- the rows and the right side by their rows
 

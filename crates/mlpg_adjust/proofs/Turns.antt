@@ -1,9 +1,9 @@
 -- Laws of the global variance's passes over a region: gradient and objective, a step, a turn, five turns. Assumes nothing.
 use mathlib.Core.Path.{_≡_, refl, sym, ap, _∙_}
 use mathlib.Core.Bool.{Bool, false, cond}
-use mathlib.Core.List.{List, [], _∷_, _++_}
+use mathlib.Core.List.{List, [], _∷_}
 use Prim.Native.Nat.{ℕ, zero, suc, _+_, _-_, _*_, _<_, _≤_}
-use native.Mathlib.Nat.{add-zero, mul-le-mul-left, add-sub-cancel-left}
+use native.Mathlib.Nat.{mul-le-mul-left, add-sub-cancel-left}
 use native.Mathlib.Numerals.{add-one}
 use native.Mathlib.Omega.{arith}
 use borrow.Author.Tests.{eq-eqb, ne-eqb}
@@ -20,7 +20,6 @@ use Rattle.mlpg_adjust.specs.Sums.{over}
 use Rattle.mlpg_adjust.specs.Rows.{nought, elem, entry, part}
 use Rattle.mlpg_adjust.specs.Gv.{stepInit, meanOf, variOf, convGv, gradientAt, gradient, weightOf, hmmTerm, hmmObj, gvObj, sizeAfter}
 use Rattle.mlpg_adjust.specs.Parmgen.{iterate, State, state, valuesOf, nextAt, nextStep, objective, turn, parmgen}
-use Rattle.mlpg_adjust.specs.Region.{Spaced}
 use Rattle.mlpg_adjust.specs.GvInner.{Sized, Pulls, pulled, Turned}
 use Rattle.mlpg_adjust.specs.declared.solve.Places.{Places}
 use Rattle.mlpg_adjust.specs.declared.gv.MlpgGlobalVariance.{MlpgGlobalVariance}

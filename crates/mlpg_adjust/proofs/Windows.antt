@@ -1,12 +1,12 @@
 -- Laws of a row that is built window by window and frame by frame: only the frames that a window's taps reach have a term. Assumes nothing.
 use mathlib.Core.Path.{_≡_, refl, sym, ap, _∙_}
-use mathlib.Core.Bool.{true, false}
-use mathlib.Core.List.{List, _++_}
+use mathlib.Core.Bool.{true}
+use mathlib.Core.List.{List}
 use Prim.Native.Nat.{ℕ, _+_, _-_, _*_, _/_, _<_, _≤_, min}
 use native.Mathlib.Numerals.{add-one}
 use native.Mathlib.Omega.{arith}
 use lib.ListN.{length, getD, take, drop, replicate, length-replicate, getD-replicate, take-append-drop}
-use lib.Seq.{sets, drop-length}
+use lib.Seq.{sets}
 use lib.Ieee.{Float, nan, eq}
 use Rattle.lists.specs.Totals.{total}
 use Rattle.lists.specs.Build.{build}
@@ -16,10 +16,10 @@ use Rattle.lists.proofs.Stores.{filled}
 use Rattle.lists.proofs.Fills.{fill-done}
 use Rattle.lists.proofs.Rows.{row-fits}
 use Rattle.mlpg_adjust.specs.Sums.{over}
-use Rattle.mlpg_adjust.specs.Rows.{nought, elem, part}
+use Rattle.mlpg_adjust.specs.Rows.{nought, part}
 use Rattle.mlpg_adjust.specs.Paper.{W, term, rightTerm, partOf, entrySum, rightSum, entryOf}
 use Rattle.mlpg_adjust.specs.Inner.{onRow, Fits}
-use Rattle.mlpg_adjust.proofs.Orders.{over-step, over-idle}
+use Rattle.mlpg_adjust.proofs.Orders.{over-idle}
 use Rattle.mlpg_adjust.proofs.Builds.{build-same}
 use Rattle.mlpg_adjust.proofs.Terms.{eq-nought, on-row-idle, on-row-same, on-row-then, W-beyond, W-short, term-idle, right-idle}
 

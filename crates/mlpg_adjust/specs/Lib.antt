@@ -17,3 +17,7 @@ pub mod GvInner
 pub mod BandPromise
 pub mod BandCases
 pub mod GvCases
+pub mod Trajectory
+pub mod TrajectoryPromise
+pub mod TrajectoryInner
+pub mod TrajectoryCases

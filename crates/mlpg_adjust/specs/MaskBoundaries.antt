@@ -1,7 +1,7 @@
 -- How far a voiced frame stands from the ends of its run, and what that does to a window's inverse variances. Assumes nothing.
 use mathlib.Core.Bool.{Bool, true, false, cond, _||_}
 use mathlib.Core.List.{List, [], _∷_}
-use Prim.Native.Nat.{ℕ, zero, suc}
+use Prim.Native.Nat.{ℕ, suc}
 use lib.Dec.{ltb}
 use lib.Ieee.{Float, binary64, ofBits}
 

@@ -2,11 +2,10 @@
 use mathlib.Core.Path.{_≡_, refl}
 use mathlib.Core.Bool.{Bool, true, false}
 use mathlib.Core.List.{List, [], _∷_}
-use Prim.Native.Nat.{ℕ}
 use lib.IntN.{pos}
-use lib.Ieee.{Float, nan, fin, binary64, ofBits, lt}
+use lib.Ieee.{Float, nan, fin, ofBits, lt}
 use Rattle.model.specs.declared.voice.model.Weight.the-variants.{Given}
-use Rattle.mlpg_adjust.specs.Frames.{expand, select, fill}
+use Rattle.mlpg_adjust.specs.Frames.{expand, fill}
 use Rattle.mlpg_adjust.specs.MaskVoicing.{maskOf}
 use Rattle.mlpg_adjust.specs.MaskBoundaries.{ahead, lefts, rights, closeUp}
 

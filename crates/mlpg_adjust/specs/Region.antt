@@ -1,15 +1,13 @@
 -- One component's region of the work space, which holds its pairs, rows, right side, factors and values: what the private passes say of it.
 -- Assumes nothing.
-use Prim.Native.Nat.{ℕ, _+_, _-_, _*_, _<_, _≤_}
+use Prim.Native.Nat.{ℕ, _+_, _*_, _≤_}
 use mathlib.Core.Path.{_≡_}
 use mathlib.Core.List.{List, _++_}
-use lib.ListN.{length, getD, take, drop}
+use lib.ListN.{length, take, drop}
 use lib.Ieee.{Float}
-use Rattle.lists.specs.Totals.{total}
 use Rattle.mlpg_adjust.specs.Rows.{part}
 use Rattle.mlpg_adjust.specs.Paper.{bandRows, rightSide}
 use Rattle.mlpg_adjust.specs.Solve.{factor, forward, backward, solution}
-use Rattle.mlpg_adjust.specs.Inner.{Taps}
 use Rattle.mlpg_adjust.specs.declared.solve.Places.{Places}
 
 -- rows, right side, factors and values follow each other

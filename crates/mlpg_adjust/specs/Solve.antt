@@ -1,5 +1,5 @@
 -- The band system's factors A = L D L^T and its solution, by `ldl_factorization` and `substitutions` of `mlpg.rs`. Assumes nothing.
-use Prim.Native.Nat.{ℕ, zero, suc, _+_, _-_, _*_, min}
+use Prim.Native.Nat.{ℕ, zero, suc, _+_, _-_, min}
 use mathlib.Core.List.{List, [], _∷_, _++_}
 use lib.ListN.{length}
 use lib.Ieee.{Float, binary64, mul, div}

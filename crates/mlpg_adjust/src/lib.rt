@@ -1,6 +1,7 @@
 // Maximum likelihood parameter generation: the records of a stream become its trajectory.
 pub mod band;
 mod closing;
+mod component;
 mod filling;
 mod gv;
 pub mod mask;

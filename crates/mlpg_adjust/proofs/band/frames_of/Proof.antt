@@ -1,5 +1,5 @@
 -- `mlpg_adjust::band::frames_of` meets its contract. Assumes nothing.
-use mathlib.Core.Path.{_≡_, sym, _∙_}
+use mathlib.Core.Path.{sym, _∙_}
 use native.Mathlib.Omega.{arith}
 use Rattle.model.proofs.Accepted.{accepted-some}
 use Rattle.mlpg_adjust.proofs.BandWays.{frames-windows, frames-rest, frames-other, frames-many, frames-few}

@@ -10,7 +10,7 @@ use lib.ListN.{length, take, drop, length-set}
 use lib.Seq.{take-all}
 use lib.Ieee.{nan}
 use Rattle.lists.specs.Build.{build}
-use Rattle.lists.proofs.Fills.{build-length, build-next, build-done}
+use Rattle.lists.proofs.Fills.{build-next, build-done}
 use Rattle.lists.proofs.Rows.{row-fits}
 use Rattle.mlpg_adjust.specs.Rows as flat
 use Rattle.mlpg_adjust.specs.Paper.{entryOf, rightSum, bandRows, rightSide}

@@ -2,14 +2,14 @@
 use mathlib.Core.Path.{_≡_, refl, sym, _∙_}
 use mathlib.Core.Bool.{true}
 use mathlib.Core.List.{List, _++_, map}
-use Prim.Native.Nat.{ℕ, _+_, _-_, _*_, _≤_}
+use Prim.Native.Nat.{_+_, _-_, _*_, _≤_}
 use native.Mathlib.Omega.{arith}
 use lib.Ieee.{Float}
 use lib.ListN.{length, drop, getD, replicate}
 use Rattle.lists.specs.Totals.{total}
 use Rattle.lists.proofs.Rows.{row-fits}
 use Rattle.model.specs.Pair.{ivarOf}
-use Rattle.mlpg_adjust.specs.Frames.{expand, select}
+use Rattle.mlpg_adjust.specs.Frames.{expand}
 use Rattle.mlpg_adjust.specs.MaskVoicing.{column}
 use Rattle.mlpg_adjust.specs.MaskBoundaries.{shutAll}
 use Rattle.mlpg_adjust.proofs.MaskLaws.{part-length}

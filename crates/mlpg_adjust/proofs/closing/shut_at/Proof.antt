@@ -1,6 +1,5 @@
 -- `mlpg_adjust::closing::shut_at` meets its contract. Assumes nothing.
 use borrow.Author.Tests.{lt-ltb, le-ltb}
-use borrow.Author.Needs.{needs}
 use Rattle.mlpg_adjust.proofs.closing.shut_at.Statement.{statement}
 use Rattle.mlpg_adjust.proofs.closing.shut_at.Tie as tie
 

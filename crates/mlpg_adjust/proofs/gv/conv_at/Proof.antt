@@ -1,5 +1,4 @@
 -- `mlpg_adjust::gv::conv_at` meets its contract. Assumes nothing.
-use borrow.Author.Needs.{needs}
 use Rattle.mlpg_adjust.proofs.gv.conv_at.Statement.{statement}
 use Rattle.mlpg_adjust.proofs.gv.conv_at.Tie as tie
 

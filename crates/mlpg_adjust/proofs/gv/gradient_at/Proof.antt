@@ -1,6 +1,6 @@
 -- `mlpg_adjust::gv::gradient_at` meets its contract: `g` has the diagonal and k entries to each side. Assumes nothing.
 use mathlib.Core.Path.{_≡_, _∙_}
-use Prim.Native.Nat.{_-_, _*_, _≤_}
+use Prim.Native.Nat.{_-_, _≤_}
 use native.Mathlib.Omega.{arith}
 use lib.ListN.{length}
 use lib.Ieee.{binary64, mul}

@@ -1,5 +1,4 @@
 -- `mlpg_adjust::gv::next_at` meets its contract. Assumes nothing.
-use borrow.Author.Needs.{needs}
 use Rattle.mlpg_adjust.proofs.gv.next_at.Statement.{statement}
 use Rattle.mlpg_adjust.proofs.gv.next_at.Tie as tie
 

@@ -1,5 +1,4 @@
 -- `mlpg_adjust::mask::right_distances` meets its contract. Assumes nothing.
-use native.Mathlib.Omega.{arith}
 use Rattle.mlpg_adjust.proofs.MaskLaws.{Counting, counting, counting-off, counting-on, counted-all}
 use mathlib.Core.Path.{refl}
 use borrow.Author.Needs.{needs}

@@ -1,5 +1,4 @@
 -- `mlpg_adjust::mlpg::add_frame` meets its contract. Assumes nothing.
-use mathlib.Core.Path.{_∙_}
 use Rattle.mlpg_adjust.proofs.Terms.{frame-zero, frame-row, frame-right}
 use borrow.Author.Needs.{needs}
 use Rattle.mlpg_adjust.proofs.mlpg.add_frame.Statement.{statement}

@@ -1,5 +1,4 @@
 -- `mlpg_adjust::mlpg::add_tap` meets its contract. Assumes nothing.
-use borrow.Author.Needs.{needs}
 use Rattle.mlpg_adjust.proofs.mlpg.add_tap.Statement.{statement}
 use Rattle.mlpg_adjust.proofs.mlpg.add_tap.Tie as tie
 

@@ -1,5 +1,5 @@
 -- `mlpg_adjust::mlpg::add_window` meets its contract: the terms of the frames below f are added. Assumes nothing.
-use mathlib.Core.Path.{_≡_, sym, ap, _∙_}
+use mathlib.Core.Path.{_≡_}
 use Prim.Native.Nat.{_+_, _-_, _/_, _≤_, min}
 use native.Mathlib.Omega.{arith}
 use lib.ListN.{length}

@@ -1,7 +1,6 @@
 -- `mlpg_adjust::gv::Descent::after` meets its contract. Assumes nothing.
 use mathlib.Core.Path.{refl}
 use Rattle.mlpg_adjust.specs.Gv.{sizeAfter}
-use borrow.Author.Needs.{needs}
 use Rattle.mlpg_adjust.proofs.gv.Descent.after.Statement.{statement}
 use Rattle.mlpg_adjust.proofs.gv.Descent.after.Tie as tie
 

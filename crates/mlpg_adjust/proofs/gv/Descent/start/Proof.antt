@@ -1,7 +1,6 @@
 -- `mlpg_adjust::gv::Descent::start` meets its contract. Assumes nothing.
 use mathlib.Core.Path.{refl}
 use lib.Ieee.{div, ofBits}
-use borrow.Author.Needs.{needs}
 use Rattle.mlpg_adjust.proofs.gv.Descent.start.Statement.{statement}
 use Rattle.mlpg_adjust.proofs.gv.Descent.start.Tie as tie
 

@@ -2,7 +2,6 @@
 use native.Mathlib.Omega.{arith}
 use Rattle.mlpg_adjust.specs.Gv.{meanOf, variOf}
 use Rattle.mlpg_adjust.proofs.Switches.{exact, counted}
-use borrow.Author.Needs.{needs}
 use Rattle.mlpg_adjust.proofs.gv.MlpgGlobalVariance.calc_gv.Statement.{statement}
 use Rattle.mlpg_adjust.proofs.gv.MlpgGlobalVariance.calc_gv.Tie as tie
 

@@ -1,14 +1,11 @@
 -- `mlpg_adjust::gv::MlpgGlobalVariance::five_turns` meets its contract: k turns are made, and rows and right side are as they were. Assumes nothing.
 use mathlib.Core.Path.{_≡_, refl, ap, _∙_}
 use mathlib.Core.List.{map}
-use Prim.Native.Nat.{_-_, _*_, _≤_}
+use Prim.Native.Nat.{_-_, _≤_}
 use native.Mathlib.Omega.{arith}
 use lib.ListN.{length}
-use lib.Ieee.{nan}
 use Rattle.mlpg_adjust.specs.MaskVoicing.{isOn}
-use Rattle.mlpg_adjust.specs.Rows.{part}
-use Rattle.mlpg_adjust.specs.Gv.{stepInit}
-use Rattle.mlpg_adjust.specs.Parmgen.{iterate, state, valuesOf, turn}
+use Rattle.mlpg_adjust.specs.Parmgen.{valuesOf, turn}
 use Rattle.mlpg_adjust.proofs.Turns.{Turning, turning-none, turning-next}
 use borrow.Author.Needs.{needs}
 use Rattle.mlpg_adjust.proofs.gv.MlpgGlobalVariance.five_turns.Statement.{statement}

@@ -1,5 +1,5 @@
 -- `mlpg_adjust::gv::MlpgGlobalVariance::parmgen` meets its contract. Assumes nothing.
-use mathlib.Core.Path.{_≡_, sym, _∙_}
+use mathlib.Core.Path.{sym, _∙_}
 use mathlib.Core.List.{map}
 use Prim.Native.Nat.{_+_, _*_}
 use native.Mathlib.Nat.{add-sub-cancel-left}

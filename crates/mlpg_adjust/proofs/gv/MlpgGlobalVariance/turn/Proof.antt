@@ -1,5 +1,5 @@
 -- `mlpg_adjust::gv::MlpgGlobalVariance::turn` meets its contract. Assumes nothing.
-use mathlib.Core.Path.{_≡_, refl, sym, ap, _∙_}
+use mathlib.Core.Path.{_≡_, ap, _∙_}
 use mathlib.Core.List.{map}
 use Prim.Native.Nat.{_+_}
 use native.Mathlib.Nat.{add-sub-cancel-left}
@@ -9,7 +9,6 @@ use lib.ListN.{length}
 use lib.Seq.{length-sets}
 use lib.Ieee.{Float, binary64, neg, add}
 use Rattle.mlpg_adjust.specs.MaskVoicing.{isOn}
-use Rattle.mlpg_adjust.specs.GvInner.{Sized}
 use Rattle.mlpg_adjust.proofs.Switches.{counted}
 use Rattle.mlpg_adjust.proofs.Turns.{turned}
 use borrow.Author.Needs.{needs}

@@ -1,0 +1,124 @@
+-- The ways through a job. Assumes nothing.
+use mathlib.Core.Path.{_≡_, refl, sym, ap, _∙_}
+use mathlib.Core.List.{List, [], _∷_, _++_}
+use Prim.Native.Nat.{ℕ, zero, suc, _^_, _≤_}
+use native.Mathlib.Omega.{arith}
+use lib.ListN.{length, take, drop, length-append}
+use lib.Seq.{take-at}
+use Rattle.lists.specs.Totals.{total}
+use Rattle.lists.proofs.Sums.{total-whole}
+use Rattle.duration.specs.declared.Fitted.{Fitted}
+use Rattle.duration.specs.declared.Fitted.the-variants.{Done as Fit·Done, Refused as Fit·Refused}
+use Rattle.duration.specs.Fit.{mostFrames}
+use Rattle.duration.specs.Speed.{refusalAt}
+use Rattle.duration.specs.Promise.{Answer, fitted, answerOf, outputOf, workOf, refusalOfLists, Says}
+use Rattle.duration.proofs.Calls.{refusing, refused-is, accepted-is}
+use Rattle.duration.proofs.Refusals.{fitting}
+use Rattle.duration.proofs.Closing.{or-none}
+use Rattle.job.specs.declared.Answered.the-variants.{Done, Refused}
+use Rattle.job.specs.declared.Heading.{Heading}
+use Rattle.job.specs.declared.Heading.the-variants.{States, Damaged}
+use Rattle.job.specs.Format.{countOf, mostStates, Job, jobAt, formatRefusal}
+use Rattle.job.specs.Inner.{headed, CreateSays}
+use Rattle.job.specs.Promise.{fitOf, refusalOf, JobSays}
+use Rattle.job.proofs.Departures.{accepted-job}
+use Rattle.job.proofs.Pairs.{floats-long}
+use Rattle.job.proofs.Frames.{Bounded, speed-bounded}
+
+-- ---- other values with the same refusal, and with none
+
+module _ (k : ℕ) (values new : List ℕ) (n : ℕ) (out work out′ work′ : List ℕ) (c : ℕ) where
+  answer-refused : (k : ℕ) → (k ≡ 0 → ⊥) → refusing k ≡ answerOf k values
+  unfolding answerOf
+  answer-refused zero z = absurd (z refl)
+  answer-refused (suc k) z = refl
+
+  says-refused : (m : ℕ) → Says k (c ∷ []) new n out work (refusing m) out′ work′ → Says k values new n out work (refusing m) out′ work′
+  says-refused m f =
+      let s = refused-is m k c [] (f .answer) in
+      record { answer = ap refusing (sym (s .0)) ∙ answer-refused k (s .1); output = f .output; workspace = f .workspace }
+
+  says-accepted : (a b : Answer) → k ≡ 0 → a ≡ record { number = 0; values = values } → Says k (c ∷ []) new n out work b out′ work′ → Says k values new n out work a out′ work′
+  unfolding answerOf
+  says-accepted a b z e f = record { answer = e ∙ rw z; output = f .output; workspace = f .workspace }
+
+-- ---- durations that `create` does not refuse, at the front of its output
+
+module _ (j : Job) (out work out′ : List ℕ) (z : refusalOf j out work ≡ 0) (o : out′ ≡ outputOf (refusalOf j out work) (fitOf j .durations) out) where
+  none : (refusalOfLists (length (j .means)) (length (j .varis)) (length out) (length work) ≡ 0) × (refusalAt (j .means) (j .varis) (j .speed) ≡ 0)
+  none = or-none (refusalOfLists (length (j .means)) (length (j .varis)) (length out) (length work)) (refusalAt (j .means) (j .varis) (j .speed)) z
+
+  pub fit-bounded : Bounded (length (j .means)) (fitOf j)
+  fit-bounded = let f = fitting _ _ _ _ (none .0) in speed-bounded (j .means) (j .varis) (f .few) (f .agree) (j .speed) (none .1)
+
+  out-is : out′ ≡ fitOf j .durations ++ drop (length (fitOf j .durations)) out
+  unfolding outputOf
+  out-is = o ∙ ap (λ (k : ℕ). outputOf k (fitOf j .durations) out) z
+
+  pub fit-room : length (j .means) ≤ length out′
+  fit-room = rw out-is (simp length-append (omega (arith, fit-bounded .count)))
+
+  pub fit-taken : take (length (j .means)) out′ ≡ fitOf j .durations
+  fit-taken = ap (take (length (j .means))) out-is ∙ take-at (fitOf j .durations) (drop (length (fitOf j .durations)) out) (length (j .means)) (fit-bounded .count)
+
+-- ---- a job that departs from the format
+
+pub damaged : (bytes out work : List ℕ) → formatRefusal bytes ≡ 9 → JobSays bytes out work (Refused 9) out work
+unfolding answerOf outputOf workOf
+damaged bytes out work e = rw e (record { answer = refl; output = refl; workspace = refl })
+
+pub job-damaged : (bytes out work : List ℕ) (h : Heading) → h ≡ Damaged → headed h ≡ answerOf (formatRefusal bytes) (countOf bytes ∷ []) → JobSays bytes out work (Refused 9) out work
+job-damaged bytes out work h d e = damaged bytes out work (refused-is 9 (formatRefusal bytes) (countOf bytes) [] (sym (ap headed d) ∙ e) .0)
+
+-- ---- one that does not, of s states
+
+module _ (bytes : List ℕ) (s : ℕ) (h : Heading) (g : h ≡ States s) (e : headed h ≡ answerOf (formatRefusal bytes) (countOf bytes ∷ [])) where
+  sound : (formatRefusal bytes ≡ 0) × (s ∷ [] ≡ countOf bytes ∷ [])
+  sound = accepted-is (headed (States s)) (formatRefusal bytes) _ (sym (ap headed g) ∙ e) refl
+
+  count-is : s ≡ countOf bytes
+  count-is = let p = sound .1 in cc
+
+  pub few-states : s ≤ mostStates
+  few-states = rw count-is (accepted-job bytes (sound .0) .few)
+
+  abbrev j : Job
+  j = jobAt bytes s
+
+  long : length (j .means) ≡ s
+  long = floats-long bytes 15 s
+
+  module _ (out work : List ℕ) (r : Fitted) (out′ work′ : List ℕ) (f : CreateSays j out work r out′ work′) where
+    abbrev k : ℕ
+    k = refusalOf j out work
+
+    pub job-refused : (m number : ℕ) → r ≡ Fit·Refused m → number ≡ fitted r .number → JobSays bytes out work (Refused number) out′ work′
+    job-refused m number d q = rw (sound .0, ← count-is, q ∙ ap (λ (x : Fitted). fitted x .number) d) (says-refused k _ (fitOf j .durations) (length (j .means)) out work out′ work′ _ m (rw d at f))
+
+    -- accepted, with c changes
+    module _ (c : ℕ) (d : r ≡ Fit·Done c) where
+      done : (k ≡ 0) × (c ∷ [] ≡ fitOf j .changes ∷ [])
+      done = accepted-is (fitted (Fit·Done c)) k _ (sym (ap fitted d) ∙ f .answer) refl
+
+      pub job-room : s ≤ length out′
+      job-room = rw long at (fit-room j out work out′ (done .0) (f .output))
+
+      module _ (frames : ℕ) (q : frames ≡ total (take (2 ^ 32) (take s out′))) where
+        bounded : Bounded (length (j .means)) (fitOf j)
+        bounded = fit-bounded j out work out′ (done .0) (f .output)
+
+        frames-is : frames ≡ total (fitOf j .durations)
+        frames-is =
+            let t : take s out′ ≡ fitOf j .durations = rw long at (fit-taken j out work out′ (done .0) (f .output)) in
+            let l : length (fitOf j .durations) ≤ 4294967296 = omega (arith, bounded .count, long, few-states) in
+            q ∙ rw t (total-whole (fitOf j .durations) l)
+
+        pub job-few : frames ≤ mostFrames
+        job-few = rw frames-is (bounded .few)
+
+        pub job-done : JobSays bytes out work (Done s frames c) out′ work′
+        job-done =
+            let v = done .1 in
+            let u : c ≡ fitOf j .changes = cc in
+            rw (sound .0, ← count-is)
+            (says-accepted k (length (j .means) ∷ total (fitOf j .durations) ∷ fitOf j .changes ∷ []) (fitOf j .durations) (length (j .means)) out work out′ work′ _ (record { number = 0; values = s ∷ frames ∷ c ∷ [] }) (fitted r) (done .0) (rw (long, frames-is, u)) f)

@@ -1,0 +1,67 @@
+-- A speed that is not refused gives one duration a state, and not too many frames. Assumes nothing.
+use mathlib.Core.Path.{_≡_, refl}
+use mathlib.Core.Bool.{Bool, true, false, cond, _||_}
+use mathlib.Core.List.{List}
+use Prim.Native.Nat.{ℕ, zero, suc, _≤_, _<_}
+use native.Mathlib.Omega.{arith}
+use lib.Dec.{leb, ltb, eqb}
+use lib.ListN.{length, replicate, length-replicate}
+use lib.Ieee.{Float, eq}
+use borrow.Author.Tests.{eqb-false, leb-false, ltb-false}
+use Rattle.lists.specs.Totals.{total}
+use Rattle.model.specs.Pair.{nought, one}
+use Rattle.duration.specs.Estimate.{shortest}
+use Rattle.duration.specs.Steps.{Outcome, unchanged}
+use Rattle.duration.specs.Fit.{mostFrames, startOf, plain, fitTo, refusalTo}
+use Rattle.duration.specs.Speed.{naturals, targetAt, fitAt, refusalAt}
+use Rattle.duration.proofs.Refusals.{cond-none}
+use Rattle.duration.proofs.Estimates.{length-estimates}
+use Rattle.duration.proofs.Demand3.{fair-fit}
+
+pub record Bounded (n : ℕ) (o : Outcome) : Type 0 where
+  pub count : length (o .durations) ≡ n
+  pub few : total (o .durations) ≤ mostFrames
+
+total-ones : (n : ℕ) → total (replicate n 1) ≡ n
+unfolding total
+total-ones zero = refl
+total-ones (suc n) = omega (arith, total-ones n)
+
+neither : (a b : Bool) → a || b ≡ false → (a ≡ false) × (b ≡ false)
+neither true b e = absurd (let z : _≡_ {A = ℕ} 0 1 = cc in omega arith)
+neither false b e = (refl, e)
+
+module _ (ms vs : List Float) (few : length ms ≤ 4096) (agree : length vs ≡ length ms) where
+  ones : Bounded (length ms) (unchanged (replicate (length ms) shortest))
+  ones = record { count = length-replicate (length ms) shortest; few = omega (arith, total-ones (length ms)) }
+
+  -- the target is above the count
+  module _ (t : ℕ) (e : refusalTo ms vs t ≡ 0) where
+    fit-above : plain (length ms) t ≡ false → Bounded (length ms) (fitTo ms vs t)
+    unfolding refusalTo
+    fit-above q =
+        let p = neither (eqb (length ms) 0) (leb t (length ms)) q in
+        let z : length ms ≡ 0 → ⊥ = eqb-false (length ms) 0 (p .0) in
+        let some : 0 < length ms = omega arith in
+        let f = fair-fit ms vs t some agree (leb-false t (length ms) (p .1)) e in
+        let a : _≡_ {A = ℕ} (cond (ltb mostFrames t) 7 (cond (leb t (length ms)) 0 (cond (ltb mostFrames (total (startOf ms vs t))) 8 0))) 0 = rw (p .0) at e in
+        record { count = f .count; few = omega (arith, f .sum, ltb-false mostFrames t (cond-none (ltb mostFrames t) 6 _ a .0)) }
+
+    fit-bounded : Bounded (length ms) (fitTo ms vs t)
+    unfolding fitTo
+    fit-bounded =
+        (elim (plain (length ms) t) as (λ s. plain (length ms) t ≡ s → Bounded (length ms) (fitTo ms vs t)) [
+          | true ↦ λ q. rw q ones
+          | false ↦ λ q. fit-above q
+        ])
+        refl
+
+  pub speed-bounded : (speed : Float) → refusalAt ms vs speed ≡ 0 → Bounded (length ms) (fitAt ms vs speed)
+  unfolding refusalAt fitAt naturals
+  speed-bounded speed e =
+      let p = cond-none (ltb mostFrames (total (naturals ms vs))) 7 _ e in
+      (elim (eq speed one) as (λ s. eq speed one ≡ s → Bounded (length ms) (fitAt ms vs speed)) [
+        | true ↦ λ q. rw q (record { count = length-estimates nought ms vs agree; few = ltb-false mostFrames (total (naturals ms vs)) (p .0) })
+        | false ↦ λ q. rw q (fit-bounded (targetAt ms vs speed) (rw q at (p .1)))
+      ])
+      refl

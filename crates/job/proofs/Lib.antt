@@ -1,0 +1,9 @@
+-- Laws, and the theorems on what the promise says.
+pub mod Fronts
+pub mod Departures
+pub mod Pairs
+pub mod Frames
+pub mod Answers
+pub mod Outcomes
+pub mod Written
+pub mod Cases

@@ -1,0 +1,56 @@
+-- `job::starts_with` meets its contract. The first i bytes are alike, and the rest decides. Assumes nothing.
+use Prim.Native.Nat.{_-_}
+use borrow.Author.Needs.{needs}
+use lib.ListN.{length}
+use Rattle.job.proofs.Fronts.{Alike, alike, alike-done, alike-short, alike-not, alike-next}
+use Rattle.job.proofs.starts_with.Statement.{statement}
+use Rattle.job.proofs.starts_with.Tie as tie
+
+abbrev Inv-loop : tie.InvT-loop
+Inv-loop bytes front i₀ i = Alike front bytes i
+
+abbrev μ-loop : tie.MeasureT-loop
+μ-loop bytes front i₀ i = length front - i
+
+loop-holds : tie.Need-loop-holds Inv-loop μ-loop
+loop-holds c = alike _ _
+
+returns : tie.Need-returns Inv-loop μ-loop
+returns c = alike-short (c .before .before .loop .inv) (c .before .loop-test .taken) (c .if1 .taken)
+
+shared-slice-read-if2 : tie.Need-shared-slice-read-if2 Inv-loop μ-loop
+shared-slice-read-if2 c = search needs
+
+shared-slice-read-if2-2 : tie.Need-shared-slice-read-if2-2 Inv-loop μ-loop
+shared-slice-read-if2-2 c = search needs
+
+returns-2 : tie.Need-returns-2 Inv-loop μ-loop
+returns-2 c = alike-not (c .before .before .before .before .before .loop .inv) (c .before .before .before .before .loop-test .taken) (c .before .before .before .if1 .left) (c .if2 .taken)
+
+add-i : tie.Need-add-i Inv-loop μ-loop
+add-i c = search needs
+
+loop-less : tie.Need-loop-less Inv-loop μ-loop
+loop-less c = search needs
+
+loop-again : tie.Need-loop-again Inv-loop μ-loop
+loop-again c = alike-next (c .before .before .before .before .before .loop .inv) (c .before .before .before .before .loop-test .taken) (c .before .before .before .if1 .left) (c .if2 .left)
+
+returns-3 : tie.Need-returns-3 Inv-loop μ-loop
+returns-3 c = alike-done (c .before .loop .inv) (c .loop-test .left)
+
+pub starts-with-spec : {M : Type 1} → statement M
+starts-with-spec =
+    tie.close
+    (tie.spec
+    Inv-loop
+    μ-loop
+    loop-holds
+    returns
+    shared-slice-read-if2
+    shared-slice-read-if2-2
+    returns-2
+    add-i
+    loop-less
+    loop-again
+    returns-3)

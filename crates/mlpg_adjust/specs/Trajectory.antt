@@ -1,0 +1,64 @@
+-- The trajectory of one stream, from its records: mask, boundaries, closing up, normal equations, global variance, filling back. Assumes nothing.
+use mathlib.Core.Bool.{Bool}
+use mathlib.Core.List.{List, map}
+use Prim.Native.Nat.{ℕ, _+_, _*_, _/_, _%_}
+use lib.ListN.{length}
+use lib.Ieee.{Float, binary64, mul}
+use Rattle.lists.specs.Totals.{total}
+use Rattle.lists.specs.Build.{build}
+use Rattle.model.specs.Windows.{bandWidth}
+use Rattle.mlpg_adjust.specs.Frames.{expand, select, fill, count}
+use Rattle.mlpg_adjust.specs.Rows.{elem, rows}
+use Rattle.mlpg_adjust.specs.Paper.{bandRows, rightSide}
+use Rattle.mlpg_adjust.specs.Solve.{solution}
+use Rattle.mlpg_adjust.specs.Parmgen.{parmgen}
+use Rattle.mlpg_adjust.specs.MaskVoicing.{flag, isOn, maskOf, weightsOf}
+use Rattle.mlpg_adjust.specs.MaskWindows.{meansIn, ivarsIn}
+
+-- 01, Refusal numbers: "a record has windows × v pairs and, if masked, one weight"
+abbrev pub recordSize : ℕ → ℕ → Bool → ℕ
+recordSize v windows masked = windows * v + windows * v + flag masked
+
+-- a stream of records of so many numbers, with its mask and windows
+module _ (size : ℕ) (records : List Float) (threshold : Float) (ds : List ℕ) where
+  -- 01, Mask and boundaries: which of the stream's frames are voiced
+  abbrev pub streamMask : List Bool
+  streamMask = maskOf threshold (weightsOf size records (length ds)) ds
+
+  module _ (v : ℕ) (widths : List ℕ) (coefs : List Float) (component : ℕ) where
+    -- the component's inverse variances of the voiced frames, window after window
+    unfoldable pub ivarsOf : List Float
+    unfolding rows ivarsIn
+    ivarsOf = rows (ivarsIn size records v component widths streamMask ds) (length widths)
+
+    -- and its means
+    unfoldable pub meansOf : List Float
+    unfolding rows meansIn
+    meansOf = rows (meansIn size records v component streamMask ds) (length widths)
+
+    -- 01, Mask and boundaries: "Voiced frames are then closed up and solved together": the matrix of their normal equations
+    unfoldable pub matrix : List Float
+    unfolding bandRows ivarsOf
+    matrix = bandRows widths coefs (count streamMask) ivarsOf (bandWidth widths)
+
+    -- and the right side
+    unfoldable pub side : List Float
+    unfolding rightSide ivarsOf meansOf
+    side = rightSide widths coefs (count streamMask) ivarsOf meansOf
+
+    -- 01, Band rows and solving
+    unfoldable pub solved : List Float
+    unfolding solution matrix side
+    solved = solution (bandWidth widths) matrix side
+
+    -- 01, Global variance: "Target mean is the GV mean × weight; the GV variance is used as given". The list is v means, then v variances
+    unfoldable pub varied : Float → List Float → List ℕ → List Float
+    unfolding parmgen select expand matrix side solved
+    varied weight gv switches =
+        parmgen (bandWidth widths) matrix side (map isOn (select streamMask (expand ds switches))) (length widths)
+        (mul binary64 (elem gv component) weight) (elem gv (v + component)) solved
+
+  -- 01, Sizes: "frames × v numbers, place frame × v + component"; the voiced frames have each component's values, "the rest get the fill number"
+  unfoldable pub trajectory : ℕ → Float → (ℕ → List Float) → List Float
+  unfolding build fill
+  trajectory v none values = build (λ p. elem (fill none streamMask (values (p % v))) (p / v)) (total ds * v)

@@ -1,0 +1,2 @@
+-- The law that the proofs of reading cite.
+pub mod Reading

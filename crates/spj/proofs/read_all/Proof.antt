@@ -1,0 +1,95 @@
+-- `spj::read_all` meets its contract. Assumes nothing.
+use mathlib.Core.Path.{_≡_, _∙_}
+use Prim.Native.Nat.{_+_, _-_, _≤_}
+use borrow.Author.Needs.{needs}
+use lib.ListN.{length}
+use native.Mathlib.Omega.{arith}
+use Rattle.spj.proofs.Reading.{within, room-kept, read-within}
+use Rattle.spj.proofs.read_all.Statement.{statement}
+use Rattle.spj.proofs.read_all.Tie as tie
+
+abbrev Inv-loop : tie.InvT-loop
+Inv-loop fd room₀ n₀ room n = (n ≤ length room₀) × (length room ≡ length room₀)
+
+abbrev μ-loop : tie.MeasureT-loop
+μ-loop fd room₀ n₀ room n = length room₀ - n
+
+loop-holds : tie.Need-loop-holds Inv-loop μ-loop
+loop-holds c = search needs
+
+sub-read-some : tie.Need-sub-read-some Inv-loop μ-loop
+sub-read-some c = search needs
+
+part-read-some-start : tie.Need-part-read-some-start Inv-loop μ-loop
+part-read-some-start c = search needs
+
+part-read-some-end : tie.Need-part-read-some-end Inv-loop μ-loop
+part-read-some-end c = search needs
+
+read-some-requires : tie.Need-read-some-requires Inv-loop μ-loop
+read-some-requires c κs = search needs
+
+enum-known-more : tie.Need-enum-known-more Inv-loop μ-loop
+enum-known-more c = search needs
+
+enum-told : tie.Need-enum-told Inv-loop μ-loop
+enum-told c = search needs
+
+same-length : tie.Need-same-length Inv-loop μ-loop
+same-length c = search needs
+
+returns : tie.Need-returns Inv-loop μ-loop
+returns c = search needs
+
+same-length-2 : tie.Need-same-length-2 Inv-loop μ-loop
+same-length-2 c = search needs
+
+returns-2 : tie.Need-returns-2 Inv-loop μ-loop
+returns-2 c =
+    let l = c .before .before .before .before .before .before .before .before .before .loop in
+    omega (arith, room-kept (l .n) (l .room) (c .before .before .before .before .before .before .read-some .last .1 .0) (c .before .before .before .before .before .before .before .before .loop-test .taken) (c .before .before .before .before .before .before .read-some .kept .1 .0))
+
+read-more : (c : tie.Else1 Inv-loop μ-loop) → let l = c .before .before .before .before .before .before .before .before .before .loop in l .n + c .before .before .more .given .0 .0 ≤ length (l .room)
+read-more c =
+    let l = c .before .before .before .before .before .before .before .before .before .loop in
+    read-within (l .n) (l .room) (c .before .before .before .before .before .before .read-some .last .1 .0) (c .before .before .before .before .before .before .before .before .loop-test .taken) (c .before .before .before .before .before .before .read-some .kept .1 .0) _ (within _ _ _ (c .before .before .more .given .1) (c .before .before .before .before .before .before .read-some .ensures))
+
+add-n : tie.Need-add-n Inv-loop μ-loop
+add-n c = let h = read-more c in record { fits = omega arith }
+
+loop-less : tie.Need-loop-less Inv-loop μ-loop
+loop-less c = search needs
+
+loop-again : tie.Need-loop-again Inv-loop μ-loop
+loop-again c =
+    let l = c .before .before .before .before .before .before .before .before .before .loop in
+    (omega (arith, read-more c), room-kept (l .n) (l .room) (c .before .before .before .before .before .before .read-some .last .1 .0) (c .before .before .before .before .before .before .before .before .loop-test .taken) (c .before .before .before .before .before .before .read-some .kept .1 .0) ∙ l .inv .1)
+
+same-length-3 : tie.Need-same-length-3 Inv-loop μ-loop
+same-length-3 c = search needs
+
+returns-3 : tie.Need-returns-3 Inv-loop μ-loop
+returns-3 c = omega arith
+
+pub read-all-spec : {M : Type 1} → statement M
+read-all-spec =
+    tie.close
+    (tie.spec
+    Inv-loop
+    μ-loop
+    loop-holds
+    sub-read-some
+    part-read-some-start
+    part-read-some-end
+    read-some-requires
+    enum-known-more
+    enum-told
+    same-length
+    returns
+    same-length-2
+    returns-2
+    add-n
+    loop-less
+    loop-again
+    same-length-3
+    returns-3)
