@@ -1,0 +1,2 @@
+-- The table's proof.
+pub mod Table

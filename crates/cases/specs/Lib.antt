@@ -1,0 +1,2 @@
+-- 01's table.
+pub mod Table
