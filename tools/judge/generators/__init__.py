@@ -38,6 +38,13 @@ def make(seed: int, kind: str, index: int) -> Case:
     return case
 
 
+def make_damaged(seed: int, kind: str, index: int) -> Case:
+    """A damaged case; of a job the bytes are, whatever else is."""
+    rng = Random(f"{seed} {kind} {index}")
+    case = GENERATORS[kind](rng, False)
+    return damage.damaged(rng, damage.changed_bytes(rng, case))
+
+
 def make_small(seed: int, kind: str, index: int) -> Case:
     """A well-shaped case small enough to store."""
     return GENERATORS[kind](Random(f"{seed} {kind} {index}"), True)
