@@ -1,4 +1,5 @@
 // What a replay reads from standard input. No contract can say what is read.
+ghost use lib.ListN.{length};
 ghost use Rattle.replay.specs.Input.{Within, Front};
 
 // What standard input had for some bytes.
@@ -122,6 +123,19 @@ pub fn read_floats(into: &mut [f64]) -> Listed
         into[i] = x;
         i += 1;
     }
+    Listed::Of(n)
+}
+
+// A list of bytes over the first of those that are lent; what is beyond stays.
+pub fn read_bytes(into: &mut [u8]) -> Listed
+    ensures { λ r. ⌜ Within r (length (now (into .entry))) ⌝ }
+{
+    let Listed::Of(n) = read_count(into.len()) else {
+        return Listed::Cut;
+    };
+    let Came::Whole = read(&mut into[..n]) else {
+        return Listed::Cut;
+    };
     Listed::Of(n)
 }
 

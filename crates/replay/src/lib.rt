@@ -16,6 +16,7 @@ pub use input::Listed;
 pub use input::Number;
 pub use input::read;
 pub use input::read_byte;
+pub use input::read_bytes;
 pub use input::read_cases;
 pub use input::read_float;
 pub use input::read_floats;
