@@ -1,6 +1,7 @@
-//! Durations: estimates alone, speeds, and the largest gaps.
+//! Durations: growth with states and steps, estimates alone, speeds, and the largest gaps.
 
 use std::hint::black_box;
+use std::time::{Duration, Instant};
 
 use jbonsai::{duration::DurationEstimator, model::MeanVari};
 
@@ -44,6 +45,23 @@ impl States {
         Self { estimator, parameters, means, varis, out: vec![0; count], work: vec![0; count] }
     }
 
+    /// States and a length at which the rule takes so many steps: the means of the short states make rho 0, so that every
+    /// other state is estimated too long.
+    fn too_long(count: usize, steps: usize) -> (Self, Asked) {
+        let mut inputs = Inputs::new();
+        let long = count.div_ceil(2);
+        let short = count - long;
+        let each = steps / long + 3;
+        let target = long * each + short - steps;
+        let mean = 1.0 - steps as f64 / short as f64;
+        let mut next = mean;
+        let states = Self::new(count, || {
+            next = if next == mean { each as f64 } else { mean };
+            (next, inputs.between(0.5, 20.0))
+        });
+        (states, Asked::Length(target as f64))
+    }
+
     fn rust(&self, asked: Asked) -> Vec<usize> {
         match asked {
             Asked::Speed(speed) => self.estimator.create(speed),
@@ -78,17 +96,34 @@ impl States {
         let steps = self.ours(asked);
         let same = self.rust(asked).iter().zip(&self.out).all(|(&rust, &ours)| rust == ours as usize);
         assert!(same, "the two differ: {what}");
-        let ours = least_time(|| {
-            black_box(self.ours(black_box(asked)));
-        });
-        let rust = least_time(|| {
-            black_box(self.rust(black_box(asked)));
-        });
-        row(&format!("{what}, {steps} steps"), rust, ours);
+        // Short calls are timed a hundred at once, so that reading the clock doesn't count.
+        let rounds = if self.means.len() * (steps as usize + 10) < 20_000 { 100 } else { 1 };
+        // Both in turn, so that what else the machine does falls on both.
+        let (mut rust, mut ours) = (Duration::MAX, Duration::MAX);
+        let begin = Instant::now();
+        while begin.elapsed() < Duration::from_secs(2) {
+            ours = ours.min(least_time(|| {
+                for _ in 0..rounds {
+                    black_box(self.ours(black_box(asked)));
+                }
+            }));
+            rust = rust.min(least_time(|| {
+                for _ in 0..rounds {
+                    black_box(self.rust(black_box(asked)));
+                }
+            }));
+        }
+        row(&format!("{what}, {steps} steps"), rust / rounds, ours / rounds);
     }
 }
 
 pub fn run() {
+    for count in [2, 5, 10, 100, 1_000, 4_096] {
+        for steps in [10, 100, 1_000, 10_000] {
+            let (mut states, asked) = States::too_long(count, steps);
+            states.compare(&format!("{count} states"), asked);
+        }
+    }
     for count in [100, 1_000, 4_096] {
         let mut inputs = Inputs::new();
         let mut states = States::new(count, || (inputs.between(1.0, 12.0), inputs.between(0.5, 20.0)));

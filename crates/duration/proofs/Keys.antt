@@ -2,7 +2,7 @@
 use mathlib.Core.Path.{_≡_, refl, sym, ap, subst}
 use mathlib.Core.Bool.{Bool, true, false, cond}
 use mathlib.Core.List.{List, [], _∷_}
-use Prim.Native.Nat.{ℕ, zero, suc, _-_, _<_, suc-le-suc}
+use Prim.Native.Nat.{ℕ, zero, suc, _-_, _≤_, _<_, suc-le-suc}
 use native.Mathlib.Nat.{not-suc-le-zero}
 use native.Mathlib.Omega.{arith}
 use lib.Dec.{T, ltb}
@@ -12,13 +12,13 @@ use lib.Ieee.Fits.{sub-fits}
 use borrow.Author.Tests.{ltb-true, ltb-false, lt-ltb}
 use Rattle.lists.specs.Totals.{total}
 use Rattle.floats.proofs.Ordered.{abs-fits, abs-clear}
-use Rattle.duration.specs.declared.steps.Key.{Key}
-use Rattle.duration.specs.declared.steps.Key.the-variants.{Fixed, Cost}
 use Rattle.duration.specs.Estimate.{shortest}
-use Rattle.duration.specs.Steps.{costOf, keyOf, keys, sooner, leastOf}
+use Rattle.duration.specs.Steps.{Key, costOf, keyOf, keys, sooner, leastOf}
+use Rattle.duration.specs.Steps.Key.{Fixed, Cost}
+use Rattle.duration.specs.Scores.{mostStates, rank, keyAt, scores}
 use Rattle.duration.proofs.Order.{clash, Sound}
 use Rattle.duration.proofs.Order.Sound.{fixed, cost}
-use Rattle.duration.proofs.Least.{leastKey, least-first, least-later, least-in}
+use Rattle.duration.proofs.Least.{leastKey, least-first, least-later, least-in, least-score}
 
 key-sound : (w : Bool) (rho m v : Float) (d : ℕ) → Sound (keyOf w rho m v d)
 unfolding keyOf
@@ -116,11 +116,7 @@ moves-long rho m v d =
 
 module _ (rho : Float) (ms vs : List Float) (ds : List ℕ) (e : length vs ≡ length ms) (q : length ds ≡ length ms) where
   pub place-in : (w : Bool) → 0 < length ms → leastOf (keys w rho ms vs ds) < length ms
-  place-in w z = subst (λ (n : ℕ). leastOf (keys w rho ms vs ds) < n) (length-keys w rho ms vs ds e q) (some-key (keys w rho ms vs ds) (subst (λ (n : ℕ). 0 < n) (sym (length-keys w rho ms vs ds e q)) z))
-    where
-      some-key : (ks : List Key) → 0 < length ks → leastOf ks < length ks
-      some-key [] h = absurd (not-suc-le-zero h)
-      some-key (k ∷ ks) h = least-in k ks
+  place-in w z = let n : length (keys w rho ms vs ds) ≡ length ms = length-keys w rho ms vs ds e q in subst (λ (n : ℕ). leastOf (keys w rho ms vs ds) < n) n (least-in (keys w rho ms vs ds) (omega arith))
 
   -- the state that gives a frame has one to give
   pub place-long : length ms < total ds → 1 < getD ds (leastOf (keys false rho ms vs ds)) 0
@@ -132,3 +128,15 @@ module _ (rho : Float) (ms vs : List Float) (ds : List ℕ) (e : length vs ≡ l
       let z : 0 < length ms = omega (arith, l .inside) in
       let t : T (movable (leastKey ks)) = least-moves ks (l .place) (subst (λ (k : Key). T (movable k)) (getD-keys false rho ms vs ds (l .place) e q (omega (arith, l .inside))) (key-moves rho _ _ _ (l .long))) in
       moves-long rho (getD ms i nan) (getD vs i nan) (getD ds i 0) (subst (λ (k : Key). T (movable k)) (sym (getD-keys false rho ms vs ds i e q (place-in false z))) t)
+
+-- the state of the least score is the one that a step changes
+module _ (w : Bool) (rho : Float) (ms vs : List Float) (ds : List ℕ) (e : length vs ≡ length ms) (q : length ds ≡ length ms) where
+  rank-is : (i : ℕ) → i < length ms → keyAt w rho ms vs ds i ≡ rank (getD (keys w rho ms vs ds) i Fixed)
+  unfolding keyAt
+  rank-is i h = ap rank (getD-keys w rho ms vs ds i e q h)
+
+  pub least-place : length ms ≤ mostStates → (p : ℕ) → p < length ms → ((j : ℕ) → j < length ms → scores (keyAt w rho ms vs ds) p ≤ scores (keyAt w rho ms vs ds) j) → p ≡ leastOf (keys w rho ms vs ds)
+  least-place few p h least =
+      let n : length (keys w rho ms vs ds) ≡ length ms = length-keys w rho ms vs ds e q in
+      least-score (keys w rho ms vs ds) (keys-sound w rho ms vs ds) (omega arith) p (omega arith)
+      (λ j l. let m : j < length ms = omega arith in rw (rank-is p h, rank-is j m) at (least j m))

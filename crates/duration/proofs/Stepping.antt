@@ -65,6 +65,11 @@ pub found-may : (up : Bool) (rho : Float) (ms vs : List Float) (ds : List ℕ) �
 found-may true rho ms vs ds r i at h = omega (arith, getD-le-total ds i, r .small)
 found-may false rho ms vs ds r i at h = let k : 1 < getD ds i 0 = rw at (place-long rho ms vs ds (r .varis) (r .work) h) in omega arith
 
+-- the durations are ready for the next
+pub step-ready : (rho : Float) (ms vs : List Float) (up : Bool) (ds : List ℕ) → Ready ms vs ds → RoomFor up (length ms) (total ds) → Ready ms vs (step up rho ms vs ds)
+step-ready rho ms vs true ds r h = record { some = r .some; few = r .few; varis = r .varis; work = length-step rho ms vs true ds ∙ r .work; small = omega (arith, total-up rho ms vs (r .some) (r .varis) ds (r .work)) }
+step-ready rho ms vs false ds r h = record { some = r .some; few = r .few; varis = r .varis; work = length-step rho ms vs false ds ∙ r .work; small = omega (arith, r .small, total-down rho ms vs (r .some) (r .varis) ds (r .work) h) }
+
 -- ---- the rule, a turn at a time
 
 module _ (rho : Float) (ms vs : List Float) (t : ℕ) where
@@ -145,7 +150,7 @@ module _ (rho : Float) (ms vs : List Float) (t : ℕ) (start : List ℕ) where
         let u : total (step true rho ms vs ds) ≡ total ds + 1 = total-up rho ms vs (g .ready .some) (g .ready .varis) ds (g .ready .work) in
         let l : sum < t = omega (arith, g .way) in
         record {
-          ready = record { some = g .ready .some; varis = g .ready .varis; work = length-step rho ms vs true ds ∙ g .ready .work; small = omega (arith, g .aim .known, g .aim .within) };
+          ready = step-ready rho ms vs true ds (g .ready) (going-room true g);
           aim = record { known = omega (arith, g .aim .known); above = g .aim .above; within = g .aim .within };
           way = omega arith;
           enough = omega (arith, g .enough);
@@ -156,7 +161,7 @@ module _ (rho : Float) (ms vs : List Float) (t : ℕ) (start : List ℕ) where
         let l : t < sum = omega (arith, g .way) in
         let u : total (step false rho ms vs ds) + 1 ≡ total ds = total-down rho ms vs (g .ready .some) (g .ready .varis) ds (g .ready .work) (omega (arith, g .aim .known, g .aim .above)) in
         record {
-          ready = record { some = g .ready .some; varis = g .ready .varis; work = length-step rho ms vs false ds ∙ g .ready .work; small = omega (arith, g .ready .small) };
+          ready = step-ready rho ms vs false ds (g .ready) (going-room false g);
           aim = record { known = omega (arith, g .aim .known); above = g .aim .above; within = g .aim .within };
           way = omega arith;
           enough = omega (arith, g .enough);

@@ -8,8 +8,6 @@ use lib.ListN.{getD, set}
 use lib.Ieee.{Float, binary64, sub, div}
 use Rattle.lists.specs.Totals.{total}
 use Rattle.floats.specs.Order.{absOf, costBelow}
-use Rattle.duration.specs.declared.steps.Key.{Key}
-use Rattle.duration.specs.declared.steps.Key.the-variants.{Fixed, Cost}
 use Rattle.duration.specs.Estimate.{number, shortest}
 
 -- 01, Durations: "Cost is the absolute value of rho − (d − mean)/variance."
@@ -20,6 +18,11 @@ costOf rho m v d = absOf (sub binary64 rho (div binary64 (sub binary64 (number d
 abbrev pub moved : Bool → ℕ → ℕ
 moved true d = d + 1
 moved false d = d - 1
+
+-- what a state's step would cost, if it may take one
+pub data Key : Type 0 where
+  Fixed : Key
+  Cost : Float → Key
 
 -- 01, Durations: "cost at its duration + 1", and of a "state above 1" the "cost at duration − 1"; a state of 1 is fixed
 unfoldable pub keyOf : Bool → Float → Float → Float → ℕ → Key

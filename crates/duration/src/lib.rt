@@ -4,9 +4,13 @@ ghost use Rattle.duration.specs.Inner.{HandsOut};
 ghost use Rattle.duration.specs.Promise.{refusalOfLists, refusalOfLabels, FitSays, SpeedSays, AlignSays};
 
 mod align;
+mod costs;
 mod fit;
+mod pack;
+mod scan;
 mod speed;
 mod steps;
+mod tree;
 
 pub enum Fitted {
     Done(u32),

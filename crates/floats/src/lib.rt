@@ -61,6 +61,16 @@ pub fn magnitude(x: f64) -> f64
     f64::from_bits(f64::to_bits(x) & 0x7fff_ffff_ffff_ffff)
 }
 
+// The bit pattern of |x|, with one pattern for every NaN.
+pub fn magnitude_bits(x: f64) -> u64
+    ensures { λ r. ⌜ r ≡ toBits binary64 (absOf x) ⌝ }
+{
+    if x != x {
+        return 0x7ff8_0000_0000_0000;
+    }
+    f64::to_bits(x) & 0x7fff_ffff_ffff_ffff
+}
+
 // Whether the cost a comes strictly before the cost b: all NaNs are equal and come last.
 pub fn cost_below(a: f64, b: f64) -> bool
     ensures { λ r. ⌜ r ≡ costBelow a b ⌝ }

@@ -23,6 +23,13 @@ GENERATORS: dict[str, Callable[[Random, bool], Case]] = {
     "job": spool.job_case,
 }
 
+# Fits with many steps to take and many ties.
+GAPS: dict[str, Callable[[Random], Case]] = {
+    "fit": durations.gap_fit,
+    "speed": durations.gap_speed,
+    "align": durations.gap_align,
+}
+
 DAMAGED_SHARE = 0.15
 ODD_NAN_SHARE = 0.01
 
@@ -43,6 +50,11 @@ def make_damaged(seed: int, kind: str, index: int) -> Case:
     rng = Random(f"{seed} {kind} {index}")
     case = GENERATORS[kind](rng, False)
     return damage.damaged(rng, damage.changed_bytes(rng, case))
+
+
+def make_gap(seed: int, kind: str, index: int) -> Case:
+    """A well-shaped fit with a large gap."""
+    return GAPS[kind](Random(f"{seed} {kind} {index}"))
 
 
 def make_small(seed: int, kind: str, index: int) -> Case:

@@ -131,3 +131,57 @@ def align_case(rng: Random, small: bool) -> Case:
         "out": room(rng, labels * nstate),
         "work": room(rng, labels * nstate),
     })
+
+
+# As many costs a gap may take to fit: what the reading works out in some milliseconds.
+GAP_COSTS = 4_000
+
+
+def gap_states(rng: Random, count: int) -> tuple[list[float], list[float], int]:
+    """Pairs and a target with many steps between them, most with ties."""
+    steps = rng.randint(0, max(20, GAP_COSTS // count))
+    varis = rng.choice([[1.0], [0.5, 1.0, 2.0], [1.0, 1.0, -1.0], [0.0, 1.0]])
+    if rng.random() < 0.3:
+        varis = [rng.uniform(0.5, 20.0) for _ in range(count)]
+    if rng.random() < 0.3:
+        # Without variances rho is infinite or NaN, every estimate 1, and all costs are equal.
+        return positives(rng, "tied", count), [0.0] * count, count + steps
+    # Every other state is estimated too long: the means of the short ones make rho 0.
+    long = (count + 1) // 2
+    each = steps // long + rng.randint(2, 4)
+    short = 1.0 - steps / max(count - long, 1)
+    means = [float(each) if state % 2 == 0 else short for state in range(count)]
+    rng.shuffle(means)
+    return means, [rng.choice(varis) for _ in range(count)], long * each + count - long - steps
+
+
+def gap_count(rng: Random) -> int:
+    return rng.randint(*rng.choice([(1, 12), (13, 24), (25, 40), (41, 200)]))
+
+
+def gap_fit(rng: Random) -> Case:
+    count = gap_count(rng)
+    means, varis, target = gap_states(rng, count)
+    lists = {"means": means, "varis": varis, "length": float(target)}
+    return Case("fit", {**lists, "out": room(rng, count), "work": room(rng, count)})
+
+
+def gap_speed(rng: Random) -> Case:
+    count = gap_count(rng)
+    means, varis, target = gap_states(rng, count)
+    lists = {"means": means, "varis": varis, "speed": natural_total(means) / target}
+    return Case("speed", {**lists, "out": room(rng, count), "work": room(rng, count)})
+
+
+def gap_align(rng: Random) -> Case:
+    """Some groups of labels, each closed by its last one."""
+    nstate = rng.choice([1, 2, 5, 16])
+    means, varis, ends, time = [], [], [], 0
+    for _ in range(rng.randint(1, 3)):
+        labels = -(-gap_count(rng) // nstate)
+        group_means, group_varis, target = gap_states(rng, labels * nstate)
+        time += target
+        means, varis = means + group_means, varis + group_varis
+        ends += [rng.choice(OPEN_ENDS) for _ in range(labels - 1)] + [float(time)]
+    lists = {"means": means, "varis": varis, "nstate": nstate, "ends": ends}
+    return Case("align", {**lists, "out": room(rng, len(means)), "work": room(rng, len(means))})

@@ -66,7 +66,7 @@ settle-requires : tie.Need-settle-requires
 settle-requires c κs =
     let t = c .before .before in
     let s = sum t in
-    (record { some = some (c .before .before .before .before .before .before .before .before .before .before .before); varis = c .before .before .before .before .before .before .before .before .before .before .before .before .before .before .before .pre .varis; work = W-length t; small = omega (arith, s, c .before .if4 .left) }, record { known = s; above = c .before .before .before .before .before .before .before .before .before .if3 .left; within = c .before .before .before .before .before .before .before .before .before .before .if2 .left })
+    (record { some = some (c .before .before .before .before .before .before .before .before .before .before .before); few = c .before .before .before .before .before .before .before .before .before .before .before .before .before .before .before .pre .few; varis = c .before .before .before .before .before .before .before .before .before .before .before .before .before .before .before .pre .varis; work = W-length t; small = omega (arith, s, c .before .if4 .left) }, record { known = s; above = c .before .before .before .before .before .before .before .before .before .if3 .left; within = c .before .before .before .before .before .before .before .before .before .before .if2 .left })
 
 same-length-3 : tie.Need-same-length-3
 same-length-3 c = search needs

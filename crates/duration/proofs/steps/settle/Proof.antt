@@ -1,51 +1,76 @@
 -- `duration::steps::settle` meets its contract. Assumes nothing.
-use Rattle.lists.specs.Totals.{gap}
-use Rattle.duration.proofs.Stepping.{Going, going, going-room, going-may, going-few, going-again, going-less, going-done}
-use native.Mathlib.Omega.{arith}
+use borrow.Author.Needs.{needs}
+use Rattle.duration.proofs.Alone.{alone-has, alone-settled}
 use Rattle.duration.proofs.steps.settle.Statement.{statement}
 use Rattle.duration.proofs.steps.settle.Tie as tie
 
-abbrev Inv-loop : tie.InvT-loop
-Inv-loop sum target rho means varis work₀ up now-at₀ changes₀ work now-at changes = Going rho means varis target work₀ up work now-at changes
+distance-requires : tie.Need-distance-requires
+distance-requires c κs = search needs
 
-abbrev μ-loop : tie.MeasureT-loop
-μ-loop sum target rho means varis work₀ up now-at₀ changes₀ work now-at changes = gap now-at target
+lone-requires : tie.Need-lone-requires
+lone-requires c κs = search needs
 
-loop-holds : tie.Need-loop-holds Inv-loop μ-loop
-loop-holds c = let st = c .before .before .before in going _ _ _ _ _ _ (st .pre .0) (st .pre .1)
+mul-work : tie.Need-mul-work
+mul-work c = search needs
 
-step-once-requires : tie.Need-step-once-requires Inv-loop μ-loop
-step-once-requires c κs = let l = c .before .before .loop in (l .inv .ready, going-room _ _ _ _ _ _ _ _ (c .before .loop-test .taken) _ (l .inv))
+slice-read-work : tie.Need-slice-read-work
+slice-read-work c = search needs
 
-moved-one-requires : tie.Need-moved-one-requires Inv-loop μ-loop
-moved-one-requires c κs = going-may _ _ _ _ _ _ _ _ (c .before .before .before .before .loop-test .taken) _ (c .before .before .before .before .before .loop .inv)
+sub-work : tie.Need-sub-work
+sub-work c =
+    let st = c .before .before .before .before .before .before .before .before .before in
+    let l = c .before .before .lone in
+    rw (c .before .before .before .before .before .distance .ensures) (alone-has (st .args .rho) (st .args .means .now) (st .args .varis .now) (st .args .target) (st .args .sum) (st .args .work .now) (st .pre .0) (st .pre .1) (c .before .before .before .before .if1 .taken) (l .result) (c .before .if2 .taken) (l .ensures (c .before .if2 .taken)))
 
-add-changes : tie.Need-add-changes Inv-loop μ-loop
-add-changes c = omega (arith, going-few _ _ _ _ _ _ _ _ (c .before .before .before .before .before .loop-test .taken) _ (c .before .before .before .before .before .before .loop .inv))
+slice-write-work : tie.Need-slice-write-work
+slice-write-work c = search needs
 
-loop-less : tie.Need-loop-less Inv-loop μ-loop
-loop-less c = going-less _ _ _ _ _ _ _ _ (c .before .before .before .before .before .loop-test .taken) _ _ (c .before .before .before .before .before .before .loop .inv) (c .moved-one .ensures)
+same-length : tie.Need-same-length
+same-length c = search needs
 
-loop-again : tie.Need-loop-again Inv-loop μ-loop
-loop-again c = going-again _ _ _ _ _ _ _ _ (c .before .before .before .before .before .loop-test .taken) _ _ _ (c .before .before .before .before .before .before .loop .inv) (c .before .before .before .step-once .ensures) (c .moved-one .ensures)
+returns : tie.Need-returns
+returns c =
+    let st = c .before .before .before .before .before .before .before .before .before in
+    let l = c .before .before .lone in
+    rw (c .before .before .before .before .before .distance .ensures) (alone-settled (st .args .rho) (st .args .means .now) (st .args .varis .now) (st .args .target) (st .args .sum) (st .args .work .now) (st .pre .0) (st .pre .1) (c .before .before .before .before .if1 .taken) (l .result) (c .before .if2 .taken) (l .ensures (c .before .if2 .taken)))
 
-same-length : tie.Need-same-length Inv-loop μ-loop
-same-length c = c .before .loop .inv .long
+is-short-requires : tie.Need-is-short-requires
+is-short-requires c κs = search needs
 
-returns : tie.Need-returns Inv-loop μ-loop
-returns c = going-done _ _ _ _ _ _ _ _ _ (c .loop-test .left) (c .before .loop .inv)
+settle-requires : tie.Need-settle-requires
+settle-requires c κs = search needs
+
+same-length-2 : tie.Need-same-length-2
+same-length-2 c = search needs
+
+returns-2 : tie.Need-returns-2
+returns-2 c = search needs
+
+settle-requires-2 : tie.Need-settle-requires-2
+settle-requires-2 c κs = search needs
+
+same-length-3 : tie.Need-same-length-3
+same-length-3 c = search needs
+
+returns-3 : tie.Need-returns-3
+returns-3 c = search needs
 
 pub settle-spec : {M : Type 1} → statement M
 settle-spec =
     tie.close
     (tie.spec
-    Inv-loop
-    μ-loop
-    loop-holds
-    step-once-requires
-    moved-one-requires
-    add-changes
-    loop-less
-    loop-again
+    distance-requires
+    lone-requires
+    mul-work
+    slice-read-work
+    sub-work
+    slice-write-work
     same-length
-    returns)
+    returns
+    is-short-requires
+    settle-requires
+    same-length-2
+    returns-2
+    settle-requires-2
+    same-length-3
+    returns-3)

@@ -1,9 +1,9 @@
--- `duration::steps::key_of` meets its contract. Assumes nothing.
+-- `duration::costs::key_of` meets its contract. Assumes nothing.
 use borrow.Author.Needs.{needs}
 use borrow.Author.Tests.{lt-ltb, le-ltb}
 use Rattle.duration.specs.Steps.{keyOf}
-use Rattle.duration.proofs.steps.key_of.Statement.{statement}
-use Rattle.duration.proofs.steps.key_of.Tie as tie
+use Rattle.duration.proofs.costs.key_of.Statement.{statement}
+use Rattle.duration.proofs.costs.key_of.Tie as tie
 
 add-cost : tie.Need-add-cost
 add-cost c = search needs
@@ -13,7 +13,7 @@ cost-requires c κs = search needs
 
 returns : tie.Need-returns
 unfolding keyOf
-returns c = cc
+returns c = rw (c .before .if1 .taken, c .cost .ensures)
 
 sub-cost : tie.Need-sub-cost
 sub-cost c = search needs

@@ -1,11 +1,11 @@
--- `duration::steps::step_once` meets its contract. Assumes nothing.
+-- `duration::scan::step_once` meets its contract. Assumes nothing.
 use Prim.Native.Nat.{_<_}
 use native.Mathlib.Omega.{arith}
 use borrow.Author.Needs.{needs}
 use lib.ListN.{length}
 use Rattle.duration.proofs.Stepping.{found-in, found-may, found-step}
-use Rattle.duration.proofs.steps.step_once.Statement.{statement}
-use Rattle.duration.proofs.steps.step_once.Tie as tie
+use Rattle.duration.proofs.scan.step_once.Statement.{statement}
+use Rattle.duration.proofs.scan.step_once.Tie as tie
 
 -- where `least_of` has returned: its place is one of the states
 inside : (c : tie.After-least-of) → c .least-of .result < length (c .before .before .before .before .before .args .work .now)
