@@ -2,6 +2,7 @@
 //! runs; both answers are compared before they are timed.
 
 mod durations;
+mod trajectories;
 
 use std::time::{Duration, Instant};
 
@@ -53,7 +54,8 @@ fn shown(time: Duration) -> String {
 
 type Group = (&'static str, fn());
 
-const GROUPS: [Group; 1] = [("durations", durations::run)];
+const GROUPS: [Group; 3] =
+    [("durations", durations::run), ("trajectories", trajectories::run), ("growth", trajectories::growth)];
 
 fn main() {
     let asked: Vec<String> = std::env::args().skip(1).collect();

@@ -7,13 +7,15 @@ use Rattle.duration.specs.Promise.{fitted, aligned}
 use Rattle.duration.proofs.Calls.{fit-says-one, speed-says-one, align-says-one}
 use Rattle.mlpg_adjust.specs.MaskPromise.{maskNumber, maskValues}
 use Rattle.mlpg_adjust.specs.BandPromise.{bandNumber}
+use Rattle.mlpg_adjust.specs.TrajectoryPromise.{createdNumber}
 use Rattle.mlpg_adjust.proofs.MaskWays.{masked-one}
 use Rattle.mlpg_adjust.proofs.BandWays.{band-one}
+use Rattle.mlpg_adjust.proofs.CreateOne.{create-one}
 use Rattle.job.specs.Promise.{answered}
 use Rattle.job.proofs.Outcomes.{job-one}
 use Rattle.spool.specs.Promise.{placeNumber, placeValues, spanNumber, spanValues}
 use Rattle.spool.proofs.One.{place-one, span-one}
-use Rattle.hejmirov.specs.Promise.{handed, HandsOne, HandsTwo, HandsThree, FitCallSays, SpeedCallSays, AlignCallSays, MaskCallSays, BandCallSays, PlaceCallSays, ExcerptCallSays, JobCallSays}
+use Rattle.hejmirov.specs.Promise.{handed, HandsOne, HandsTwo, HandsThree, streamOf, FitCallSays, SpeedCallSays, AlignCallSays, MaskCallSays, BandCallSays, TrajectoryCallSays, PlaceCallSays, ExcerptCallSays, JobCallSays}
 
 -- one answer gives one number and one value
 hands-one : {A : Type 0} (number : A → ℕ) (values : A → List ℕ) (a b : A) (old r s x y : ℕ) → a ≡ b → HandsOne (number a) (values a) old r x → HandsOne (number b) (values b) old s y → (r ≡ s) × (x ≡ y)
@@ -70,6 +72,14 @@ pub band-call-one : (widths : List ℕ) (coefs means ivars rows right : List Flo
 band-call-one widths coefs means ivars rows right r s A₁ R₁ A₂ R₂ f g =
     let t = band-one widths coefs means ivars rows right (f .answer) (g .answer) A₁ R₁ A₂ R₂ (f .says) (g .says) in
     (f .gives ∙ ap bandNumber (t .0) ∙ sym (g .gives), t .1, t .2)
+
+pub trajectory-call-one : (v masked : ℕ) (threshold none : Float) (gvOn : ℕ) (weight : Float) (widths : List ℕ) (coefs records : List Float) (ds : List ℕ) (gv : List Float) (switches : List ℕ)
+    (out work : List Float) (marks : List ℕ) (r s : ℕ) (o₁ w₁ : List Float) (m₁ : List ℕ) (o₂ w₂ : List Float) (m₂ : List ℕ)
+    → TrajectoryCallSays v masked threshold none gvOn weight widths coefs records ds gv switches out work marks r o₁ w₁ m₁
+    → TrajectoryCallSays v masked threshold none gvOn weight widths coefs records ds gv switches out work marks s o₂ w₂ m₂ → (r ≡ s) × (o₁ ≡ o₂) × (w₁ ≡ w₂) × (m₁ ≡ m₂)
+trajectory-call-one v masked threshold none gvOn weight widths coefs records ds gv switches out work marks r s o₁ w₁ m₁ o₂ w₂ m₂ f g =
+    let t = create-one (streamOf v masked threshold none gvOn weight) widths coefs records ds gv switches out work marks (f .answer) (g .answer) o₁ w₁ m₁ o₂ w₂ m₂ (f .says) (g .says) in
+    (f .gives ∙ ap createdNumber (t .0) ∙ sym (g .gives), t .1, t .2, t .3)
 
 pub job-call-one : (bytes out work : List ℕ) (states frames changes r s : ℕ) (o₁ w₁ o₂ w₂ : List ℕ) (x₀ x₁ x₂ y₀ y₁ y₂ : ℕ)
     → JobCallSays bytes out work states frames changes r o₁ w₁ x₀ x₁ x₂ → JobCallSays bytes out work states frames changes s o₂ w₂ y₀ y₁ y₂ → (r ≡ s) × (o₁ ≡ o₂) × (w₁ ≡ w₂) × (x₀ ≡ y₀) × (x₁ ≡ y₁) × (x₂ ≡ y₂)

@@ -1,7 +1,9 @@
 -- What the C calls promise: a call below is made, and its answer taken apart into a number and what stands behind pointers. Assumes nothing.
 use mathlib.Core.Path.{_≡_}
+use mathlib.Core.Bool.{cond, not}
 use mathlib.Core.List.{List}
 use Prim.Native.Nat.{ℕ}
+use lib.Dec.{eqb}
 use lib.ListN.{getD}
 use lib.Ieee.{Float}
 use Rattle.duration.specs.Promise.{fitted, aligned, FitSays, SpeedSays, AlignSays}
@@ -9,6 +11,11 @@ use Rattle.duration.specs.declared.Fitted.{Fitted}
 use Rattle.duration.specs.declared.Aligned.{Aligned}
 use Rattle.mlpg_adjust.specs.MaskPromise.{maskNumber, maskValues, MaskedDistancesSays}
 use Rattle.mlpg_adjust.specs.BandPromise.{bandNumber, BandSays}
+use Rattle.mlpg_adjust.specs.TrajectoryPromise.{createdNumber, CreateSays}
+use Rattle.mlpg_adjust.specs.declared.Stream.{Stream}
+use Rattle.mlpg_adjust.specs.declared.GlobalVariance.{GlobalVariance}
+use Rattle.mlpg_adjust.specs.declared.GlobalVariance.the-variants.{Off, On}
+use Rattle.mlpg_adjust.specs.declared.Created.{Created}
 use Rattle.mlpg_adjust.specs.declared.mask.Masked.{Masked}
 use Rattle.mlpg_adjust.specs.declared.band.Banded.{Banded}
 use Rattle.job.specs.Promise.{answered, JobSays}
@@ -68,6 +75,21 @@ pub record BandCallSays (widths : List ℕ) (coefs means ivars rows right : List
   pub answer : Banded
   pub says : BandSays widths coefs means ivars rows right answer rows′ right′
   pub gives : r ≡ bandNumber answer
+
+-- GV is on where any bit is set
+abbrev pub varianceOf : ℕ → Float → GlobalVariance
+varianceOf on weight = cond (eqb on 0) Off (On weight)
+
+-- the stream that the first six numbers of a call say; it is masked where any bit is set
+abbrev pub streamOf : ℕ → ℕ → Float → Float → ℕ → Float → Stream
+streamOf v masked threshold none gvOn weight = record { v = v; masked = not (eqb masked 0); threshold = threshold; fill = none; gv = varianceOf gvOn weight }
+
+-- `hejmirov_trajectory`
+pub record TrajectoryCallSays (v masked : ℕ) (threshold none : Float) (gvOn : ℕ) (weight : Float) (widths : List ℕ) (coefs records : List Float) (ds : List ℕ) (gv : List Float) (switches : List ℕ)
+    (out work : List Float) (marks : List ℕ) (r : ℕ) (out′ work′ : List Float) (marks′ : List ℕ) : Type 0 where
+  pub answer : Created
+  pub says : CreateSays (streamOf v masked threshold none gvOn weight) widths coefs records ds gv switches out work marks answer out′ work′ marks′
+  pub gives : r ≡ createdNumber answer
 
 -- `hejmirov_place`
 pub record PlaceCallSays (frame component v place r place′ : ℕ) : Type 0 where

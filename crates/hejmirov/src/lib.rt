@@ -4,12 +4,16 @@ ghost use mathlib.Core.Path.{_≡_};
 ghost use Rattle.duration.specs.Promise.{fitted, aligned};
 ghost use Rattle.mlpg_adjust.specs.MaskPromise.{maskNumber, maskValues};
 ghost use Rattle.mlpg_adjust.specs.BandPromise.{bandNumber};
+ghost use Rattle.mlpg_adjust.specs.TrajectoryPromise.{createdNumber};
 ghost use Rattle.spool.specs.Promise.{placeNumber, placeValues, spanNumber, spanValues};
 ghost use Rattle.job.specs.Promise.{answered};
-ghost use Rattle.hejmirov.specs.Promise.{HandsOne, HandsTwo, HandsThree, FitCallSays, SpeedCallSays, AlignCallSays, MaskCallSays, BandCallSays, PlaceCallSays, ExcerptCallSays, JobCallSays};
+ghost use Rattle.hejmirov.specs.Promise.{HandsOne, HandsTwo, HandsThree, varianceOf, FitCallSays, SpeedCallSays, AlignCallSays, MaskCallSays, BandCallSays, TrajectoryCallSays, PlaceCallSays, ExcerptCallSays, JobCallSays};
 use duration::Aligned;
 use duration::Fitted;
 use job::Answered;
+use mlpg_adjust::Created;
+use mlpg_adjust::GlobalVariance;
+use mlpg_adjust::Stream;
 use mlpg_adjust::band::Banded;
 use mlpg_adjust::mask::Masked;
 use spool::Placed;
@@ -155,6 +159,68 @@ fn number_of_rows(answer: Banded) -> u32
     match answer {
         Banded::Done(_) => 0,
         Banded::Refused(number) => number as u32,
+    }
+}
+
+// The trajectory of a stream, from its states' records.
+#[no_mangle]
+pub extern "C" fn hejmirov_trajectory(
+    v: u32,
+    masked: u32,
+    threshold: f64,
+    fill: f64,
+    gv_on: u32,
+    gv_weight: f64,
+    widths: &[u32],
+    coefficients: &[f64],
+    records: &[f64],
+    durations: &[u32],
+    gv: &[f64],
+    switches: &[u8],
+    out: &mut [f64],
+    work: &mut [f64],
+    marks: &mut [u32],
+) -> u32
+    ensures { λ r. ⌜ TrajectoryCallSays v masked threshold fill «gv_on» «gv_weight» (now (widths .entry)) (now (coefficients .entry)) (now (records .entry)) (now (durations .entry)) (now (gv .entry)) (now (switches .entry))
+        (now (out .entry)) (now (work .entry)) (now (marks .entry)) r (now (out .exit)) (now (work .exit)) (now (marks .exit)) ⌝ }
+{
+    let stream = Stream {
+        v,
+        masked: masked != 0,
+        threshold,
+        fill,
+        gv: variance_of(gv_on, gv_weight),
+    };
+    let answer = mlpg_adjust::create(
+        stream,
+        widths,
+        coefficients,
+        records,
+        durations,
+        gv,
+        switches,
+        out,
+        work,
+        marks,
+    );
+    number_of_trajectory(answer)
+}
+
+fn variance_of(on: u32, weight: f64) -> GlobalVariance
+    ensures { λ r. ⌜ r ≡ varianceOf on weight ⌝ }
+{
+    if on == 0 {
+        return GlobalVariance::Off;
+    }
+    GlobalVariance::On(weight)
+}
+
+fn number_of_trajectory(answer: Created) -> u32
+    ensures { λ r. ⌜ r ≡ createdNumber answer ⌝ }
+{
+    match answer {
+        Created::Done => 0,
+        Created::Refused(number) => number as u32,
     }
 }
 

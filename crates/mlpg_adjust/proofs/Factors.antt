@@ -3,7 +3,7 @@ use mathlib.Core.Path.{_≡_, refl, sym, ap, _∙_}
 use mathlib.Core.List.{List, [], _∷_, _++_, append-assoc, append-nil}
 use mathlib.Core.Logic.{⊎-elim}
 use Prim.Native.Nat.{ℕ, zero, suc, _+_, _-_, _*_, _<_, _≤_}
-use native.Mathlib.Nat.{add-sub-cancel-left, mul-le-mul-right, suc-mul, zero-mul, le-refl}
+use native.Mathlib.Nat.{add-zero, add-sub-cancel-left, mul-le-mul-right, suc-mul, zero-mul, le-refl}
 use native.Mathlib.Numerals.{add-one}
 use native.Mathlib.Omega.{arith}
 use lib.ListN.{length, set, take, drop, length-append, List·getD-append}
@@ -12,40 +12,49 @@ use lib.Ieee.{Float, nan, binary64, div}
 use Rattle.lists.specs.Build.{build}
 use Rattle.lists.proofs.Fills.{build-length}
 use Rattle.lists.proofs.Numbers.{le-or-lt}
-use Rattle.lists.proofs.Rows.{row-fits, row-in}
+use Rattle.lists.proofs.Rows.{row-in}
 use Rattle.mlpg_adjust.specs.Rows.{elem, part, row, rows}
 use Rattle.mlpg_adjust.specs.Solve.{reach, reduced, factorAt, factor, forwardTerm, forwardAt, forward, backwardAt, backward}
 use Rattle.mlpg_adjust.proofs.Orders.{less-same}
 use Rattle.mlpg_adjust.proofs.Builds.{build-same}
-use Rattle.mlpg_adjust.proofs.Regions.{stored-behind, stored-rule, build-first, part-front}
+use Rattle.mlpg_adjust.proofs.Readings.{part-elem, read-under}
+use Rattle.mlpg_adjust.proofs.Regions.{stored-behind, stored-rule, build-first}
 
--- ---- row t of the factors is stored behind the t rows at `factors` of M
+-- ---- row t of the factors is stored behind the t rows at `factors` of M, from row t at `rows`
 
-module _ (w : ℕ) (a : List Float) (factors t : ℕ) (M : List Float) where
+module _ (w rows factors t : ℕ) (M : List Float) (apart : rows + t * w + w ≤ factors) where
   abbrev place : ℕ
   place = factors + t * w
 
   abbrev quotient : List Float → Float → ℕ → Float
-  quotient f d i = div binary64 (reduced w a f t (i + 1)) d
+  quotient f d i = div binary64 (reduced w (elem M (rows + t * w + 1 + i)) f t (i + 1)) d
 
-  pub rest-next : (m : List Float) (d x : Float) (i : ℕ) → m ≡ sets M (place + 1) (build (quotient (part factors (t * w) M) d) i)
-      → x ≡ reduced w a (part factors (place - factors) m) t (i + 1) → set m (place + 1 + i) (div binary64 x d) ≡ sets M (place + 1) (build (quotient (part factors (t * w) M) d) (i + 1))
-  rest-next m d x i e h =
-      let kept : part factors (t * w) m ≡ part factors (t * w) M = ap (λ (l : List Float). part factors (t * w) l) e ∙ stored-behind (build (quotient (part factors (t * w) M) d) i) M factors (t * w) (place + 1) (omega arith) in
-      stored-rule (quotient (part factors (t * w) M) d) M m (place + 1) i (div binary64 x d) (rw (h, add-sub-cancel-left factors (t * w), kept)) e
+  pub rest-next : (m : List Float) (d x : Float) (i : ℕ) → i < w - 1 → m ≡ sets M (place + 1) (build (quotient (part factors (t * w) M) d) i)
+      → x ≡ reduced w (elem m (rows + t * w + 1 + i)) (part factors (place - factors) m) t (i + 1) → set m (place + 1 + i) (div binary64 x d) ≡ sets M (place + 1) (build (quotient (part factors (t * w) M) d) (i + 1))
+  rest-next m d x i l e h =
+      let vs : List Float = build (quotient (part factors (t * w) M) d) i in
+      let kept : part factors (t * w) m ≡ part factors (t * w) M = ap (λ (l : List Float). part factors (t * w) l) e ∙ stored-behind vs M factors (t * w) (place + 1) (omega arith) in
+      let read : elem m (rows + t * w + 1 + i) ≡ elem M (rows + t * w + 1 + i) = ap (λ (l : List Float). elem l (rows + t * w + 1 + i)) e ∙ read-under vs M (place + 1) (rows + t * w + 1 + i) (omega arith) in
+      stored-rule (quotient (part factors (t * w) M) d) M m (place + 1) i (div binary64 x d) (rw (h, add-sub-cancel-left factors (t * w), kept, read)) e
 
-  pub row-is : (m : List Float) (d : Float) → 0 < w → d ≡ reduced w a (part factors (place - factors) M) t 0
-      → m ≡ sets (set M place d) (place + 1) (build (quotient (part factors (t * w) (set M place d)) d) (w - 1))
-      → m ≡ sets M place (build (factorAt w a (part factors (t * w) M) t) w)
+  pub row-is : (m : List Float) (d : Float) → 0 < w → d ≡ reduced w (elem M (rows + t * w)) (part factors (place - factors) M) t 0
+      → m ≡ sets (set M place d) (place + 1) (build (λ i. div binary64 (reduced w (elem (set M place d) (rows + t * w + 1 + i)) (part factors (t * w) (set M place d)) t (i + 1)) d) (w - 1))
+      → m ≡ sets M place (build (factorAt w (part (rows + t * w) w M) (part factors (t * w) M) t) w)
   unfolding factorAt
   row-is m d pos o e =
+      let a : List Float = part (rows + t * w) w M in
       let F : List Float = part factors (t * w) M in
-      let d′ : d ≡ reduced w a F t 0 = rw (add-sub-cancel-left factors (t * w)) at o in
+      let first : elem M (rows + t * w) ≡ elem a 0 = simp add-zero at (part-elem (rows + t * w) w 0 M pos) in
+      let d′ : d ≡ reduced w (elem a 0) F t 0 = o ∙ rw (add-sub-cancel-left factors (t * w), first) in
       let kept : part factors (t * w) (set M place d) ≡ F = stored-behind (d ∷ []) M factors (t * w) place (le-refl place) in
       let q : w ≡ suc (w - 1) = omega arith in
-      let same : build (quotient F d) (w - 1) ≡ build (λ i. factorAt w a F t (suc i)) (w - 1) = build-same _ _ (w - 1) (λ i l. rw (d′, add-one)) in
-      let all : build (factorAt w a F t) w ≡ d ∷ build (quotient F d) (w - 1) = ap (λ (k : ℕ). build (factorAt w a F t) k) q ∙ build-first (factorAt w a F t) (w - 1) ∙ rw (same, d′) in
-      e ∙ rw (kept, add-one, all)
+      let entry-is : (i : ℕ) → i < w - 1 → elem (set M place d) (rows + t * w + 1 + i) ≡ elem a (suc i) = λ i l.
+      let c : rows + t * w + 1 + i ≡ rows + t * w + suc i = omega arith in
+      read-under (d ∷ []) M place (rows + t * w + 1 + i) (omega arith) ∙ ap (λ (j : ℕ). elem M j) c ∙ part-elem (rows + t * w) w (suc i) M (omega arith) in
+      let same : build (λ i. div binary64 (reduced w (elem (set M place d) (rows + t * w + 1 + i)) F t (i + 1)) d) (w - 1) ≡ build (λ i. factorAt w a F t (suc i)) (w - 1) =
+      build-same _ _ (w - 1) (λ i l. rw (entry-is i l, d′, add-one)) in
+      let all : build (factorAt w a F t) w ≡ d ∷ build (λ i. factorAt w a F t (suc i)) (w - 1) = ap (λ (k : ℕ). build (factorAt w a F t) k) q ∙ build-first (factorAt w a F t) (w - 1) ∙ rw d′ in
+      e ∙ rw (kept, add-one place, all, same)
 
 -- ---- rows one after the other
 
@@ -54,26 +63,6 @@ module _ (r : ℕ → List Float) (w : ℕ) (each : (t : ℕ) → length (r t) �
   unfolding rows
   rows-length zero = sym (zero-mul w)
   rows-length (suc n) = simp length-append (omega (arith, rows-length n, each n, suc-mul n w))
-
-  pub rows-front : (n t : ℕ) → t ≤ n → take (t * w) (rows r n) ≡ rows r t
-  unfolding rows
-  rows-front zero t h = let e : t ≡ 0 = omega arith in rw (e, zero-mul)
-  rows-front (suc n) t h = ⊎-elim
-      (λ (l : t ≤ n). take-append-le (t * w) (rows r n) (r n) (rw (rows-length n) (mul-le-mul-right w l)) ∙ rows-front n t l)
-      (λ (l : n < t). let e : t ≡ suc n = omega arith in rw e (take-all (suc n * w) (rows r (suc n)) (omega (arith, rows-length (suc n)))))
-      (le-or-lt t n)
-
-  -- row t of them
-  pub rows-row : (n t : ℕ) → t < n → row w (rows r n) t ≡ r t
-  unfolding rows
-  rows-row zero t h = absurd (omega arith)
-  rows-row (suc n) t h = ⊎-elim
-      (λ (l : n ≤ t). let e : t ≡ n = omega arith in
-      rw (e, drop-at (rows r n) (r n) (n * w) (rows-length n), take-all w (r n) (omega (arith, each n))))
-      (λ (l : t < n).
-      let b : t * w + w ≤ length (rows r n) = omega (arith, rows-length n, row-fits w t n l) in
-      part-front (rows r n) (r n) (t * w) w b ∙ rows-row n t l)
-      (le-or-lt n t)
 
 -- ---- the factors
 

@@ -11,6 +11,7 @@ use lib.Seq.{sets, length-sets}
 use lib.Ieee.{Float}
 use Rattle.lists.proofs.Numbers.{le-or-lt}
 use Rattle.lists.proofs.Rows.{row-fits}
+use Rattle.mlpg_adjust.specs.Rows.{part}
 use Rattle.mlpg_adjust.specs.Region.{regionOf}
 use Rattle.mlpg_adjust.proofs.Regions.{returned, stored-whole, stored-behind, stored-before}
 
@@ -19,24 +20,24 @@ pub region-fits : (size lanes l : ℕ) (m : List Float) → l < lanes → lanes 
 region-fits size lanes l m h b = omega (arith, row-fits size l lanes h)
 
 -- the first l of the regions of d have made the step, and the others are as they were
-pub record Stepped (Step : List Float → List Float → Type 0) (size lanes l : ℕ) (d m : List Float) : Type 0 where
+pub record Stepped (Step : ℕ → List Float → List Float → Type 0) (size lanes l : ℕ) (d m : List Float) : Type 0 where
   pub long : length m ≡ length d
-  pub done : (j : ℕ) → j < l → Step (regionOf size j d) (regionOf size j m)
+  pub done : (j : ℕ) → j < l → Step j (regionOf size j d) (regionOf size j m)
   pub left : (j : ℕ) → l ≤ j → j < lanes → regionOf size j m ≡ regionOf size j d
 
-module _ (Step : List Float → List Float → Type 0) (size lanes : ℕ) (d : List Float) where
+module _ (Step : ℕ → List Float → List Float → Type 0) (size lanes : ℕ) (d : List Float) where
   pub stepped-none : Stepped Step size lanes 0 d d
   stepped-none = record { long = refl; done = λ j h. absurd (omega arith); left = λ j h g. refl }
 
   pub stepped-next : (l : ℕ) (m x : List Float) → l < lanes → lanes * size ≤ length m → Stepped Step size lanes l d m → length x ≡ size
-      → Step (regionOf size l m) x → Stepped Step size lanes (l + 1) d (sets m (l * size) x)
+      → Step l (regionOf size l m) x → Stepped Step size lanes (l + 1) d (sets m (l * size) x)
   stepped-next l m x h b k e s =
       let f : l * size + size ≤ length m = region-fits size lanes l m h b in
       record {
         long = length-sets m (l * size) x ∙ k .long;
         done = λ j i. ⊎-elim
             (λ (g : l ≤ j). let q : j ≡ l = omega arith in
-            subst (λ (z : ℕ). Step (regionOf size z d) (regionOf size z (sets m (l * size) x))) (sym q)
+            subst (λ (z : ℕ). Step z (regionOf size z d) (regionOf size z (sets m (l * size) x))) (sym q)
             (rw (stored-whole x m (l * size) size e f) (rw (k .left l (omega arith) h) at s)))
             (λ (g : j < l). rw (stored-behind x m (j * size) size (l * size) (row-fits size j l g)) (k .done j g))
             (le-or-lt l j);
@@ -46,7 +47,7 @@ module _ (Step : List Float → List Float → Type 0) (size lanes : ℕ) (d : L
 
   -- the region was lent as the part from o on, and is back as x
   pub stepped-lent : (l o : ℕ) (m x : List Float) → l < lanes → lanes * size ≤ length m → Stepped Step size lanes l d m → o ≡ l * size → length x ≡ length (take (o + size - o) (drop o m))
-      → Step (take (o + size - o) (drop o m)) x → Stepped Step size lanes (l + 1) d (putMid o (o + size - o) m x)
+      → Step l (take (o + size - o) (drop o m)) x → Stepped Step size lanes (l + 1) d (putMid o (o + size - o) m x)
   stepped-lent l o m x h b k z e s =
       let f : o + size ≤ length m = rw z (region-fits size lanes l m h b) in
       let c : o + size - o ≡ size = add-sub-cancel-left o size in

@@ -1,7 +1,7 @@
 -- Laws of the global variance's passes over a region: gradient and objective, a step, a turn, five turns. Assumes nothing.
 use mathlib.Core.Path.{_≡_, refl, sym, ap, _∙_}
 use mathlib.Core.Bool.{Bool, false, cond}
-use mathlib.Core.List.{List, [], _∷_}
+use mathlib.Core.List.{List}
 use Prim.Native.Nat.{ℕ, zero, suc, _+_, _-_, _*_, _<_, _≤_}
 use native.Mathlib.Nat.{mul-le-mul-left, add-sub-cancel-left}
 use native.Mathlib.Numerals.{add-one}
@@ -9,8 +9,8 @@ use native.Mathlib.Omega.{arith}
 use borrow.Author.Tests.{eq-eqb, ne-eqb}
 use borrow.Rule.Slice.PartMut.{putMid}
 use lib.Dec.{eqb}
-use lib.ListN.{length, getD, set, drop}
-use lib.Seq.{sets, length-sets, getD-take, getD-drop, getD-set-other}
+use lib.ListN.{length, getD, set}
+use lib.Seq.{sets, length-sets}
 use lib.Ieee.{Float, nan, inf, fin, binary64, add, neg, lt}
 use Rattle.lists.specs.Build.{build}
 use Rattle.lists.proofs.Fills.{build-length}
@@ -26,20 +26,8 @@ use Rattle.mlpg_adjust.specs.declared.gv.MlpgGlobalVariance.{MlpgGlobalV
 use Rattle.mlpg_adjust.specs.declared.gv.Pull.{Pull}
 use Rattle.mlpg_adjust.proofs.Orders.{over-step}
 use Rattle.mlpg_adjust.proofs.Builds.{build-at, build-same}
+use Rattle.mlpg_adjust.proofs.Readings.{part-elem, read-under, read-beyond}
 use Rattle.mlpg_adjust.proofs.Regions.{cut-length, returned, stored-behind, stored-before, stored-whole, stored-rule}
-
--- ---- numbers read from a list
-
-pub part-elem : (o n t : ℕ) (l : List Float) → t < n → elem l (o + t) ≡ elem (part o n l) t
-part-elem o n t l h = sym (getD-take n (drop o l) t nan h ∙ getD-drop o l t nan)
-
-read-under : (vs l : List Float) (i j : ℕ) → j < i → elem (sets l i vs) j ≡ elem l j
-read-under [] l i j h = refl
-read-under (v ∷ vs) l i j h = read-under vs (set l i v) (suc i) j (omega arith) ∙ getD-set-other l i j v nan (λ (e : j ≡ i). omega arith)
-
-read-beyond : (vs l : List Float) (i j : ℕ) → i + length vs ≤ j → elem (sets l i vs) j ≡ elem l j
-read-beyond [] l i j h = refl
-read-beyond (v ∷ vs) l i j h = read-beyond vs (set l i v) (suc i) j (omega arith) ∙ getD-set-other l i j v nan (λ (e : j ≡ i). omega arith)
 
 -- ---- a region whose rows, right side, place for the gradient and values follow each other
 
@@ -59,7 +47,7 @@ module _ (n w rows right to values : ℕ) (M : List Float) (pos : 0 < w) (first 
   narrow : n ≤ n * w
   narrow = omega (arith, mul-le-mul-left n pos)
 
-  P-long : length P ≡ n
+  pub P-long : length P ≡ n
   P-long = cut-length values n M fourth
 
   pub G-is : G ≡ build (gradientAt w A P) n
@@ -77,7 +65,7 @@ module _ (n w rows right to values : ℕ) (M : List Float) (pos : 0 < w) (first 
   pub derivative-next : (m : List Float) (t : ℕ) (weight obj g x₁ x₂ y : Float) → t < n → m ≡ sets M to (build (gradientAt w A P) t) → obj ≡ objective-to weight t
       → g ≡ gradientAt w (part rows (rows + n * w - rows) m) (part values (values + n - values) m) t
       → x₁ ≡ elem (set m (to + t) g) (right + t) → x₂ ≡ elem (set m (to + t) g) (values + t) → y ≡ hmmTerm weight x₁ g x₂
-      → (set m (to + t) g ≡ sets M to (build (gradientAt w A P) (t + 1))) × (add binary64 obj y ≡ objective-to weight (t + 1))
+      → (set m (to + t) g ≡ sets M to (build (gradientAt w A P) (t + 1))) × (add binary64 obj y ≡ objective-to weight (t + 1)) × (x₂ ≡ elem P t)
   derivative-next m t weight obj g x₁ x₂ y h e o eg e₁ e₂ ey =
       let vs = build (gradientAt w A P) t in
       let lv : length vs ≡ t = build-length (gradientAt w A P) t in
@@ -90,7 +78,7 @@ module _ (n w rows right to values : ℕ) (M : List Float) (pos : 0 < w) (first 
       let r₁ : x₁ ≡ elem R t = e₁ ∙ ap (λ (l : List Float). elem l (right + t)) m-is ∙ read-under vs′ M to (right + t) (omega arith) ∙ part-elem right n t M h in
       let r₂ : x₂ ≡ elem P t = e₂ ∙ ap (λ (l : List Float). elem l (values + t)) m-is ∙ read-beyond vs′ M to (values + t) (omega (arith, narrow)) ∙ part-elem values n t M h in
       let g-at : g ≡ elem G t = g-is ∙ sym (ap (λ (l : List Float). elem l t) G-is ∙ build-at (gradientAt w A P) n t nan h) in
-      (m-is, rw (o, ey, r₁, r₂, g-at) (over-step (λ t y. add binary64 y (hmmTerm weight (elem R t) (elem G t) (elem P t))) t nought))
+      (m-is, rw (o, ey, r₁, r₂, g-at) (over-step (λ t y. add binary64 y (hmmTerm weight (elem R t) (elem G t) (elem P t))) t nought), r₂)
 
   pub derivative-done : (m : List Float) (t : ℕ) (weight obj : Float) → t ≡ n → m ≡ sets M to (build (gradientAt w A P) t) → obj ≡ objective-to weight t
       → (m ≡ sets M to G) × (obj ≡ hmmObj weight R G P)

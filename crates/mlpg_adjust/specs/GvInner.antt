@@ -1,13 +1,14 @@
 -- What only the contracts of the global variance's private functions say. Assumes nothing.
 use Prim.Native.Nat.{ℕ, suc, _-_, _*_, _<_, _≤_, _^_}
 use mathlib.Core.Path.{_≡_}
-use mathlib.Core.Bool.{Bool, true, false}
+use mathlib.Core.Bool.{Bool, true, false, cond}
 use mathlib.Core.List.{List, [], _∷_}
-use lib.ListN.{length}
+use lib.ListN.{length, getD}
+use lib.Dec.{ltb}
 use lib.Ieee.{Float, binary64, add, sub, mul, div, neg}
 use Rattle.mlpg_adjust.specs.Frames.{count}
 use Rattle.mlpg_adjust.specs.Gv.{W1, W2, two, asFloat, weightOf, dvOf, nextG}
-use Rattle.mlpg_adjust.specs.Rows.{part}
+use Rattle.mlpg_adjust.specs.Rows.{elem, part}
 use Rattle.mlpg_adjust.specs.Parmgen.{state, turn}
 use Rattle.mlpg_adjust.specs.Region.{Spaced}
 use Rattle.mlpg_adjust.specs.declared.solve.Places.{Places}
@@ -19,6 +20,14 @@ unfoldable pub firstOn : List Bool → ℕ
 firstOn [] = 0
 firstOn (true ∷ bs) = 0
 firstOn (false ∷ bs) = suc (firstOn bs)
+
+-- a sum of the switched frames' numbers, which starts with the first's, with frame t's x added if it is behind that and switched
+abbrev pub joined : ℕ → ℕ → Bool → Float → Float → Float
+joined first t b x sum = cond (ltb first t) (cond b (add binary64 sum x) sum) sum
+
+-- the same for f of each value
+abbrev pub joinedAt : (Float → Float) → List Bool → ℕ → List Float → ℕ → Float → Float
+joinedAt f on first par t sum = joined first t (getD on t false) (f (elem par t)) sum
 
 -- what it says of the switches
 pub record Counted (g : MlpgGlobalVariance) (on : List Bool) : Type 0 where

@@ -11,6 +11,7 @@ pub mod Paper
 pub mod Solve
 pub mod Inner
 pub mod Region
+pub mod Passes
 pub mod Gv
 pub mod Parmgen
 pub mod GvInner

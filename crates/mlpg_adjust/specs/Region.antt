@@ -37,13 +37,17 @@ module _ (widths : List ℕ) (coefs : List Float) (p : Places) (n w : ℕ) where
   abbrev pub forwardOf : List Float → ℕ → List Float
   forwardOf d t = forward w (factorsOf d) (sideOf d) t
 
-  -- d's pairs with t rows written, factored and put forward
+  -- d's pairs with their rows and right side
+  pub record Rowed (d m : List Float) : Type 0 where
+    pub long : length m ≡ length d
+    pub rows : part (p .rows) (n * w) m ≡ matrixOf d
+    pub right : part (p .right) n m ≡ sideOf d
+
+  -- and the first t rows factored and put forward
   pub record Standing (d m : List Float) (t : ℕ) : Type 0 where
     pub long : length m ≡ length d
-    pub means : part 0 (length widths * n) m ≡ part 0 (length widths * n) d
-    pub ivars : part (p .ivars) (length widths * n) m ≡ part (p .ivars) (length widths * n) d
-    pub rows : part (p .rows) (t * w) m ≡ take (t * w) (matrixOf d)
-    pub right : part (p .right) t m ≡ take t (sideOf d)
+    pub rows : part (p .rows) (n * w) m ≡ matrixOf d
+    pub right : part (p .right) n m ≡ sideOf d
     pub factors : part (p .factors) (t * w) m ≡ factor w (matrixOf d) t
     pub values : part (p .values) t m ≡ forwardOf d t
 

@@ -17,14 +17,14 @@ abbrev pub factorTerm : ℕ → List Float → ℕ → ℕ → ℕ → Float
 factorTerm w f t i k =
     mul binary64 (mul binary64 (entry w f (t - (k + 1)) (k + 1)) (entry w f (t - (k + 1)) (i + (k + 1)))) (entry w f (t - (k + 1)) 0)
 
--- entry i of A's row t, less what the rows before it account for
-abbrev pub reduced : ℕ → List Float → List Float → ℕ → ℕ → Float
-reduced w a f t i = less (elem a i) (factorTerm w f t i) (reach (w - i) t)
+-- x, entry i of A's row t, less what the rows before it account for
+abbrev pub reduced : ℕ → Float → List Float → ℕ → ℕ → Float
+reduced w x f t i = less x (factorTerm w f t i) (reach (w - i) t)
 
 unfoldable pub factorAt : ℕ → List Float → List Float → ℕ → ℕ → Float
 unfolding less
-factorAt w a f t zero = reduced w a f t 0
-factorAt w a f t (suc i) = div binary64 (reduced w a f t (suc i)) (reduced w a f t 0)
+factorAt w a f t zero = reduced w (elem a 0) f t 0
+factorAt w a f t (suc i) = div binary64 (reduced w (elem a (suc i)) f t (suc i)) (reduced w (elem a 0) f t 0)
 
 -- the first t rows
 unfoldable pub factor : ℕ → List Float → ℕ → List Float

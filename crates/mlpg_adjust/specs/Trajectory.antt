@@ -1,5 +1,5 @@
 -- The trajectory of one stream, from its records: mask, boundaries, closing up, normal equations, global variance, filling back. Assumes nothing.
-use mathlib.Core.Bool.{Bool}
+use mathlib.Core.Bool.{Bool, true, false}
 use mathlib.Core.List.{List, map}
 use Prim.Native.Nat.{ℕ, _+_, _*_, _/_, _%_}
 use lib.ListN.{length}
@@ -14,6 +14,9 @@ use Rattle.mlpg_adjust.specs.Solve.{solution}
 use Rattle.mlpg_adjust.specs.Parmgen.{parmgen}
 use Rattle.mlpg_adjust.specs.MaskVoicing.{flag, isOn, maskOf, weightsOf}
 use Rattle.mlpg_adjust.specs.MaskWindows.{meansIn, ivarsIn}
+use Rattle.mlpg_adjust.specs.declared.GlobalVariance.{GlobalVariance}
+use Rattle.mlpg_adjust.specs.declared.GlobalVariance.the-variants.{Off, On}
+use Rattle.mlpg_adjust.specs.declared.Stream.{Stream}
 
 -- 01, Refusal numbers: "a record has windows × v pairs and, if masked, one weight"
 abbrev pub recordSize : ℕ → ℕ → Bool → ℕ
@@ -62,3 +65,24 @@ module _ (size : ℕ) (records : List Float) (threshold : Float) (ds : List ℕ)
   unfoldable pub trajectory : ℕ → Float → (ℕ → List Float) → List Float
   unfolding build fill
   trajectory v none values = build (λ p. elem (fill none streamMask (values (p % v))) (p / v)) (total ds * v)
+
+-- 01, Global variance: what f makes of the weight where GV is on, and x where it is off
+abbrev pub withGv : {A : Type 0} → GlobalVariance → (Float → A) → A → A
+withGv Off f x = x
+withGv (On weight) f x = f weight
+
+abbrev pub gvOn : GlobalVariance → Bool
+gvOn Off = false
+gvOn (On weight) = true
+
+-- how many numbers a state of the stream has
+abbrev pub sizeOf : Stream → List ℕ → ℕ
+sizeOf s widths = recordSize (s .v) (length widths) (s .masked)
+
+-- 01, the trajectory of a stream: each component's values, with GV where it is on
+unfoldable pub numbersOf : Stream → List ℕ → List Float → List Float → List ℕ → List Float → List ℕ → List Float
+unfolding trajectory varied solved
+numbersOf s widths coefs records ds gv switches =
+    trajectory (sizeOf s widths) records (s .threshold) ds (s .v) (s .fill)
+    (λ component. withGv (s .gv) (λ weight. varied (sizeOf s widths) records (s .threshold) ds (s .v) widths coefs component weight gv switches)
+    (solved (sizeOf s widths) records (s .threshold) ds (s .v) widths coefs component))

@@ -8,43 +8,75 @@ use lib.Dec.{ltb, eqb}
 use lib.Ieee.{Float, binary64, ofBits}
 use Rattle.lists.specs.Totals.{total}
 use Rattle.lists.specs.Refusals.{orElse}
-use Rattle.model.specs.Windows.{between, widthsFit, allFinite}
-use Rattle.mlpg_adjust.specs.Trajectory.{recordSize, solved, varied, trajectory}
+use Rattle.model.specs.Windows.{widthsFit, allFinite}
+use Rattle.mlpg_adjust.specs.Trajectory.{gvOn, sizeOf, numbersOf}
+use Rattle.mlpg_adjust.specs.declared.Stream.{Stream}
+use Rattle.mlpg_adjust.specs.declared.Created.{Created}
+use Rattle.mlpg_adjust.specs.declared.Created.the-variants.{Done, Refused}
 
--- 01, Refusal numbers: 4. With GV off its lists are no input
-unfoldable pub disagree : ℕ → Bool → Bool → List ℕ → List Float → List Float → List ℕ → List Float → List ℕ → Bool
+-- 01's number of each answer, 0 for none
+abbrev pub createdNumber : Created → ℕ
+createdNumber Done = 0
+createdNumber (Refused k) = k
+
+-- and the answer of each number: a refusal's is not 0
+abbrev pub createdOf : ℕ → Created
+createdOf zero = Done
+createdOf (suc k) = Refused (suc k)
+
+-- 01, Sizes: "48 floats and 4 whole numbers a frame"
+abbrev pub floatsAFrame : ℕ
+floatsAFrame = 48
+
+abbrev pub marksAFrame : ℕ
+marksAFrame = 4
+
+-- 01, Refusal numbers: an accepted call "zeros the work space it is entitled to"
+abbrev pub zeroFloats : ℕ → List Float
+zeroFloats frames = replicate (frames * floatsAFrame) (ofBits binary64 0)
+
+abbrev pub zeroMarks : ℕ → List ℕ
+zeroMarks frames = replicate (frames * marksAFrame) 0
+
+-- 01, Refusal numbers: 3, "too many states .. or v out of range"
+abbrev pub outOfRange : ℕ → ℕ → Bool
+outOfRange v states = ltb 4096 states || ltb v 1 || ltb 64 v
+
+-- 01, Refusal numbers: 4 of GV's lists, "GV switches are one a state .. the GV list has v pairs". With GV off they are no input
+abbrev pub gvDisagrees : Stream → ℕ → ℕ → ℕ → Bool
+gvDisagrees s states gv switches = gvOn (s .gv) && (not (eqb gv (2 * s .v)) || not (eqb switches states))
+
+-- 01, Refusal numbers: 4. Lists that are not looked into stand here by their lengths
+unfoldable pub disagree : Stream → List ℕ → ℕ → ℕ → ℕ → ℕ → ℕ → Bool
 unfolding total
-disagree v masked gvOn widths coefs records ds gv switches =
-    not (eqb (length coefs) (total widths)) || not (eqb (length records) (length ds * recordSize v (length widths) masked))
-    || gvOn && (not (eqb (length gv) (v + v)) || not (eqb (length switches) (length ds)))
+disagree s widths coefs records states gv switches =
+    not (eqb coefs (total widths)) || not (eqb records (states * sizeOf s widths)) || gvDisagrees s states gv switches
 
--- 01, Refusal numbers: 6, by Sizes: frames × v numbers, and a work space of "48 floats and 4 whole numbers a frame"
-abbrev pub short : ℕ → ℕ → List Float → List Float → List ℕ → Bool
-short v frames out work marks = ltb (length out) (frames * v) || ltb (length work) (frames * 48) || ltb (length marks) (frames * 4)
+-- 01, Refusal numbers: 6, an output or work space that is too short
+abbrev pub short : ℕ → ℕ → ℕ → ℕ → ℕ → Bool
+short v frames out work marks = ltb out (frames * v) || ltb work (frames * floatsAFrame) || ltb marks (frames * marksAFrame)
 
 -- 01, Refusal numbers: the smallest of 1 to 6 that applies, and 0 for none
-unfoldable pub createRefusal : ℕ → Bool → Bool → List ℕ → List Float → List Float → List ℕ → List Float → List ℕ → List Float → List Float → List ℕ → ℕ
+unfoldable pub createRefusal : Stream → List ℕ → List Float → ℕ → List ℕ → ℕ → ℕ → ℕ → ℕ → ℕ → ℕ
 unfolding widthsFit allFinite disagree total
-createRefusal v masked gvOn widths coefs records ds gv switches out work marks =
+createRefusal s widths coefs records ds gv switches out work marks =
     orElse (cond (widthsFit widths) 0 1)
     (orElse (cond (allFinite coefs) 0 2)
-    (orElse (cond (ltb 4096 (length ds) || not (between 1 64 v)) 3 0)
-    (orElse (cond (disagree v masked gvOn widths coefs records ds gv switches) 4 0)
+    (orElse (cond (outOfRange (s .v) (length ds)) 3 0)
+    (orElse (cond (disagree s widths (length coefs) records (length ds) gv switches) 4 0)
     (orElse (cond (ltb 65536 (total ds)) 5 0)
-    (cond (short v (total ds) out work marks) 6 0)))))
+    (cond (short (s .v) (total ds) out work marks) 6 0)))))
 
 -- a lent list at exit: new in front of an accepted call, and untouched by a refused one and beyond
 abbrev pub written : {A : Type 0} → ℕ → List A → List A → List A
 written zero new old = new ++ drop (length new) old
 written (suc k) new old = old
 
--- number is 01's number of the answer, and 0 for an accepted call
-pub record CreateSays (v : ℕ) (masked : Bool) (threshold none : Float) (gvOn : Bool) (weight : Float) (widths : List ℕ) (coefs records : List Float) (ds : List ℕ)
-    (gv : List Float) (switches : List ℕ) (out work : List Float) (marks : List ℕ) (number : ℕ) (out′ work′ : List Float) (marks′ : List ℕ) : Type 0 where
-  pub answer : number ≡ createRefusal v masked gvOn widths coefs records ds gv switches out work marks
-  pub numbers : out′ ≡ written number
-      (trajectory (recordSize v (length widths) masked) records threshold ds v none
-      (λ component. cond gvOn (varied (recordSize v (length widths) masked) records threshold ds v widths coefs component weight gv switches)
-      (solved (recordSize v (length widths) masked) records threshold ds v widths coefs component))) out
-  pub space : work′ ≡ written number (replicate (total ds * 48) (ofBits binary64 0)) work
-  pub counts : marks′ ≡ written number (replicate (total ds * 4) 0) marks
+-- `create`: the number, the trajectory, and the work space zeroed
+pub record CreateSays (s : Stream) (widths : List ℕ) (coefs records : List Float) (ds : List ℕ) (gv : List Float) (switches : List ℕ) (out work : List Float) (marks : List ℕ)
+    (r : Created) (out′ work′ : List Float) (marks′ : List ℕ) : Type 0 where
+  pub number : createdNumber r ≡ createRefusal s widths coefs (length records) ds (length gv) (length switches) (length out) (length work) (length marks)
+  pub answer : r ≡ createdOf (createdNumber r)
+  pub numbers : out′ ≡ written (createdNumber r) (numbersOf s widths coefs records ds gv switches) out
+  pub space : work′ ≡ written (createdNumber r) (zeroFloats (total ds)) work
+  pub counts : marks′ ≡ written (createdNumber r) (zeroMarks (total ds)) marks

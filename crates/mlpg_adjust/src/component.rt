@@ -1,47 +1,42 @@
 // One component of a stream, in a region of the work space.
 ghost use mathlib.Core.Path.{_≡_};
-ghost use Prim.Native.Nat.{_+_, _*_, _<_, _≤_};
+ghost use Prim.Native.Nat.{_<_};
 ghost use lib.ListN.{length};
-ghost use Rattle.lists.specs.Totals.{total};
-ghost use Rattle.model.specs.Windows.{bandWidth};
-ghost use Rattle.mlpg_adjust.specs.Frames.{count};
-ghost use Rattle.mlpg_adjust.specs.MaskVoicing.{maskOf, weightsOf};
-ghost use Rattle.mlpg_adjust.specs.MaskBoundaries.{lefts, rights};
-ghost use Rattle.mlpg_adjust.specs.Inner.{Taps};
-ghost use Rattle.mlpg_adjust.specs.Region.{Laid};
-ghost use Rattle.mlpg_adjust.specs.TrajectoryInner.{Holds};
+ghost use Rattle.mlpg_adjust.specs.TrajectoryInner.{Planned, Distances, Paired};
 use super::closing::close_up_all_ivars;
 use super::closing::close_up_all_means;
 use super::mask::Voicing;
 use super::solve::Places;
-use super::solve::solve;
 
-// The pairs of the n voiced frames are closed up in the region, and their normal equations solved there. The row is scratch.
-pub(crate) fn solve_component(
+// What is the same for every component: how many there are, how many frames are voiced, how wide a row is, and where in a region of how many floats
+// the parts begin.
+pub(crate) struct Plan {
+    pub(crate) v: usize,
+    pub(crate) n: usize,
+    pub(crate) w: usize,
+    pub(crate) size: usize,
+    pub(crate) places: Places,
+}
+
+// The pairs of the voiced frames are closed up in the region.
+pub(crate) fn close_up_pairs(
     records: &[f64],
     u: Voicing,
-    v: usize,
+    g: Plan,
     component: usize,
     widths: &[u32],
-    coefficients: &[f64],
     durations: &[u32],
     left: &[u32],
     right: &[u32],
-    p: Places,
-    n: usize,
-    w: usize,
-    row: &mut [f64],
     region: &mut [f64],
 )
-    requires { ⌜ (component < v) × (length (now widths) * v + length (now widths) * v ≤ u .size) × (length (now durations) * u .size ≤ length (now records)) × (total (now durations) ≤ 65536)
-        × (n ≡ count (maskOf (u .threshold) (weightsOf (u .size) (now records) (length (now durations))) (now durations)))
-        × (now left ≡ lefts 0 (maskOf (u .threshold) (weightsOf (u .size) (now records) (length (now durations))) (now durations)))
-        × (now right ≡ rights (maskOf (u .threshold) (weightsOf (u .size) (now records) (length (now durations))) (now durations)))
-        × (w ≡ bandWidth (now widths)) × (length (now row) ≡ w) × Taps (now widths) (now coefficients) w × Laid p (length (now widths)) n w (length (now region)) ⌝ }
-    ensures { λ _. ⌜ Holds (u .size) (now (records .entry)) (u .threshold) (now (durations .entry)) v (now (widths .entry)) (now (coefficients .entry)) component p (now (region .exit)) ⌝ }
+    requires { ⌜ Planned u g (now widths) (now records) (now durations) × Distances u (now records) (now durations) (now left) (now right) × (component < g .v) × (length (now region) ≡ g .size) ⌝ }
+    ensures { λ _. ⌜ Paired (u .size) (now (records .entry)) (u .threshold) (now (durations .entry)) (g .v) (now (widths .entry)) component (g .places) (now (region .exit)) ⌝ }
 {
     let windows = widths.len();
-    let ivars = p.ivars;
+    let v = g.v;
+    let n = g.n;
+    let ivars = g.places.ivars;
     let end = ivars + ivars;
     close_up_all_means(
         records,
@@ -65,6 +60,4 @@ pub(crate) fn solve_component(
         n,
         &mut region[ivars..end],
     );
-    let size = region.len();
-    solve(region, row, widths, coefficients, p, n, w, size, 1);
 }

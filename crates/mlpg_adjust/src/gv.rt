@@ -9,10 +9,10 @@ ghost use lib.Ieee.{nan};
 ghost use Rattle.lists.specs.Build.{build};
 ghost use Rattle.mlpg_adjust.specs.Frames.{select, count};
 ghost use Rattle.mlpg_adjust.specs.MaskVoicing.{isOn};
-ghost use Rattle.mlpg_adjust.specs.Rows.{elem, part};
-ghost use Rattle.mlpg_adjust.specs.Gv.{stepInit, sumOf, meanOf, variOf, squared, convOf, convAt, convGv, ahead, behind, gradientAt, gradient, weightOf, hmmTerm, hmmObj, gvObj, sizeAfter, dvOf};
+ghost use Rattle.mlpg_adjust.specs.Rows.{part};
+ghost use Rattle.mlpg_adjust.specs.Gv.{stepInit, sumOf, meanOf, variOf, squared, convOf, convAt, convGv, ahead, behind, gradientAt, gradient, weightOf, hmmTerm, hmmObj, gvObj, sizeAfter};
 ghost use Rattle.mlpg_adjust.specs.Parmgen.{iterate, state, valuesOf, turn, parmgen};
-ghost use Rattle.mlpg_adjust.specs.GvInner.{firstOn, Counted, Sized, Pulls, pulled, Turned};
+ghost use Rattle.mlpg_adjust.specs.GvInner.{firstOn, joined, Counted, Sized, Pulls, pulled, Turned};
 use super::mlpg::at;
 use super::mlpg::el;
 use super::solve::Places;
@@ -104,6 +104,20 @@ fn squares_sum(par: &[f64], on: &[u32], first: usize, mean: f64) -> f64
     sum
 }
 
+// A sum of the switched frames' numbers, which starts with the first's, with frame t's x added.
+fn add_switched(sum: f64, x: f64, on: &[u32], first: usize, t: usize) -> f64
+    requires { ⌜ t < length (now on) ⌝ }
+    ensures { λ r. ⌜ r ≡ joined first t (getD (map isOn (now (on .entry))) t false) x sum ⌝ }
+{
+    if t <= first {
+        return sum;
+    }
+    if is_switched(on, t) {
+        return sum + x;
+    }
+    sum
+}
+
 // A value drawn apart from the mean, if it is switched.
 fn conv_at(x: f64, b: bool, mean: f64, ratio: f64) -> f64
     ensures { λ r. ⌜ r ≡ convOf b mean ratio x ⌝ }
@@ -150,8 +164,8 @@ fn add_behind(wuw: &[f64], par: &[f64], w: usize, t: usize, i: usize, g: f64) ->
     g
 }
 
-// Row t of the matrix times the values.
-pub fn gradient_at(wuw: &[f64], par: &[f64], w: usize, t: usize) -> f64
+// Row t of the matrix times the values, an entry to each side at a time.
+fn gradient_by_entries(wuw: &[f64], par: &[f64], w: usize, t: usize) -> f64
     requires { ⌜ (0 < w) × (t < length (now par)) × (length (now par) * w ≤ length (now wuw)) × (w < 2 ^ 32) ⌝ }
     ensures { λ x. ⌜ x ≡ gradientAt w (now (wuw .entry)) (now (par .entry)) t ⌝ }
 {
@@ -164,6 +178,33 @@ pub fn gradient_at(wuw: &[f64], par: &[f64], w: usize, t: usize) -> f64
         k = i;
     }
     g
+}
+
+// The same for rows of width 3, the usual one, where two values stand to each side.
+fn gradient_of_three(wuw: &[f64], par: &[f64], t: usize) -> f64
+    requires { ⌜ (2 ≤ t) × (t + 2 < length (now par)) × (length (now par) * 3 ≤ length (now wuw)) ⌝ }
+    ensures { λ x. ⌜ x ≡ gradientAt 3 (now (wuw .entry)) (now (par .entry)) t ⌝ }
+{
+    let mut g = at(wuw, 3, t, 0) * el(par, t);
+    g = g + at(wuw, 3, t, 1) * el(par, t + 1);
+    g = g + at(wuw, 3, t - 1, 1) * el(par, t - 1);
+    g = g + at(wuw, 3, t, 2) * el(par, t + 2);
+    g + at(wuw, 3, t - 2, 2) * el(par, t - 2)
+}
+
+// Row t of the matrix times the values.
+fn gradient_at(wuw: &[f64], par: &[f64], w: usize, t: usize) -> f64
+    requires { ⌜ (0 < w) × (t < length (now par)) × (length (now par) * w ≤ length (now wuw)) × (w < 2 ^ 32) ⌝ }
+    ensures { λ x. ⌜ x ≡ gradientAt w (now (wuw .entry)) (now (par .entry)) t ⌝ }
+{
+    if w == 3 {
+        if 2 <= t {
+            if t + 2 < par.len() {
+                return gradient_of_three(wuw, par, t);
+            }
+        }
+    }
+    gradient_by_entries(wuw, par, w, t)
 }
 
 fn hmm_term(weight: f64, m: f64, g: f64, p: f64) -> f64
@@ -213,6 +254,12 @@ pub fn next_at(s: Pull, diagonal: f64, b: bool, g: f64, m: f64, x: f64) -> f64
 struct Moments {
     mean: f64,
     vari: f64,
+}
+
+// The objective's first part, and the sum of the squared deviations.
+struct TurnSums {
+    hmm: f64,
+    squares: f64,
 }
 
 // The size of the step, and the objective before it: NaN where there is none, which changes no size.
@@ -313,14 +360,16 @@ impl MlpgGlobalVariance {
         rescale(par, on, m.mean, ratio);
     }
 
-    // The matrix times the values, which goes where the factors were, and the objective's first part.
-    fn calc_hmmobj_derivative(self, m: &mut [f64], p: Places) -> f64
-        requires { ⌜ Sized self p (length (now m)) ⌝ }
+    // The matrix times the values, which goes where the factors were, with a turn's sums: one pass, as each sum waits for itself alone.
+    fn calc_hmmobj_derivative(self, m: &mut [f64], p: Places, on: &[u32], mean: f64) -> TurnSums
+        requires { ⌜ Sized self p (length (now m)) × Counted self (map isOn (now on)) × (0 < self .switched) ⌝ }
         ensures { λ r. ⌜ (now (m .exit) ≡ sets (now (m .entry)) (p .factors) (gradient (self .width) (part (p .rows) (self .length * self .width) (now (m .entry))) (part (p .values) (self .length) (now (m .entry)))))
-            × (r ≡ hmmObj (weightOf (self .windows) (self .length)) (part (p .right) (self .length) (now (m .entry))) (gradient (self .width) (part (p .rows) (self .length * self .width) (now (m .entry))) (part (p .values) (self .length) (now (m .entry)))) (part (p .values) (self .length) (now (m .entry)))) ⌝ }
+            × (r .hmm ≡ hmmObj (weightOf (self .windows) (self .length)) (part (p .right) (self .length) (now (m .entry))) (gradient (self .width) (part (p .rows) (self .length * self .width) (now (m .entry))) (part (p .values) (self .length) (now (m .entry)))) (part (p .values) (self .length) (now (m .entry))))
+            × (r .squares ≡ sumOf (squared mean) (select (map isOn (now (on .entry))) (part (p .values) (self .length) (now (m .entry))))) ⌝ }
     {
         let n = self.length;
         let w = self.width;
+        let first = self.first;
         let weight = weight_of(self.windows, n);
         let rows = p.rows;
         let rows_end = rows + n * w;
@@ -328,15 +377,21 @@ impl MlpgGlobalVariance {
         let values_end = values + n;
         let right = p.right;
         let to = p.factors;
-        let mut obj = 0.0;
+        let mut hmm = 0.0;
+        let mut squares = square(el(m, values + first), mean);
         let mut t = 0;
         while t < n {
             let g = gradient_at(&m[rows..rows_end], &m[values..values_end], w, t);
             m[to + t] = g;
-            obj = obj + hmm_term(weight, el(m, right + t), g, el(m, values + t));
+            let x = el(m, values + t);
+            hmm = hmm + hmm_term(weight, el(m, right + t), g, x);
+            squares = add_switched(squares, square(x, mean), on, first, t);
             t += 1;
         }
-        obj
+        TurnSums {
+            hmm: hmm,
+            squares: squares,
+        }
     }
 
     // What the next step is the same in for every frame.
@@ -403,11 +458,11 @@ impl MlpgGlobalVariance {
     {
         let values = p.values;
         let values_end = values + self.length;
-        let moments = self.calc_gv(&m[values..values_end], on);
-        let mean = moments.mean;
-        let vari = moments.vari;
-        let hmm = self.calc_hmmobj_derivative(m, p);
-        let next = s.after(-(hmm + gv_obj(gv_mean, gv_vari, vari)));
+        let count = self.switched as f64;
+        let mean = switched_sum(&m[values..values_end], on, self.first) / count;
+        let sums = self.calc_hmmobj_derivative(m, p, on, mean);
+        let vari = sums.squares / count;
+        let next = s.after(-(sums.hmm + gv_obj(gv_mean, gv_vari, vari)));
         self.next_step(m, p, on, self.pull(gv_mean, gv_vari, mean, vari, next.step));
         next
     }

@@ -1,9 +1,141 @@
 // Maximum likelihood parameter generation: the records of a stream become its trajectory.
+ghost use mathlib.Core.Path.{_≡_};
+ghost use Prim.Native.Nat.{_≤_};
+ghost use lib.ListN.{length};
+ghost use Rattle.lists.specs.Totals.{total};
+ghost use Rattle.mlpg_adjust.specs.Trajectory.{recordSize, numbersOf};
+ghost use Rattle.mlpg_adjust.specs.TrajectoryPromise.{written, zeroFloats, zeroMarks, CreateSays};
+ghost use Rattle.mlpg_adjust.specs.TrajectoryInner.{Shaped, Room};
+
 pub mod band;
 mod closing;
 mod component;
 mod filling;
+mod group;
 mod gv;
 pub mod mask;
 mod mlpg;
+mod passes;
+mod refusing;
+mod render;
 mod solve;
+
+// Global variance: off, or on with the weight of its means.
+pub enum GlobalVariance {
+    Off,
+    On(f64),
+}
+
+// A stream: how many components it has, how its frames are voiced, and what the unvoiced ones get.
+pub struct Stream {
+    pub v: u32,
+    pub masked: bool,
+    pub threshold: f64,
+    pub fill: f64,
+    pub gv: GlobalVariance,
+}
+
+impl Stream {
+    // How many numbers a state's record has: its pairs and, if masked, one weight.
+    pub(crate) fn record_size(self, windows: usize) -> usize
+        requires { ⌜ (self .v ≤ 64) × (windows ≤ 4) ⌝ }
+        ensures { λ r. ⌜ r ≡ recordSize (self .v) windows (self .masked) ⌝ }
+    {
+        let pairs = windows * (self.v as usize);
+        if self.masked {
+            return pairs + pairs + 1;
+        }
+        pairs + pairs
+    }
+}
+
+// Whether the trajectory is written, or 01's number of why not.
+pub enum Created {
+    Done,
+    Refused(u8),
+}
+
+// `MlpgAdjust::create`: the trajectory of a stream. With GV off its two lists are no input.
+pub fn create(
+    stream: Stream,
+    widths: &[u32],
+    coefficients: &[f64],
+    records: &[f64],
+    durations: &[u32],
+    gv: &[f64],
+    switches: &[u8],
+    out: &mut [f64],
+    work: &mut [f64],
+    marks: &mut [u32],
+) -> Created
+    ensures { λ r. ⌜ CreateSays stream (now (widths .entry)) (now (coefficients .entry)) (now (records .entry)) (now (durations .entry)) (now (gv .entry)) (now (switches .entry))
+        (now (out .entry)) (now (work .entry)) (now (marks .entry)) r (now (out .exit)) (now (work .exit)) (now (marks .exit)) ⌝ }
+{
+    let refused = refusing::refusal(
+        stream,
+        widths,
+        coefficients,
+        records.len(),
+        durations,
+        gv.len(),
+        switches.len(),
+        out.len(),
+        work.len(),
+        marks.len(),
+    );
+    if refused != 0 {
+        return Created::Refused(refused);
+    }
+    write(
+        stream,
+        widths,
+        coefficients,
+        records,
+        durations,
+        gv,
+        switches,
+        out,
+        work,
+        marks,
+    );
+    Created::Done
+}
+
+// The trajectory in front of the output, and the work space zeroed, where nothing is refused.
+fn write(
+    stream: Stream,
+    widths: &[u32],
+    coefficients: &[f64],
+    records: &[f64],
+    durations: &[u32],
+    gv: &[f64],
+    switches: &[u8],
+    out: &mut [f64],
+    work: &mut [f64],
+    marks: &mut [u32],
+)
+    requires { ⌜ Shaped stream (now widths) (now coefficients) (now records) (now durations) (now gv) (now switches)
+        × Room (stream .v) (total (now durations)) (length (now out)) (length (now work)) (length (now marks)) ⌝ }
+    ensures { λ _. ⌜ (now (out .exit) ≡ written 0 (numbersOf stream (now (widths .entry)) (now (coefficients .entry)) (now (records .entry)) (now (durations .entry)) (now (gv .entry)) (now (switches .entry))) (now (out .entry)))
+        × (now (work .exit) ≡ written 0 (zeroFloats (total (now (durations .entry)))) (now (work .entry)))
+        × (now (marks .exit) ≡ written 0 (zeroMarks (total (now (durations .entry)))) (now (marks .entry))) ⌝ }
+{
+    let frames = lists::total_u32(durations) as usize;
+    let numbers = frames * (stream.v as usize);
+    let floats = frames * 48;
+    let counts = frames * 4;
+    render::render(
+        stream,
+        widths,
+        coefficients,
+        records,
+        durations,
+        gv,
+        switches,
+        &mut out[..numbers],
+        &mut work[..floats],
+        &mut marks[..counts],
+    );
+    lists::fill_f64(work, floats, 0.0);
+    lists::fill_u32(marks, counts, 0);
+}

@@ -75,7 +75,7 @@ fn mark_frames(weights: &[f64], threshold: f64, durations: &[u32], out: &mut [u3
 }
 
 // Flags become left distances. An unvoiced frame's 0 stays.
-fn left_distances(marks: &mut [u32])
+pub(crate) fn left_distances(marks: &mut [u32])
     requires { ⌜ length (now marks) ≤ 65536 ⌝ }
     ensures { λ _. ⌜ now (marks .exit) ≡ lefts 0 (map isOn (now (marks .entry))) ⌝ }
 {
@@ -94,7 +94,7 @@ fn left_distances(marks: &mut [u32])
 }
 
 // Flags become right distances, from the last frame to the first.
-fn right_distances(marks: &mut [u32])
+pub(crate) fn right_distances(marks: &mut [u32])
     requires { ⌜ length (now marks) ≤ 65536 ⌝ }
     ensures { λ _. ⌜ now (marks .exit) ≡ rights (map isOn (now (marks .entry))) ⌝ }
 {

@@ -5,7 +5,7 @@ ghost use lib.ListN.{length, getD, drop};
 ghost use Rattle.lists.specs.Build.{build};
 ghost use Rattle.mlpg_adjust.specs.Sums.{over};
 ghost use Rattle.mlpg_adjust.specs.Rows.{nought, elem, part, entry};
-ghost use Rattle.mlpg_adjust.specs.Paper.{added, term, rightTerm, rightSum, entryOf, bandRows, rightSide};
+ghost use Rattle.mlpg_adjust.specs.Paper.{added, term, rightTerm, rightSum, entryOf};
 ghost use Rattle.mlpg_adjust.specs.Solve.{reduced, forwardAt, backwardAt};
 ghost use Rattle.mlpg_adjust.specs.Inner.{onRow, Fits};
 
@@ -32,7 +32,7 @@ fn wide(x: u32) -> usize
 }
 
 // n numbers from place o on.
-fn part_at(s: &[f64], o: usize, n: usize) -> &[f64]
+pub fn part_at(s: &[f64], o: usize, n: usize) -> &[f64]
     requires { ⌜ o + n ≤ length (now s) ⌝ }
     ensures { λ r. ⌜ (now r ≡ part o n (now (s .entry))) × (length (now r) ≡ n) ⌝ }
 {
@@ -156,20 +156,20 @@ pub fn band_row(
     right
 }
 
-// Entry i of a row a, less what the t factored rows before it account for.
-pub fn reduced_at(a: &[f64], f: &[f64], w: usize, t: usize, i: usize) -> f64
-    requires { ⌜ (i < w) × (i < length (now a)) × (t * w ≤ length (now f)) ⌝ }
-    ensures { λ x. ⌜ x ≡ reduced w (now (a .entry)) (now (f .entry)) t i ⌝ }
+// x, entry i of row t, less what the t factored rows before it account for.
+pub fn reduced_at(x: f64, f: &[f64], w: usize, t: usize, i: usize) -> f64
+    requires { ⌜ (i < w) × (t * w ≤ length (now f)) ⌝ }
+    ensures { λ r. ⌜ r ≡ reduced w x (now (f .entry)) t i ⌝ }
 {
     let m = lists::least(w - i - 1, t);
-    let mut x = el(a, i);
+    let mut r = x;
     let mut k = 0;
     while k < m {
         k += 1;
         let p = t - k;
-        x = x - at(f, w, p, k) * at(f, w, p, i + k) * at(f, w, p, 0);
+        r = r - at(f, w, p, k) * at(f, w, p, i + k) * at(f, w, p, 0);
     }
-    x
+    r
 }
 
 // The value at t of forward substitution: x is the right side there, g the values before it.

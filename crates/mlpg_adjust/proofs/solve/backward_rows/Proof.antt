@@ -17,7 +17,7 @@ use Rattle.mlpg_adjust.proofs.solve.backward_rows.Tie as tie
 abbrev Inv-loop : tie.InvT-loop
 Inv-loop work₀ p n w t size lanes l₀ o₀ work l o =
     (l ≤ lanes) × (o ≡ l * size) × (length work ≡ length work₀)
-    × Stepped (λ b e. (widths : List ℕ) (coefs d : List Float) → Backing widths coefs p n w d b (t + 1) → Backing widths coefs p n w d e t) size lanes l work₀ work
+    × Stepped (λ j b e. (widths : List ℕ) (coefs d : List Float) → Backing widths coefs p n w d b (t + 1) → Backing widths coefs p n w d e t) size lanes l work₀ work
 
 abbrev μ-loop : tie.MeasureT-loop
 μ-loop work₀ p n w t size lanes l₀ o₀ work l o = lanes - l
@@ -32,20 +32,20 @@ loop-holds c = (search needs, sym (zero-mul _), refl, stepped-none _ _ _ _)
 add-e : tie.Need-add-e Inv-loop μ-loop
 add-e c = omega (arith, c .before .before .before .good, fits c)
 
-mul-backward-row : tie.Need-mul-backward-row Inv-loop μ-loop
-mul-backward-row c = omega (arith, c .before .before .before .good, fits c)
+mul-backward-lane : tie.Need-mul-backward-lane Inv-loop μ-loop
+mul-backward-lane c = omega (arith, c .before .before .before .good, fits c)
 
-sub-backward-row : tie.Need-sub-backward-row Inv-loop μ-loop
-sub-backward-row c = search needs
+sub-backward-lane : tie.Need-sub-backward-lane Inv-loop μ-loop
+sub-backward-lane c = search needs
 
-part-backward-row-start : tie.Need-part-backward-row-start Inv-loop μ-loop
-part-backward-row-start c = search needs
+part-backward-lane-start : tie.Need-part-backward-lane-start Inv-loop μ-loop
+part-backward-lane-start c = search needs
 
-part-backward-row-end : tie.Need-part-backward-row-end Inv-loop μ-loop
-part-backward-row-end c = fits c
+part-backward-lane-end : tie.Need-part-backward-lane-end Inv-loop μ-loop
+part-backward-lane-end c = fits c
 
-backward-row-requires : tie.Need-backward-row-requires Inv-loop μ-loop
-backward-row-requires c κs = let s = c .before .before .before .before .args in
+backward-lane-requires : tie.Need-backward-lane-requires Inv-loop μ-loop
+backward-lane-requires c κs = let s = c .before .before .before .before .args in
     let q = c .before .before .before .before .pre in
     let o = c .before .before .loop .o in
     (q .0, q .1, rw (mid-len o (o + s .size) (c .before .before .loop .work) (fits (c .before)), add-sub-cancel-left o (s .size)) (q .2))
@@ -59,8 +59,8 @@ loop-less c = search needs
 loop-again : tie.Need-loop-again Inv-loop μ-loop
 loop-again c = let s = c .before .before .before .before .before .before .before .args in
     let l = c .before .before .before .before .before .loop in
-    let k = c .before .before .backward-row .kept in
-    let q = stepped-lent _ (s .size) (s .lanes) (s .work .now) (l .l) (l .o) (l .work) (c .before .before .backward-row .last .0) (omega arith) (omega (arith, c .before .before .before .before .before .before .before .pre .3)) (l .inv .3) (l .inv .1) (k .0) (c .before .before .backward-row .ensures) in
+    let k = c .before .before .backward-lane .kept in
+    let q = stepped-lent _ (s .size) (s .lanes) (s .work .now) (l .l) (l .o) (l .work) (c .before .before .backward-lane .last .0) (omega arith) (omega (arith, c .before .before .before .before .before .before .before .pre .3)) (l .inv .3) (l .inv .1) (k .0) (c .before .before .backward-lane .ensures) in
     (search needs, rw add-one (rw suc-mul (cc)), q .long, q)
 
 same-length : tie.Need-same-length Inv-loop μ-loop
@@ -78,11 +78,11 @@ backward-rows-spec =
     μ-loop
     loop-holds
     add-e
-    mul-backward-row
-    sub-backward-row
-    part-backward-row-start
-    part-backward-row-end
-    backward-row-requires
+    mul-backward-lane
+    sub-backward-lane
+    part-backward-lane-start
+    part-backward-lane-end
+    backward-lane-requires
     add-l
     loop-less
     loop-again

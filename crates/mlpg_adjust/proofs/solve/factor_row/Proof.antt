@@ -15,6 +15,18 @@ add-e c = search needs
 mul-reduced-at : tie.Need-mul-reduced-at
 mul-reduced-at c = search needs
 
+add-reduced-at : tie.Need-add-reduced-at
+add-reduced-at c = search needs
+
+mul-reduced-at-2 : tie.Need-mul-reduced-at-2
+mul-reduced-at-2 c = search needs
+
+slice-read-reduced-at : tie.Need-slice-read-reduced-at
+slice-read-reduced-at c = search needs
+
+mul-reduced-at-3 : tie.Need-mul-reduced-at-3
+mul-reduced-at-3 c = search needs
+
 sub-reduced-at : tie.Need-sub-reduced-at
 sub-reduced-at c = search needs
 
@@ -40,7 +52,8 @@ same-length : tie.Need-same-length
 same-length c = rw (c .before .before .factor-rest .ensures) (simp (length-sets, length-set))
 
 returns : tie.Need-returns
-returns c = let s = c .before .before .before .before .before .before .before .before .before .args in row-is (s .w) (s .a .now) (s .factors) (s .t) (s .m .now) _ _ (c .before .before .before .before .before .before .before .before .before .pre .0) (c .before .before .before .before .reduced-at .ensures) (c .before .before .factor-rest .ensures)
+returns c = let s = c .before .before .before .before .before .before .before .before .before in
+    row-is (s .args .w) (s .args .rows) (s .args .factors) (s .args .t) (s .args .m .now) (s .pre .1) _ _ (s .pre .0) (c .before .before .before .before .reduced-at .ensures) (c .before .before .factor-rest .ensures)
 
 pub factor-row-spec : {M : Type 1} → statement M
 factor-row-spec =
@@ -49,6 +62,10 @@ factor-row-spec =
     mul-e
     add-e
     mul-reduced-at
+    add-reduced-at
+    mul-reduced-at-2
+    slice-read-reduced-at
+    mul-reduced-at-3
     sub-reduced-at
     part-reduced-at-start
     part-reduced-at-end

@@ -1,0 +1,72 @@
+-- A region's rows and right side, number by number: what passes along the frames do to them. Assumes nothing.
+use mathlib.Core.Path.{_≡_}
+use mathlib.Core.Bool.{cond}
+use mathlib.Core.Logic.{_≢_}
+use mathlib.Core.List.{List}
+use Prim.Native.Nat.{ℕ, _+_, _-_, _*_, _/_, _<_}
+use lib.ListN.{length}
+use lib.Dec.{ltb, leb, eqb}
+use lib.Ieee.{Float}
+use Rattle.model.specs.Windows.{windowOf}
+use Rattle.mlpg_adjust.specs.Sums.{over}
+use Rattle.mlpg_adjust.specs.Rows.{elem}
+use Rattle.mlpg_adjust.specs.Paper.{term, rightTerm, partOf}
+use Rattle.mlpg_adjust.specs.declared.solve.Places.{Places}
+
+-- f t done to the number at place at + t * step, for each t < count, and all others as they were
+pub record Along (at step count : ℕ) (f : ℕ → Float → Float) (d m : List Float) : Type 0 where
+  pub long : length m ≡ length d
+  pub on : (t : ℕ) → t < count → elem m (at + t * step) ≡ f t (elem d (at + t * step))
+  pub off : (i : ℕ) → ((t : ℕ) → t < count → i ≢ at + t * step) → elem m i ≡ elem d i
+
+-- f t j done to entry j of each row t, and g t to the right side at t; what lies before the rows is as it was
+pub record Moved (p : Places) (n w : ℕ) (f : ℕ → ℕ → Float → Float) (g : ℕ → Float → Float) (d m : List Float) : Type 0 where
+  pub long : length m ≡ length d
+  pub pairs : (i : ℕ) → i < p .rows → elem m i ≡ elem d i
+  pub entries : (t j : ℕ) → t < n → j < w → elem m (p .rows + (t * w + j)) ≡ f t j (elem d (p .rows + (t * w + j)))
+  pub sides : (t : ℕ) → t < n → elem m (p .right + t) ≡ g t (elem d (p .right + t))
+
+-- h of the frame that row t's tap k stands at, t + half - k, if there is such a frame
+abbrev pub atFrame : ℕ → ℕ → ℕ → ℕ → (ℕ → Float → Float) → Float → Float
+atFrame half n k t h y = cond (leb k (t + half)) (cond (ltb (t + half - k) n) (h (t + half - k) y) y) y
+
+-- y, unless column t + j is past the end
+abbrev pub inside : ℕ → ℕ → ℕ → (Float → Float) → Float → Float
+inside n t j h y = cond (ltb (t + j) n) (h y) y
+
+module _ (taps us ms : List Float) (n : ℕ) where
+  -- entry j of row t, and the right side at t, with tap k's term added
+  unfoldable pub tapEntry : ℕ → ℕ → ℕ → Float → Float
+  unfolding term
+  tapEntry k t j = inside n t j (atFrame (length taps / 2) n k t (term taps us t (t + j)))
+
+  unfoldable pub tapSide : ℕ → ℕ → Float → Float
+  unfolding rightTerm
+  tapSide k t = atFrame (length taps / 2) n k t (rightTerm taps us ms t)
+
+  -- and with the window's terms added
+  unfoldable pub windowEntry : ℕ → ℕ → Float → Float
+  unfolding term over
+  windowEntry t j = inside n t j (over (term taps us t (t + j)) n)
+
+  unfoldable pub windowSide : ℕ → Float → Float
+  unfolding rightTerm over
+  windowSide t = over (rightTerm taps us ms t) n
+
+-- and with the terms of the first i windows added
+module _ (widths : List ℕ) (coefs us ms : List Float) (n : ℕ) where
+  unfoldable pub windowsEntry : ℕ → ℕ → ℕ → Float → Float
+  unfolding term over
+  windowsEntry i t j = inside n t j (over (λ i. over (term (windowOf widths coefs i) (partOf n us i) t (t + j)) n) i)
+
+  unfoldable pub windowsSide : ℕ → ℕ → Float → Float
+  unfolding rightTerm over
+  windowsSide i t = over (λ i. over (rightTerm (windowOf widths coefs i) (partOf n us i) (partOf n ms i) t) n) i
+
+-- the same number
+abbrev pub still : ℕ → Float → Float
+still t y = y
+
+-- f t j in column j alone
+abbrev pub inColumn : ℕ → (ℕ → ℕ → Float → Float) → ℕ → ℕ → Float → Float
+inColumn j f t i y = cond (eqb i j) (f t i y) y
