@@ -1,0 +1,81 @@
+//! Safe calls of `libhejmirov.a`, the numeric core of a talking-book renderer.
+//!
+//! | call | what it gives |
+//! |---|---|
+//! | [`fit`], [`speed`], [`align`] | states' durations in frames: to a length, at a speed, to labels' ends |
+//! | [`job`] | the same from a job file's bytes |
+//! | [`mask`] | which frames are voiced, and how far each is from the ends of its run |
+//! | [`band_rows`] | the equations of one component, before they are solved |
+//! | [`Stream::trajectory`] | a stream's numbers, frame after frame |
+//! | [`place`], [`excerpt`] | where a number stands in the spool, and a state's part of a trajectory |
+//!
+//! Each call that writes lists has two forms: one that owns what it allocates, output and work
+//! space, and one ending in `_into` that takes the caller's and allocates nothing. Both answer the
+//! same.
+//!
+//! No call panics, whatever its numbers and lengths; what the library doesn't take is a
+//! [`Refusal`]. After a refusal every output is as it was. Any `f64` is taken; a NaN that is handed
+//! out has the bits 0x7FF8000000000000. The calls keep nothing between them, and threads may make
+//! them at once. The answers are exact, to the bit, as long as nothing in the program makes the
+//! processor flush subnormal numbers to zero.
+//!
+//! # Linking
+//!
+//! The archive is found in the folder that the environment variable `HEJMIROV_LIB_DIR` names, else
+//! in this repository's `target/staticlib`, where `rt staticlib hejmirov` writes it. It is for
+//! x86-64 Linux and needs nothing but the C library's `memset`.
+
+mod durations;
+mod refusal;
+mod spool;
+mod sys;
+mod trajectory;
+
+pub use durations::{
+    Aligned, Answered, Fitted, align, align_into, fit, fit_into, job, job_into, speed, speed_into,
+};
+pub use refusal::Refusal;
+pub use spool::{excerpt, excerpt_range, place};
+pub use trajectory::{
+    BandRows, GlobalVariance, Mask, Stream, Trajectory, Windows, band_rows, band_rows_into, mask,
+    mask_into,
+};
+
+/// Most windows in a set; at least 1.
+pub const MAX_WINDOWS: usize = 4;
+/// Most coefficients in a window; at least 1.
+pub const MAX_WIDTH: usize = 15;
+/// Most numbers in a frame of a stream; at least 1.
+pub const MAX_V: usize = 64;
+/// Most states in an utterance.
+pub const MAX_STATES: usize = 4096;
+/// Most states in a label; at least 1.
+pub const MAX_NSTATE: usize = 16;
+/// Most frames in an utterance.
+pub const MAX_FRAMES: usize = 65536;
+/// Most states in a job file.
+pub const MAX_JOB_STATES: usize = 1024;
+
+/// Floats of a trajectory's work space for each frame.
+pub const WORK_FLOATS_A_FRAME: usize = 48;
+/// Whole numbers of a trajectory's marks for each frame.
+pub const WORK_MARKS_A_FRAME: usize = 4;
+/// Bytes of one number in the spool.
+pub const BYTES_A_NUMBER: usize = 8;
+/// Bytes of a job file before its first state.
+pub const JOB_HEAD_BYTES: usize = 15;
+/// Bytes of each state of a job file.
+pub const JOB_STATE_BYTES: usize = 16;
+
+/// An end that is open, for [`align`]; any number below 0, and NaN, says the same.
+pub const OPEN_END: f64 = -1.0;
+
+/// The durations' total, as far as a call can take it: more is refused before room is looked at.
+fn frames_at_most(durations: &[u32]) -> usize {
+    let total: u64 = durations
+        .iter()
+        .take(MAX_STATES)
+        .map(|&frames| u64::from(frames))
+        .sum();
+    usize::try_from(total).map_or(MAX_FRAMES, |total| total.min(MAX_FRAMES))
+}

@@ -1,0 +1,428 @@
+//! The voicing mask, the band rows, and trajectories.
+
+use crate::{
+    MAX_FRAMES, MAX_V, MAX_WIDTH, Refusal, WORK_FLOATS_A_FRAME, WORK_MARKS_A_FRAME, excerpt,
+    frames_at_most, sys,
+};
+
+/// Which frames are voiced, and how far each is from the ends of its run of voiced frames.
+#[derive(Clone, Debug, Default, PartialEq, Eq)]
+pub struct Mask {
+    /// 1 for a voiced frame, 0 for another.
+    pub voiced: Vec<u32>,
+    /// How many voiced frames stand directly before a voiced frame; 0 for another.
+    pub left: Vec<u32>,
+    /// How many voiced frames stand directly after a voiced frame; 0 for another.
+    pub right: Vec<u32>,
+}
+
+/// Which frames are voiced: those of states whose weight is greater than the threshold.
+///
+/// # Errors
+///
+/// [`BadSize`](Refusal::BadSize): more than 4,096 durations.
+/// [`ListsDisagree`](Refusal::ListsDisagree): another number of weights.
+/// [`TooManyFrames`](Refusal::TooManyFrames): the durations total above 65,536.
+///
+/// # Examples
+///
+/// ```
+/// let mask = hejmirov::mask(&[0.9, 0.2, 0.7], 0.5, &[2, 1, 3])?;
+/// assert_eq!(mask.voiced, [1, 1, 0, 1, 1, 1]);
+/// assert_eq!(mask.left, [0, 1, 0, 0, 1, 2]);
+/// assert_eq!(mask.right, [1, 0, 0, 2, 1, 0]);
+/// # Ok::<(), hejmirov::Refusal>(())
+/// ```
+pub fn mask(weights: &[f64], threshold: f64, durations: &[u32]) -> Result<Mask, Refusal> {
+    let frames = frames_at_most(durations);
+    let (mut voiced, mut left, mut right) = (vec![0; frames], vec![0; frames], vec![0; frames]);
+    mask_into(
+        weights,
+        threshold,
+        durations,
+        &mut voiced,
+        &mut left,
+        &mut right,
+    )?;
+    Ok(Mask {
+        voiced,
+        left,
+        right,
+    })
+}
+
+/// [`mask`] in the caller's memory, one number a frame in each list; it answers the number of frames.
+///
+/// # Errors
+///
+/// Those of [`mask`], and [`TooLittleRoom`](Refusal::TooLittleRoom). The lists are then as they were.
+///
+/// # Examples
+///
+/// ```
+/// let (mut voiced, mut left, mut right) = ([7; 4], [7; 4], [7; 4]);
+/// let frames = hejmirov::mask_into(&[0.9], 0.5, &[3], &mut voiced, &mut left, &mut right)?;
+/// assert_eq!(frames, 3);
+/// assert_eq!((voiced, left, right), ([1, 1, 1, 7], [0, 1, 2, 7], [2, 1, 0, 7]));
+/// # Ok::<(), hejmirov::Refusal>(())
+/// ```
+pub fn mask_into(
+    weights: &[f64],
+    threshold: f64,
+    durations: &[u32],
+    voiced: &mut [u32],
+    left: &mut [u32],
+    right: &mut [u32],
+) -> Result<u32, Refusal> {
+    let mut frames = 0;
+    // SAFETY: each pointer and length are those of one slice, and the written ones are borrowed alone.
+    let refusal = unsafe {
+        sys::hejmirov_mask(
+            weights.as_ptr(),
+            weights.len(),
+            threshold,
+            durations.as_ptr(),
+            durations.len(),
+            voiced.as_mut_ptr(),
+            voiced.len(),
+            left.as_mut_ptr(),
+            left.len(),
+            right.as_mut_ptr(),
+            right.len(),
+            &raw mut frames,
+        )
+    };
+    Refusal::or(refusal, frames)
+}
+
+/// A set of 1 to 4 windows.
+#[derive(Clone, Copy, Debug, Default, PartialEq)]
+pub struct Windows<'a> {
+    /// Each window's number of coefficients, 1 to 15.
+    pub widths: &'a [u32],
+    /// The windows' coefficients, window after window.
+    pub coefficients: &'a [f64],
+}
+
+impl Windows<'_> {
+    /// Numbers in a band row: 2 × (longest window / 2, rounded down) + 1.
+    ///
+    /// ```
+    /// let windows = hejmirov::Windows { widths: &[1, 4], coefficients: &[1.0, -1.0, 0.0, 0.0, 1.0] };
+    /// assert_eq!(windows.band_width(), 5);
+    /// ```
+    #[must_use]
+    pub fn band_width(&self) -> usize {
+        let longest = self.widths.iter().copied().max().unwrap_or(0);
+        2 * (longest as usize / 2) + 1
+    }
+}
+
+/// The equations of one component, before they are solved.
+#[derive(Clone, Debug, Default, PartialEq)]
+pub struct BandRows {
+    /// Numbers in a row.
+    pub width: usize,
+    /// The rows, one a frame; entry j of row t belongs to columns t and t + j.
+    pub rows: Vec<f64>,
+    /// The right side, one number a frame.
+    pub right: Vec<f64>,
+}
+
+/// The band rows of one component and their right side.
+///
+/// `means` and `ivars` hold means and inverse variances window after window, one number a frame each.
+///
+/// # Errors
+///
+/// [`BadWindows`](Refusal::BadWindows): not 1 to 4 windows, or a width is not 1 to 15.
+/// [`BadCoefficient`](Refusal::BadCoefficient): a coefficient is infinite or NaN.
+/// [`ListsDisagree`](Refusal::ListsDisagree): the widths' sum is not the number of coefficients, the
+/// means can't be shared out among the windows, or there is another number of inverse variances.
+/// [`TooManyFrames`](Refusal::TooManyFrames): more than 65,536 frames.
+///
+/// # Examples
+///
+/// ```
+/// use hejmirov::Windows;
+///
+/// let windows = Windows { widths: &[1, 3], coefficients: &[1.0, -0.5, 0.0, 0.5] };
+/// let means = [1.0, 2.0, 3.0, 1.0, 1.0, 1.0];
+/// let ivars = [1.0, 1.0, 1.0, 0.0, 1.0, 0.0];
+/// let band = hejmirov::band_rows(windows, &means, &ivars)?;
+/// assert_eq!(band.rows, [1.25, 0.0, -0.25, 1.0, 0.0, 0.0, 1.25, 0.0, 0.0]);
+/// assert_eq!(band.right, [0.5, 2.0, 3.5]);
+/// # Ok::<(), hejmirov::Refusal>(())
+/// ```
+pub fn band_rows(windows: Windows, means: &[f64], ivars: &[f64]) -> Result<BandRows, Refusal> {
+    let frames = means
+        .len()
+        .checked_div(windows.widths.len())
+        .unwrap_or(0)
+        .min(MAX_FRAMES);
+    let width = windows.band_width().min(MAX_WIDTH);
+    let (mut rows, mut right) = (vec![0.0; frames * width], vec![0.0; frames]);
+    band_rows_into(windows, means, ivars, &mut rows, &mut right)?;
+    Ok(BandRows { width, rows, right })
+}
+
+/// [`band_rows`] in the caller's memory: frames × [`band_width`](Windows::band_width) numbers in
+/// `rows`, one a frame in `right`.
+///
+/// # Errors
+///
+/// Those of [`band_rows`], and [`TooLittleRoom`](Refusal::TooLittleRoom). The lists are then as they
+/// were.
+///
+/// # Examples
+///
+/// ```
+/// use hejmirov::{Refusal, Windows};
+///
+/// let windows = Windows { widths: &[1], coefficients: &[2.0] };
+/// let (mut rows, mut right) = ([0.0; 2], [0.0; 2]);
+/// hejmirov::band_rows_into(windows, &[3.0, 5.0], &[1.0, 0.5], &mut rows, &mut right)?;
+/// assert_eq!((rows, right), ([4.0, 2.0], [6.0, 5.0]));
+///
+/// let refused = hejmirov::band_rows_into(windows, &[3.0], &[1.0], &mut [], &mut right);
+/// assert_eq!(refused, Err(Refusal::TooLittleRoom));
+/// # Ok::<(), hejmirov::Refusal>(())
+/// ```
+pub fn band_rows_into(
+    windows: Windows,
+    means: &[f64],
+    ivars: &[f64],
+    rows: &mut [f64],
+    right: &mut [f64],
+) -> Result<(), Refusal> {
+    // SAFETY: each pointer and length are those of one slice, and the written ones are borrowed alone.
+    let refusal = unsafe {
+        sys::hejmirov_band_rows(
+            windows.widths.as_ptr(),
+            windows.widths.len(),
+            windows.coefficients.as_ptr(),
+            windows.coefficients.len(),
+            means.as_ptr(),
+            means.len(),
+            ivars.as_ptr(),
+            ivars.len(),
+            rows.as_mut_ptr(),
+            rows.len(),
+            right.as_mut_ptr(),
+            right.len(),
+        )
+    };
+    Refusal::or(refusal, ())
+}
+
+/// Global variance of a stream.
+#[derive(Clone, Copy, Debug, PartialEq)]
+pub struct GlobalVariance<'a> {
+    /// The means are multiplied by it.
+    pub weight: f64,
+    /// One mean a component, then one variance a component.
+    pub pairs: &'a [f64],
+    /// One a state: whether its frames count.
+    pub switches: &'a [bool],
+}
+
+/// What a stream's trajectory is worked out with, but for its states.
+///
+/// ```
+/// use hejmirov::{Stream, Windows};
+///
+/// let stream = Stream {
+///     v: 1,
+///     windows: Windows { widths: &[1, 3], coefficients: &[1.0, -0.5, 0.0, 0.5] },
+///     masked: true,
+///     threshold: 0.5,
+///     fill: -1e10,
+///     gv: None,
+/// };
+/// // A record: a mean a window, a variance a window, the voicing weight.
+/// assert_eq!(stream.record_len(), 5);
+/// let voiced = [3.0, 0.0, 1.0, 1.0, 0.9];
+/// let unvoiced = [3.0, 0.0, 1.0, 1.0, 0.1];
+/// let trajectory = stream.trajectory(&[voiced, unvoiced].concat(), &[2, 1])?;
+/// assert_eq!(trajectory.numbers, [3.0, 3.0, -1e10]);
+/// # Ok::<(), hejmirov::Refusal>(())
+/// ```
+#[derive(Clone, Copy, Debug, PartialEq)]
+pub struct Stream<'a> {
+    /// Numbers a frame, 1 to 64.
+    pub v: u32,
+    /// The windows; every one but the first counts nothing where it would reach past the ends of a
+    /// run of voiced frames.
+    pub windows: Windows<'a>,
+    /// Whether each record ends with a voicing weight. Without one every frame is voiced, but where
+    /// the threshold is NaN or at least the largest finite number.
+    pub masked: bool,
+    /// A state is voiced where its weight is greater.
+    pub threshold: f64,
+    /// Stands for every number of an unvoiced frame.
+    pub fill: f64,
+    /// Global variance, where it is on.
+    pub gv: Option<GlobalVariance<'a>>,
+}
+
+impl Stream<'_> {
+    /// Numbers in a state's record: windows × v means, as many variances, and the weight of a masked
+    /// stream. Component c of window w is number v × w + c.
+    #[must_use]
+    pub fn record_len(&self) -> usize {
+        2 * self.windows.widths.len() * self.v as usize + usize::from(self.masked)
+    }
+
+    /// The stream's numbers, frame after frame.
+    ///
+    /// `records` holds one record a state, [`record_len`](Self::record_len) numbers each; `durations`
+    /// one number of frames a state, 0 too.
+    ///
+    /// # Errors
+    ///
+    /// [`BadWindows`](Refusal::BadWindows): not 1 to 4 windows, or a width is not 1 to 15.
+    /// [`BadCoefficient`](Refusal::BadCoefficient): a coefficient is infinite or NaN.
+    /// [`BadSize`](Refusal::BadSize): more than 4,096 states, or `v` is not 1 to 64.
+    /// [`ListsDisagree`](Refusal::ListsDisagree): the widths' sum is not the number of coefficients,
+    /// the records are not one a state, or, with global variance, there are not 2 × v numbers of
+    /// pairs and one switch a state. [`TooManyFrames`](Refusal::TooManyFrames): the durations total
+    /// above 65,536.
+    ///
+    /// # Examples
+    ///
+    /// ```
+    /// use hejmirov::{GlobalVariance, Stream, Windows};
+    ///
+    /// let plain = Stream {
+    ///     v: 1,
+    ///     windows: Windows { widths: &[1], coefficients: &[1.0] },
+    ///     masked: false,
+    ///     threshold: 0.0,
+    ///     fill: 0.0,
+    ///     gv: None,
+    /// };
+    /// let records = [1.0, 1.0, 3.0, 1.0];
+    /// assert_eq!(plain.trajectory(&records, &[2, 2])?.numbers, [1.0, 1.0, 3.0, 3.0]);
+    ///
+    /// // The variance of 1, 1, 3, 3 is 1; a target of 4 draws the numbers apart.
+    /// let switches = [true, true];
+    /// let gv = Some(GlobalVariance { weight: 1.0, pairs: &[4.0, 0.0], switches: &switches });
+    /// let drawn = Stream { gv, ..plain }.trajectory(&records, &[2, 2])?;
+    /// assert!(drawn.numbers[0] < 1.0 && drawn.numbers[3] > 3.0);
+    /// # Ok::<(), hejmirov::Refusal>(())
+    /// ```
+    pub fn trajectory(&self, records: &[f64], durations: &[u32]) -> Result<Trajectory, Refusal> {
+        let frames = frames_at_most(durations);
+        let mut numbers = vec![0.0; frames * (self.v as usize).min(MAX_V)];
+        let mut work = vec![0.0; frames * WORK_FLOATS_A_FRAME];
+        let mut marks = vec![0; frames * WORK_MARKS_A_FRAME];
+        self.trajectory_into(records, durations, &mut numbers, &mut work, &mut marks)?;
+        Ok(Trajectory { v: self.v, numbers })
+    }
+
+    /// [`trajectory`](Self::trajectory) in the caller's memory: frames × v numbers in `out`,
+    /// component c of frame t at t × v + c.
+    ///
+    /// `work` needs [`WORK_FLOATS_A_FRAME`] and `marks` [`WORK_MARKS_A_FRAME`] numbers a frame; so
+    /// many of each are zero afterwards. What is beyond stays as it was.
+    ///
+    /// # Errors
+    ///
+    /// Those of [`trajectory`](Self::trajectory), and [`TooLittleRoom`](Refusal::TooLittleRoom). All
+    /// three lists are then as they were.
+    ///
+    /// # Examples
+    ///
+    /// ```
+    /// use hejmirov::{Stream, WORK_FLOATS_A_FRAME, WORK_MARKS_A_FRAME, Windows};
+    ///
+    /// let windows = Windows { widths: &[1], coefficients: &[1.0] };
+    /// let stream = Stream { v: 2, windows, masked: false, threshold: 0.0, fill: 0.0, gv: None };
+    /// let mut out = [7.0; 5];
+    /// let mut work = [7.0; 2 * WORK_FLOATS_A_FRAME];
+    /// let mut marks = [7; 2 * WORK_MARKS_A_FRAME];
+    /// stream.trajectory_into(&[5.0, 6.0, 1.0, 1.0], &[2], &mut out, &mut work, &mut marks)?;
+    /// assert_eq!(out, [5.0, 6.0, 5.0, 6.0, 7.0]);
+    /// # Ok::<(), hejmirov::Refusal>(())
+    /// ```
+    pub fn trajectory_into(
+        &self,
+        records: &[f64],
+        durations: &[u32],
+        out: &mut [f64],
+        work: &mut [f64],
+        marks: &mut [u32],
+    ) -> Result<(), Refusal> {
+        let off = GlobalVariance {
+            weight: 0.0,
+            pairs: &[],
+            switches: &[],
+        };
+        let gv = self.gv.unwrap_or(off);
+        // SAFETY: each pointer and length are those of one slice, and the written ones are borrowed
+        // alone; a `bool` is a byte of 0 or 1.
+        let refusal = unsafe {
+            sys::hejmirov_trajectory(
+                self.v,
+                u32::from(self.masked),
+                self.threshold,
+                self.fill,
+                u32::from(self.gv.is_some()),
+                gv.weight,
+                self.windows.widths.as_ptr(),
+                self.windows.widths.len(),
+                self.windows.coefficients.as_ptr(),
+                self.windows.coefficients.len(),
+                records.as_ptr(),
+                records.len(),
+                durations.as_ptr(),
+                durations.len(),
+                gv.pairs.as_ptr(),
+                gv.pairs.len(),
+                gv.switches.as_ptr().cast(),
+                gv.switches.len(),
+                out.as_mut_ptr(),
+                out.len(),
+                work.as_mut_ptr(),
+                work.len(),
+                marks.as_mut_ptr(),
+                marks.len(),
+            )
+        };
+        Refusal::or(refusal, ())
+    }
+}
+
+/// A stream's numbers, frame after frame.
+#[derive(Clone, Debug, PartialEq)]
+pub struct Trajectory {
+    /// Numbers a frame.
+    pub v: u32,
+    /// Component c of frame t is number t × v + c.
+    pub numbers: Vec<f64>,
+}
+
+impl Trajectory {
+    /// The frames in order, each of v numbers.
+    pub fn frames(&self) -> std::slice::ChunksExact<'_, f64> {
+        self.numbers.chunks_exact((self.v as usize).max(1))
+    }
+
+    /// The part that belongs to one state of those that it was made with.
+    ///
+    /// # Errors
+    ///
+    /// Those of [`excerpt`].
+    ///
+    /// # Examples
+    ///
+    /// ```
+    /// let trajectory = hejmirov::Trajectory { v: 2, numbers: vec![0.0, 0.1, 1.0, 1.1, 2.0, 2.1] };
+    /// assert_eq!(trajectory.excerpt(&[1, 2], 0)?, [0.0, 0.1]);
+    /// assert_eq!(trajectory.frames().nth(2), Some(&[2.0, 2.1][..]));
+    /// # Ok::<(), hejmirov::Refusal>(())
+    /// ```
+    pub fn excerpt(&self, durations: &[u32], state: u32) -> Result<&[f64], Refusal> {
+        excerpt(&self.numbers, durations, self.v, state)
+    }
+}

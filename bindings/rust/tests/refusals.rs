@@ -1,0 +1,320 @@
+//! Each refusal through the safe calls, what the lists hold afterwards, and empty lists.
+
+#![allow(clippy::float_cmp)] // what is promised is exact
+
+use hejmirov::{
+    Aligned, Fitted, GlobalVariance, JOB_STATE_BYTES, MAX_FRAMES, MAX_JOB_STATES, MAX_NSTATE,
+    MAX_STATES, MAX_V, MAX_WIDTH, MAX_WINDOWS, OPEN_END, Refusal, Stream, WORK_FLOATS_A_FRAME,
+    WORK_MARKS_A_FRAME, Windows,
+};
+
+const MEANS: [f64; 2] = [2.0, 3.0];
+const VARIS: [f64; 2] = [1.0, 1.0];
+
+const PLAIN: Stream = Stream {
+    v: 1,
+    windows: Windows {
+        widths: &[1],
+        coefficients: &[1.0],
+    },
+    masked: false,
+    threshold: 0.0,
+    fill: -1.0,
+    gv: None,
+};
+
+#[test]
+fn windows_are_refused() {
+    let none = Stream {
+        windows: Windows::default(),
+        ..PLAIN
+    };
+    assert_eq!(none.trajectory(&[], &[]), Err(Refusal::BadWindows));
+    let empty = Windows {
+        widths: &[1, 0],
+        coefficients: &[1.0],
+    };
+    assert_eq!(
+        hejmirov::band_rows(empty, &[], &[]),
+        Err(Refusal::BadWindows)
+    );
+    let long = Windows {
+        widths: &[u32::MAX],
+        coefficients: &[1.0],
+    };
+    assert_eq!(
+        hejmirov::band_rows(long, &[1.0; 9], &[]),
+        Err(Refusal::BadWindows)
+    );
+    let infinite = Windows {
+        widths: &[1],
+        coefficients: &[f64::INFINITY],
+    };
+    assert_eq!(
+        hejmirov::band_rows(infinite, &[], &[]),
+        Err(Refusal::BadCoefficient)
+    );
+}
+
+#[test]
+fn sizes_are_refused() {
+    let many = vec![1.0; MAX_STATES + 1];
+    assert_eq!(hejmirov::fit(&many, &many, 9.0), Err(Refusal::BadSize));
+    assert_eq!(
+        hejmirov::mask(&many, 0.0, &vec![1; MAX_STATES + 1]),
+        Err(Refusal::BadSize)
+    );
+    assert_eq!(
+        hejmirov::align(&MEANS, &VARIS, 0, &[8.0]),
+        Err(Refusal::BadSize)
+    );
+    assert_eq!(hejmirov::place(0, 0, 65), Err(Refusal::BadSize));
+    for v in [0, 65, u32::MAX] {
+        assert_eq!(
+            Stream { v, ..PLAIN }.trajectory(&[], &[1]),
+            Err(Refusal::BadSize)
+        );
+    }
+}
+
+#[test]
+fn lists_that_disagree_are_refused() {
+    assert_eq!(
+        hejmirov::fit(&MEANS, &[1.0], 8.0),
+        Err(Refusal::ListsDisagree)
+    );
+    assert_eq!(
+        hejmirov::align(&MEANS, &VARIS, 2, &[8.0, 9.0]),
+        Err(Refusal::ListsDisagree)
+    );
+    assert_eq!(
+        hejmirov::mask(&[0.5], 0.0, &[1, 1]),
+        Err(Refusal::ListsDisagree)
+    );
+    assert_eq!(
+        hejmirov::band_rows(PLAIN.windows, &[1.0], &[]),
+        Err(Refusal::ListsDisagree)
+    );
+    assert_eq!(
+        hejmirov::excerpt(&[1.0], &[2], 1, 0),
+        Err(Refusal::ListsDisagree)
+    );
+    assert_eq!(PLAIN.trajectory(&[1.0], &[1]), Err(Refusal::ListsDisagree));
+    let gv = Some(GlobalVariance {
+        weight: 1.0,
+        pairs: &[1.0, 1.0],
+        switches: &[],
+    });
+    assert_eq!(
+        Stream { gv, ..PLAIN }.trajectory(&[1.0, 1.0], &[1]),
+        Err(Refusal::ListsDisagree)
+    );
+}
+
+#[test]
+fn too_many_frames_are_refused() {
+    let over = [u32::MAX, 2];
+    assert_eq!(
+        hejmirov::mask(&MEANS, 0.0, &over),
+        Err(Refusal::TooManyFrames)
+    );
+    assert_eq!(
+        PLAIN.trajectory(&[1.0; 4], &over),
+        Err(Refusal::TooManyFrames)
+    );
+    let frames = vec![1.0; MAX_FRAMES + 1];
+    assert_eq!(
+        hejmirov::band_rows(PLAIN.windows, &frames, &frames),
+        Err(Refusal::TooManyFrames)
+    );
+}
+
+#[test]
+fn too_little_room_leaves_everything() {
+    let (mut out, mut work) = ([7; 2], [7; 1]);
+    let refused = hejmirov::fit_into(&MEANS, &VARIS, 8.0, &mut out, &mut work);
+    assert_eq!(
+        (refused, out, work),
+        (Err(Refusal::TooLittleRoom), [7; 2], [7; 1])
+    );
+
+    let mut numbers = [7.0; 2];
+    let mut floats = [7.0; 2 * WORK_FLOATS_A_FRAME];
+    let mut marks = [7; 2 * WORK_MARKS_A_FRAME - 1];
+    let records = [5.0, 1.0];
+    let refused = PLAIN.trajectory_into(&records, &[2], &mut numbers, &mut floats, &mut marks);
+    assert_eq!(refused, Err(Refusal::TooLittleRoom));
+    assert!(numbers.iter().chain(&floats).all(|&number| number == 7.0));
+    assert!(marks.iter().all(|&mark| mark == 7));
+}
+
+#[test]
+fn lengths_above_the_limit_zero_the_work_space() {
+    let (mut out, mut work) = ([7; 2], [7; 3]);
+    let refused = hejmirov::fit_into(&MEANS, &VARIS, 65_536.5, &mut out, &mut work);
+    assert_eq!(
+        (refused, out, work),
+        (Err(Refusal::TargetTooLong), [7; 2], [0, 0, 7])
+    );
+    let mut work = [7; 3];
+    let refused = hejmirov::fit_into(&MEANS, &VARIS, 65_536.0, &mut out, &mut work);
+    assert_eq!(
+        (refused, out, work),
+        (Err(Refusal::EstimateTooLong), [7; 2], [0, 0, 7])
+    );
+    assert_eq!(
+        hejmirov::speed(&MEANS, &VARIS, 0.0),
+        Err(Refusal::TargetTooLong)
+    );
+}
+
+#[test]
+fn jobs_places_and_states_that_are_not_there() {
+    assert_eq!(hejmirov::job(b"SPJ"), Err(Refusal::JobDamaged));
+    assert_eq!(hejmirov::place(0, 40, 40), Err(Refusal::NoSuchPlace));
+    assert_eq!(
+        hejmirov::excerpt(&[1.0, 2.0], &[2], 1, 1),
+        Err(Refusal::NoSuchPlace)
+    );
+}
+
+#[test]
+fn trajectories_zero_the_work_space_they_use_and_no_more() {
+    let mut numbers = [7.0; 3];
+    let mut floats = [7.0; 2 * WORK_FLOATS_A_FRAME + 1];
+    let mut marks = [7; 2 * WORK_MARKS_A_FRAME + 1];
+    PLAIN
+        .trajectory_into(&[5.0, 1.0], &[2], &mut numbers, &mut floats, &mut marks)
+        .unwrap();
+    assert_eq!(numbers, [5.0, 5.0, 7.0]);
+    let (last, used) = floats.split_last().unwrap();
+    assert!(*last == 7.0 && used.iter().all(|number| number.to_bits() == 0));
+    let (last, used) = marks.split_last().unwrap();
+    assert!(*last == 7 && used.iter().all(|&mark| mark == 0));
+}
+
+#[test]
+fn empty_lists_are_accepted() {
+    assert_eq!(
+        hejmirov::fit(&[], &[], f64::INFINITY),
+        Ok(Fitted::default())
+    );
+    assert_eq!(hejmirov::align(&[], &[], 1, &[]), Ok(Fitted::default()));
+    assert_eq!(hejmirov::mask(&[], 0.5, &[]), Ok(hejmirov::Mask::default()));
+    assert_eq!(PLAIN.trajectory(&[], &[]).unwrap().numbers, []);
+    assert_eq!(
+        PLAIN
+            .trajectory(&[1.0, 1.0], &[0])
+            .unwrap()
+            .frames()
+            .count(),
+        0
+    );
+}
+
+#[test]
+fn an_alignment_leaves_what_it_does_not_write() {
+    let (mut out, mut work) = ([7; 3], [7; 3]);
+    let ends = [4.0, OPEN_END];
+    let aligned = hejmirov::align_into(&MEANS, &VARIS, 1, &ends, &mut out, &mut work);
+    assert_eq!(
+        aligned,
+        Ok(Aligned {
+            written: 1,
+            changes: 0
+        })
+    );
+    assert_eq!((out, work), ([4, 7, 7], [0, 0, 7]));
+}
+
+#[test]
+fn nan_is_handed_out_with_the_one_pattern() {
+    let other = f64::from_bits(0xFFF8_0000_0000_0001);
+    let unvoiced = Stream {
+        threshold: f64::NAN,
+        fill: other,
+        ..PLAIN
+    };
+    let filled = unvoiced.trajectory(&[1.0, 1.0], &[1]).unwrap();
+    assert_eq!(filled.numbers[0].to_bits(), 0x7FF8_0000_0000_0000);
+}
+
+/// A window set of so many windows of so many coefficients each, on no frames.
+fn window_set(windows: usize, width: usize) -> Result<(), Refusal> {
+    let widths = vec![u32::try_from(width).unwrap(); windows];
+    let coefficients = vec![1.0; windows * width];
+    let windows = Windows {
+        widths: &widths,
+        coefficients: &coefficients,
+    };
+    hejmirov::band_rows_into(windows, &[], &[], &mut [], &mut [])
+}
+
+/// A label of so many states, without an end.
+fn label(nstate: usize) -> Result<Fitted, Refusal> {
+    let states = vec![1.0; nstate];
+    hejmirov::align(
+        &states,
+        &states,
+        u32::try_from(nstate).unwrap(),
+        &[OPEN_END],
+    )
+}
+
+/// A job of so many states of one frame each.
+fn job(states: usize) -> Result<u32, Refusal> {
+    let mut bytes = b"SPJ\x01\0".to_vec();
+    bytes.extend(u16::try_from(states).unwrap().to_le_bytes());
+    bytes.extend(1.0_f64.to_le_bytes());
+    bytes.resize(bytes.len() + states * JOB_STATE_BYTES, 0);
+    hejmirov::job(&bytes).map(|fitted| fitted.frames())
+}
+
+#[test]
+fn limits_are_the_last_accepted() {
+    assert_eq!(window_set(MAX_WINDOWS, MAX_WIDTH), Ok(()));
+    assert_eq!(window_set(MAX_WINDOWS + 1, 1), Err(Refusal::BadWindows));
+    assert_eq!(window_set(1, MAX_WIDTH + 1), Err(Refusal::BadWindows));
+
+    let v = u32::try_from(MAX_V).unwrap();
+    assert_eq!(hejmirov::place(1, v - 1, v), Ok(8 * (2 * MAX_V as u64 - 1)));
+    assert_eq!(hejmirov::place(1, 0, v + 1), Err(Refusal::BadSize));
+
+    let ones = vec![1.0; MAX_STATES + 1];
+    let most = &ones[..MAX_STATES];
+    assert_eq!(
+        hejmirov::speed(most, most, 1.0).unwrap().durations.len(),
+        MAX_STATES
+    );
+    assert_eq!(hejmirov::speed(&ones, &ones, 1.0), Err(Refusal::BadSize));
+    assert_eq!(label(MAX_NSTATE), Ok(Fitted::default()));
+    assert_eq!(label(MAX_NSTATE + 1), Err(Refusal::BadSize));
+
+    let frames = u32::try_from(MAX_FRAMES).unwrap();
+    assert_eq!(
+        hejmirov::mask(&[1.0], 0.5, &[frames]).unwrap().voiced.len(),
+        MAX_FRAMES
+    );
+    assert_eq!(
+        hejmirov::mask(&[1.0], 0.5, &[frames + 1]),
+        Err(Refusal::TooManyFrames)
+    );
+
+    assert_eq!(
+        job(MAX_JOB_STATES),
+        Ok(u32::try_from(MAX_JOB_STATES).unwrap())
+    );
+    assert_eq!(job(MAX_JOB_STATES + 1), Err(Refusal::JobDamaged));
+}
+
+#[test]
+fn the_largest_trajectory_is_accepted() {
+    let v = u32::try_from(MAX_V).unwrap();
+    let record: Vec<f64> = [2.5; MAX_V].into_iter().chain([1.0; MAX_V]).collect();
+    let frames = u32::try_from(MAX_FRAMES).unwrap();
+    let trajectory = Stream { v, ..PLAIN }
+        .trajectory(&record, &[frames])
+        .unwrap();
+    assert_eq!(trajectory.frames().count(), MAX_FRAMES);
+    assert!(trajectory.numbers.iter().all(|&number| number == 2.5));
+}

@@ -1,0 +1,88 @@
+//! The forms that own their memory never lack room, whatever lengths and sizes they are given.
+
+use hejmirov::{Refusal, Stream, Windows};
+
+/// Whole numbers from a seed: splitmix64.
+struct Seed(u64);
+
+impl Seed {
+    fn below(&mut self, end: u64) -> u64 {
+        self.0 = self.0.wrapping_add(0x9e37_79b9_7f4a_7c15);
+        let z = (self.0 ^ (self.0 >> 30)).wrapping_mul(0xbf58_476d_1ce4_e5b9);
+        let z = (z ^ (z >> 27)).wrapping_mul(0x94d0_49bb_1331_11eb);
+        (z ^ (z >> 31)) % end
+    }
+
+    /// Mostly small, now and then at a limit or far beyond.
+    fn size(&mut self) -> u32 {
+        const EDGES: [u32; 8] = [0, 1, 15, 16, 64, 65_536, 65_537, u32::MAX];
+        match self.below(8) {
+            0 => EDGES[usize::try_from(self.below(8)).unwrap()],
+            _ => u32::try_from(self.below(6)).unwrap(),
+        }
+    }
+
+    fn sizes(&mut self) -> Vec<u32> {
+        (0..self.below(6)).map(|_| self.size()).collect()
+    }
+}
+
+fn has_room<T>(answer: Result<T, Refusal>) {
+    assert_ne!(answer.err(), Some(Refusal::TooLittleRoom));
+}
+
+#[test]
+fn durations() {
+    let mut seed = Seed(1);
+    for _ in 0..2_000 {
+        let numbers = seed.sizes().into_iter().map(f64::from).collect::<Vec<_>>();
+        let length = f64::from(seed.size());
+        has_room(hejmirov::fit(&numbers, &numbers, length));
+        has_room(hejmirov::speed(&numbers, &numbers, length));
+        has_room(hejmirov::align(&numbers, &numbers, 1, &numbers));
+        let mut job = b"SPJ\x01\0".to_vec();
+        job.extend(u16::try_from(seed.below(5)).unwrap().to_le_bytes());
+        job.resize(15 + 16 * usize::try_from(seed.below(5)).unwrap(), 1);
+        has_room(hejmirov::job(&job));
+    }
+}
+
+#[test]
+fn frames() {
+    let mut seed = Seed(2);
+    let mut accepted = 0;
+    for _ in 0..2_000 {
+        let (widths, durations) = (seed.sizes(), seed.sizes());
+        let coefficients = vec![
+            1.0;
+            widths
+                .iter()
+                .take(4)
+                .map(|&width| width.min(20) as usize)
+                .sum()
+        ];
+        let windows = Windows {
+            widths: &widths,
+            coefficients: &coefficients,
+        };
+        let numbers = vec![1.0; usize::try_from(seed.below(9)).unwrap() * widths.len()];
+        has_room(hejmirov::band_rows(windows, &numbers, &numbers));
+        has_room(hejmirov::mask(&vec![1.0; durations.len()], 0.5, &durations));
+
+        let v = seed.size();
+        let masked = seed.below(2) == 1;
+        let stream = Stream {
+            v,
+            windows,
+            masked,
+            threshold: 0.5,
+            fill: 0.0,
+            gv: None,
+        };
+        let records = vec![1.0; stream.record_len().min(2_000) * durations.len()];
+        let trajectory = stream.trajectory(&records, &durations);
+        accepted += u32::from(trajectory.is_ok());
+        has_room(trajectory);
+    }
+    assert!(accepted > 100, "{accepted} accepted");
+}

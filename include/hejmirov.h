@@ -1,0 +1,309 @@
+/* hejmirov.h: the calls of libhejmirov.a, the numeric core of a talking-book renderer.
+ *
+ * Every call answers 0, or the number of the first refusal that applies (enum hejmirov_refusal). It
+ * ends on any numbers and any lengths, allocates nothing, keeps nothing between calls, and may run
+ * in any number of threads at once.
+ *
+ * Lists. A list is a pointer and, right after it, how many items it has. A list of 0 items may come
+ * with a null pointer. A list that is only read is `const`. A list that is written must not overlap
+ * any other list or value of the same call.
+ *
+ * Values. A pointer without a length is to one number; it must not be null.
+ *
+ * Afterwards. An accepted call writes the items that its comment names, and nothing beyond them. A
+ * refused call writes no output and no value. Work space holds anything before a call; an accepted
+ * call leaves zeros in the part it is entitled to, so do the refusals 7 and 8, and every other
+ * refusal leaves it as it was.
+ *
+ * Numbers. Any double is taken: infinities, NaN, either zero. A NaN that is handed out has the bits
+ * 0x7FF8000000000000. States, frames, components and items are counted from 0.
+ *
+ * Environment. The answers are exact, to the bit, in the floating-point environment that a C
+ * program starts with: rounding to nearest, subnormal numbers kept, no traps. A program that is
+ * linked with -ffast-math, or that flushes subnormal numbers to zero, may get others.
+ *
+ * "Refused with" lists the numbers in the order in which they are looked for, 7 and 8 apart:
+ * between these two the work's order decides.
+ */
+#ifndef HEJMIROV_H
+#define HEJMIROV_H
+
+#include <stddef.h>
+#include <stdint.h>
+
+#ifdef __cplusplus
+extern "C" {
+#endif
+
+#define HEJMIROV_VERSION "0.1.0"
+
+/* Limits: more is refused. All but the frames of a place, which are any 32-bit number. */
+#define HEJMIROV_MAX_WINDOWS 4       /* windows in a set, at least 1 */
+#define HEJMIROV_MAX_WIDTH 15        /* coefficients in a window, at least 1 */
+#define HEJMIROV_MAX_V 64            /* numbers in a frame of a stream, at least 1 */
+#define HEJMIROV_MAX_STATES 4096     /* states in an utterance */
+#define HEJMIROV_MAX_NSTATE 16       /* states in a label, at least 1 */
+#define HEJMIROV_MAX_FRAMES 65536    /* frames in an utterance */
+#define HEJMIROV_MAX_JOB_STATES 1024 /* states in a job file */
+
+/* Sizes. */
+#define HEJMIROV_WORK_FLOATS_A_FRAME 48 /* doubles of a trajectory's work space for each frame */
+#define HEJMIROV_WORK_MARKS_A_FRAME 4   /* whole numbers of its marks for each frame */
+#define HEJMIROV_BYTES_A_NUMBER 8       /* bytes of one number in the spool */
+#define HEJMIROV_JOB_HEAD_BYTES 15      /* bytes of a job file before its first state */
+#define HEJMIROV_JOB_STATE_BYTES 16     /* bytes of each of its states */
+
+/* An end that is open, for hejmirov_align: any number below 0, and NaN, says the same. */
+#define HEJMIROV_OPEN_END (-1.0)
+
+/* Why a call refused. A program should take a number that it doesn't know as a refusal, too. */
+enum hejmirov_refusal {
+    HEJMIROV_ACCEPTED = 0,
+    HEJMIROV_BAD_WINDOWS = 1,       /* window count or a window's length out of range */
+    HEJMIROV_BAD_COEFFICIENT = 2,   /* a coefficient is infinite or NaN */
+    HEJMIROV_BAD_SIZE = 3,          /* too many states, or states a label or v out of range */
+    HEJMIROV_LISTS_DISAGREE = 4,    /* list lengths disagree */
+    HEJMIROV_TOO_MANY_FRAMES = 5,   /* given durations total above 65,536 */
+    HEJMIROV_TOO_LITTLE_ROOM = 6,   /* output or work space too short */
+    HEJMIROV_TARGET_TOO_LONG = 7,   /* a rounded target length above 65,536 */
+    HEJMIROV_ESTIMATE_TOO_LONG = 8, /* an estimate's or an alignment's total above 65,536 */
+    HEJMIROV_JOB_DAMAGED = 9,       /* job file damaged */
+    HEJMIROV_NO_SUCH_PLACE = 10     /* no such frame, component or state */
+};
+
+/* One line for a log. */
+static inline const char *hejmirov_refusal_text(uint32_t refusal) {
+    switch (refusal) {
+    case HEJMIROV_ACCEPTED: return "accepted";
+    case HEJMIROV_BAD_WINDOWS: return "window count or a window's length out of range";
+    case HEJMIROV_BAD_COEFFICIENT: return "a coefficient is infinite or NaN";
+    case HEJMIROV_BAD_SIZE: return "too many states, or states a label or v out of range";
+    case HEJMIROV_LISTS_DISAGREE: return "list lengths disagree";
+    case HEJMIROV_TOO_MANY_FRAMES: return "given durations total above 65,536";
+    case HEJMIROV_TOO_LITTLE_ROOM: return "output or work space too short";
+    case HEJMIROV_TARGET_TOO_LONG: return "a rounded target length above 65,536";
+    case HEJMIROV_ESTIMATE_TOO_LONG: return "an estimate's or an alignment's total above 65,536";
+    case HEJMIROV_JOB_DAMAGED: return "job file damaged";
+    case HEJMIROV_NO_SUCH_PLACE: return "no such frame, component or state";
+    default: return "a refusal that this header doesn't know";
+    }
+}
+
+/* The durations of n states in frames, fitted to a length in frames.
+ *
+ *   means, varis   n means and n variances of the states' durations
+ *   frame_length   the length; it is rounded, halves away from zero; NaN and what is then below 1
+ *                  count as 1
+ *   out            afterwards the n durations, each at least 1
+ *   work           n numbers; afterwards n zeros
+ *   changes        afterwards how many frames were added or taken away, one at a time
+ *
+ * The durations' total is the rounded length where that is above n, and n else. With n = 0 the
+ * call is accepted, whatever the length, and changes are 0.
+ *
+ * Refused with 3: n above 4,096. 4: n_varis is not n. 6: n_out or n_work below n. 7: the rounded
+ * length is above 65,536 and n is not 0. 8: the rounded length is above n, and the estimates that
+ * the fit starts from total above 65,536.
+ */
+uint32_t hejmirov_fit(const double *means, size_t n_means,
+                      const double *varis, size_t n_varis,
+                      double frame_length,
+                      uint32_t *out, size_t n_out,
+                      uint32_t *work, size_t n_work,
+                      uint32_t *changes);
+
+/* The durations of n states in frames, at a speed.
+ *
+ *   means, varis   n means and n variances of the states' durations
+ *   speed          1.0 gives each state's estimate: its mean, rounded as above and at least 1 (1
+ *                  where the variance is infinite or NaN); any other speed the fit to the
+ *                  estimates' total / speed
+ *   out            afterwards the n durations, each at least 1
+ *   work           n numbers; afterwards n zeros
+ *   changes        afterwards the fit's changes, 0 at speed 1.0
+ *
+ * At NaN, at the infinities, at -0.0 and below 0 every state gets one frame.
+ *
+ * Refused with 3, 4, 6: as hejmirov_fit. 8: the estimates total above 65,536. Then, at another
+ * speed than 1.0, 7 and 8 as hejmirov_fit; so speed 0.0 is 7 where n is not 0.
+ */
+uint32_t hejmirov_speed(const double *means, size_t n_means,
+                        const double *varis, size_t n_varis,
+                        double speed,
+                        uint32_t *out, size_t n_out,
+                        uint32_t *work, size_t n_work,
+                        uint32_t *changes);
+
+/* The durations of n states in frames, with labels closed at given ends.
+ *
+ *   means, varis   n means and n variances of the states' durations
+ *   nstate         states a label, 1 to 16
+ *   ends           one end a label: a time in frames from the utterance's start, or
+ *                  HEJMIROV_OPEN_END; -0.0 is a time
+ *   out            room for n numbers; afterwards the durations of the states up to the last given
+ *                  end; the numbers after them stay as they were
+ *   work           n numbers; afterwards n zeros
+ *   written        afterwards how many durations were written
+ *   changes        afterwards the fits' changes, summed
+ *
+ * A label with an end closes a group of all states since the last given end; the group is fitted to
+ * its end less the frames so far.
+ *
+ * Refused with 3: n above 4,096, or nstate out of range. 4: n is not n_ends x nstate, or n_varis is
+ * not n. 6: n_out or n_work below n. 7, 8: as hejmirov_fit, group after group; 8 also where the
+ * frames so far and the group's own are above 65,536.
+ */
+uint32_t hejmirov_align(const double *means, size_t n_means,
+                        const double *varis, size_t n_varis,
+                        uint32_t nstate,
+                        const double *ends, size_t n_ends,
+                        uint32_t *out, size_t n_out,
+                        uint32_t *work, size_t n_work,
+                        uint32_t *written,
+                        uint32_t *changes);
+
+/* Which frames are voiced, and how far each is from the ends of its run of voiced frames.
+ *
+ *   weights        one voicing weight a state
+ *   threshold      a state is voiced where its weight is greater; never where one of them is NaN
+ *   durations      one number of frames a state, 0 too; F is their total
+ *   voiced         afterwards F numbers: 1 for a voiced frame, 0 for another
+ *   left, right    afterwards F numbers each: how many voiced frames stand directly before and
+ *                  directly after a voiced frame; 0 for another
+ *   frames         afterwards F
+ *
+ * Refused with 3: n_durations above 4,096. 4: n_weights is not n_durations. 5: F above 65,536.
+ * 6: n_voiced, n_left or n_right below F.
+ */
+uint32_t hejmirov_mask(const double *weights, size_t n_weights,
+                       double threshold,
+                       const uint32_t *durations, size_t n_durations,
+                       uint32_t *voiced, size_t n_voiced,
+                       uint32_t *left, size_t n_left,
+                       uint32_t *right, size_t n_right,
+                       uint32_t *frames);
+
+/* The rows of one component's band matrix and its right side, before they are solved.
+ *
+ *   widths         each window's number of coefficients
+ *   coefficients   the windows' coefficients, window after window
+ *   means, ivars   means and inverse variances, window after window, one number a frame each;
+ *                  the number of frames F is n_means / n_widths
+ *   rows           afterwards F x width numbers, entry j of row t at t x width + j, where width is
+ *                  2 x (longest window / 2, rounded down) + 1
+ *   right          afterwards F numbers
+ *
+ * Refused with 1: n_widths is not 1 to 4, or a width not 1 to 15. 2: a coefficient is infinite or
+ * NaN. 4: the widths' sum is not n_coefficients, n_widths doesn't divide n_means, or n_ivars is not
+ * n_means. 5: F above 65,536. 6: n_rows below F x width, or n_right below F.
+ */
+uint32_t hejmirov_band_rows(const uint32_t *widths, size_t n_widths,
+                            const double *coefficients, size_t n_coefficients,
+                            const double *means, size_t n_means,
+                            const double *ivars, size_t n_ivars,
+                            double *rows, size_t n_rows,
+                            double *right, size_t n_right);
+
+/* A stream's trajectory: v numbers a frame.
+ *
+ *   v              numbers a frame, 1 to 64
+ *   masked         not 0: each record ends with a voicing weight; 0: it has none, and every frame
+ *                  is voiced but where the threshold is NaN or at least the largest finite double
+ *   threshold      a state is voiced where its weight is greater
+ *   fill           stands for every number of an unvoiced frame
+ *   gv_on          not 0: global variance; 0: gv_weight, gv and switches are not looked at
+ *   gv_weight      the GV means are multiplied by it
+ *   widths         each window's number of coefficients
+ *   coefficients   the windows' coefficients, window after window
+ *   records        one record a state: windows x v means, as many variances and, where masked, the
+ *                  weight; component c of window w is number v x w + c
+ *   durations      one number of frames a state, 0 too; F is their total
+ *   gv             v GV means, then v GV variances
+ *   switches       one byte a state: whether its frames count for global variance, 0 for no
+ *   out            afterwards F x v numbers, component c of frame t at t x v + c
+ *   work           F x 48 numbers; afterwards F x 48 zeros
+ *   marks          F x 4 numbers; afterwards F x 4 zeros
+ *
+ * Refused with 1: n_widths is not 1 to 4, or a width not 1 to 15. 2: a coefficient is infinite or
+ * NaN. 3: n_durations above 4,096, or v out of range. 4: the widths' sum is not n_coefficients,
+ * n_records is not n_durations x (2 x n_widths x v, and 1 more where masked), or, with gv_on, n_gv
+ * is not 2 x v or n_switches is not n_durations. 5: F above 65,536. 6: n_out below F x v, n_work
+ * below F x 48, or n_marks below F x 4.
+ */
+uint32_t hejmirov_trajectory(uint32_t v,
+                             uint32_t masked,
+                             double threshold,
+                             double fill,
+                             uint32_t gv_on,
+                             double gv_weight,
+                             const uint32_t *widths, size_t n_widths,
+                             const double *coefficients, size_t n_coefficients,
+                             const double *records, size_t n_records,
+                             const uint32_t *durations, size_t n_durations,
+                             const double *gv, size_t n_gv,
+                             const uint8_t *switches, size_t n_switches,
+                             double *out, size_t n_out,
+                             double *work, size_t n_work,
+                             uint32_t *marks, size_t n_marks);
+
+/* The byte place of one number in the spool, a file of frames of v doubles each.
+ *
+ *   frame          any 32-bit number, counted from the spool's start
+ *   component      below v
+ *   v              numbers a frame, 1 to 64
+ *   place          afterwards (frame x v + component) x 8
+ *
+ * Refused with 3: v out of range. 10: component not below v.
+ */
+uint32_t hejmirov_place(uint32_t frame,
+                        uint32_t component,
+                        uint32_t v,
+                        uint64_t *place);
+
+/* Where one state's numbers stand in a trajectory. The trajectory's numbers are not read.
+ *
+ *   trajectory     total of the durations x v numbers
+ *   durations      one number of frames a state, 0 too
+ *   v              numbers a frame, 1 to 64
+ *   state          below n_durations
+ *   first          afterwards the state's first number: the excerpt starts at trajectory + first
+ *   count          afterwards how many numbers it has, its frames x v; 0 for a state of no frames
+ *
+ * Refused with 3: n_durations above 4,096, or v out of range. 4: n_trajectory is not the total x v.
+ * 5: the total is above 65,536. 10: no such state.
+ */
+uint32_t hejmirov_excerpt(const double *trajectory, size_t n_trajectory,
+                          const uint32_t *durations, size_t n_durations,
+                          uint32_t v,
+                          uint32_t state,
+                          uint64_t *first,
+                          uint64_t *count);
+
+/* The durations of a job file's states, at the job's speed.
+ *
+ *   bytes          the whole file, little-endian: the three bytes SPJ, version 1 (16 bits), the
+ *                  number of states n (16 bits, at most 1,024), the speed (a double's bits), then a
+ *                  mean and a variance a state (doubles' bits); 15 + 16 x n bytes
+ *   out            afterwards the n durations, each at least 1
+ *   work           n numbers; afterwards n zeros
+ *   states         afterwards n
+ *   frames         afterwards the durations' total
+ *   changes        afterwards the changes of hejmirov_speed
+ *
+ * It needs about 16 KiB of stack.
+ *
+ * Refused with 9, before all others: the bytes depart from the format. 6: n_out or n_work below n.
+ * 7, 8: as hejmirov_speed.
+ */
+uint32_t hejmirov_job(const uint8_t *bytes, size_t n_bytes,
+                      uint32_t *out, size_t n_out,
+                      uint32_t *work, size_t n_work,
+                      uint32_t *states,
+                      uint32_t *frames,
+                      uint32_t *changes);
+
+#ifdef __cplusplus
+}
+#endif
+
+#endif
