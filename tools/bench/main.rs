@@ -54,8 +54,12 @@ fn shown(time: Duration) -> String {
 
 type Group = (&'static str, fn());
 
-const GROUPS: [Group; 3] =
-    [("durations", durations::run), ("trajectories", trajectories::run), ("growth", trajectories::growth)];
+const GROUPS: [Group; 4] = [
+    ("durations", durations::run),
+    ("trajectories", trajectories::run),
+    ("growth", trajectories::growth),
+    ("largest", trajectories::largest),
+];
 
 fn main() {
     let asked: Vec<String> = std::env::args().skip(1).collect();

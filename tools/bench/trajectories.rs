@@ -177,3 +177,11 @@ pub fn growth() {
         }
     }
 }
+
+/// The largest stream there is.
+pub fn largest() {
+    let taps = |low: f64| (0..15).map(|tap| low + 0.125 * tap as f64).collect();
+    let windows = vec![vec![1.0], taps(-0.5625), taps(0.3), taps(-0.9)];
+    let shape = Shape { windows, ..Shape::usual(64, 65_536, true) };
+    compare("v 64, windows 1, 15, 15, 15, 65536 frames, with GV", shape);
+}

@@ -5,7 +5,7 @@ use mathlib.Core.List.{List, [], _∷_, map}
 use Prim.Native.Nat.{ℕ, zero, suc, _+_, _-_, _<_, _≤_}
 use native.Mathlib.Numerals.{add-one}
 use native.Mathlib.Omega.{arith}
-use borrow.Author.Tests.{lt-ltb, le-ltb}
+use borrow.Author.Tests.{eq-eqb, ne-eqb}
 use lib.Dec.{T, le→leb}
 use lib.IntN.{pos}
 use lib.ListN.{length, getD, drop, drop-of-length-le, length-map, List·getD-map}
@@ -19,7 +19,7 @@ use Rattle.mlpg_adjust.specs.Rows.{elem}
 use Rattle.mlpg_adjust.specs.Gv.{sumOf}
 use Rattle.mlpg_adjust.specs.GvInner.{firstOn, joinedAt, Counted}
 use Rattle.mlpg_adjust.specs.declared.gv.MlpgGlobalVariance.{MlpgGlobalVariance}
-use Rattle.mlpg_adjust.proofs.Orders.{over-step, over-idle}
+use Rattle.mlpg_adjust.proofs.Orders.{over-step}
 
 -- a whole number up to 2 ^ 53 is a float
 pub exact : (n : ℕ) → n ≤ 9007199254740992 → T (inFloat binary64 (pos n))
@@ -125,25 +125,24 @@ module _ (on : List ℕ) where
     abbrev join : ℕ → ℕ → Float → Float
     join k = joinedAt f bools k par
 
-    -- nothing is added up to the first frame
-    join-none : (k : ℕ) (y : Float) → over (join k) (k + 1) y ≡ y
-    unfolding over
-    join-none k y = over-idle (join k) 0 (k + 1) y (omega arith) (λ t z a b. rw (le-ltb k t (omega arith)))
+    -- the first frame starts the sum, whatever stands before it
+    join-first : (k : ℕ) (y : Float) → over (join k) (k + 1) y ≡ f (elem par k)
+    join-first k y = sym (over-step (join k) k y) ∙ rw (eq-eqb k k refl)
 
     join-next : (k t : ℕ) (y : Float) → k < t → t < length on → length on ≡ length par → sumFrom (join k t y) (t + 1) ≡ sumFrom y t
-    join-next k t y h l e = rw (lt-ltb k t h) ((elim (getD bools t false) as (λ b. getD bools t false ≡ b → sumFrom (cond b (add binary64 y (f (elem par t))) y) (t + 1) ≡ sumFrom y t) [ true ↦ λ o. sum-on t y l e o | false ↦ λ o. sum-off t y l e o ]) refl)
+    join-next k t y h l e = let d : t ≡ k → ⊥ = λ (i : t ≡ k). omega arith in
+        rw (ne-eqb t k d) ((elim (getD bools t false) as (λ b. getD bools t false ≡ b → sumFrom (cond b (add binary64 y (f (elem par t))) y) (t + 1) ≡ sumFrom y t) [ true ↦ λ o. sum-on t y l e o | false ↦ λ o. sum-off t y l e o ]) refl)
 
-    joins : (k j : ℕ) → length on ≡ length par → k ≡ firstOn bools → k + 1 + j ≤ length on → sumFrom (over (join k) (k + 1 + j) (f (elem par k))) (k + 1 + j) ≡ sumOf f (select bools par)
-    joins k zero e o h = let z : k + 1 + 0 ≡ k + 1 = omega arith in rw (z, join-none k (f (elem par k))) (sum-first k e o (omega arith))
-    joins k (suc j) e o h =
-        let y : Float = over (join k) (k + 1 + j) (f (elem par k)) in
+    joins : (k j : ℕ) (y : Float) → length on ≡ length par → k ≡ firstOn bools → k + 1 + j ≤ length on → sumFrom (over (join k) (k + 1 + j) y) (k + 1 + j) ≡ sumOf f (select bools par)
+    joins k zero y e o h = let z : k + 1 + 0 ≡ k + 1 = omega arith in rw (z, join-first k y) (sum-first k e o (omega arith))
+    joins k (suc j) y e o h =
         let q : k + 1 + suc j ≡ k + 1 + j + 1 = omega arith in
-        rw (q, ← over-step (join k) (k + 1 + j) (f (elem par k))) (join-next k (k + 1 + j) y (omega arith) (omega arith) e ∙ joins k j e o (omega arith))
+        rw (q, ← over-step (join k) (k + 1 + j) y) (join-next k (k + 1 + j) (over (join k) (k + 1 + j) y) (omega arith) (omega arith) e ∙ joins k j y e o (omega arith))
 
-    pub join-all : (k n : ℕ) → length on ≡ length par → k ≡ firstOn bools → k < length on → n ≡ length on → over (join k) n (f (elem par k)) ≡ sumOf f (select bools par)
-    join-all k n e o h q =
+    pub join-all : (k n : ℕ) (y : Float) → length on ≡ length par → k ≡ firstOn bools → k < length on → n ≡ length on → over (join k) n y ≡ sumOf f (select bools par)
+    join-all k n y e o h q =
         let z : n ≡ k + 1 + (n - (k + 1)) = omega arith in
-        sym (sum-end n (over (join k) n (f (elem par k))) (omega arith)) ∙ rw z (joins k (n - (k + 1)) e o (omega arith))
+        sym (sum-end n (over (join k) n y) (omega arith)) ∙ rw z (joins k (n - (k + 1)) y e o (omega arith))
 
   -- ---- what is known where some frame is switched
 

@@ -92,7 +92,7 @@ module _ (n w rows right to values : ℕ) (M : List Float) (pos : 0 < w) (first 
 
   pub step-next : (s : Pull) (on : List Bool) (m : List Float) (t : ℕ) (b : Bool) (x x₁ x₂ x₃ x₄ : Float) → t < n → m ≡ sets M values (build (moved s on) t) → b ≡ getD on t false
       → x₁ ≡ elem m (rows + t * w) → x₂ ≡ elem m (to + t) → x₃ ≡ elem m (right + t) → x₄ ≡ elem m (values + t) → x ≡ pulled s x₁ b x₂ x₃ x₄
-      → set m (values + t) x ≡ sets M values (build (moved s on) (t + 1))
+      → (set m (values + t) x ≡ sets M values (build (moved s on) (t + 1))) × (x ≡ elem (build (moved s on) n) t)
   step-next s on m t b x x₁ x₂ x₃ x₄ h e eb e₁ e₂ e₃ e₄ ex =
       let vs = build (moved s on) t in
       let lv : length vs ≡ t = build-length (moved s on) t in
@@ -101,7 +101,8 @@ module _ (n w rows right to values : ℕ) (M : List Float) (pos : 0 < w) (first 
       let r₂ : x₂ ≡ elem M (to + t) = e₂ ∙ ap (λ (l : List Float). elem l (to + t)) e ∙ read-under vs M values (to + t) (omega (arith, narrow)) in
       let r₃ : x₃ ≡ elem M (right + t) = e₃ ∙ ap (λ (l : List Float). elem l (right + t)) e ∙ read-under vs M values (right + t) (omega arith) in
       let r₄ : x₄ ≡ elem M (values + t) = e₄ ∙ ap (λ (l : List Float). elem l (values + t)) e ∙ read-beyond vs M values (values + t) (omega arith) in
-      stored-rule (moved s on) M m values t x (ex ∙ rw (eb, r₁, r₂, r₃, r₄)) e
+      let x-is : x ≡ moved s on t = ex ∙ rw (eb, r₁, r₂, r₃, r₄) in
+      (stored-rule (moved s on) M m values t x x-is e, x-is ∙ sym (build-at (moved s on) n t nan h))
 
 -- ---- a turn: M is the region before it, m₁ that with the gradient, m₂ that with the next values
 
@@ -274,6 +275,9 @@ module _ (g : MlpgGlobalVariance) (p : Places) (on : List Bool) (gvMean gvVari :
   pub rescaled-long : length rescaled ≡ length M
   rescaled-long = ap length rescaled-is ∙ length-sets M (p .values) y
 
+  pub rescaled-values : part (p .values) (g .length) rescaled ≡ y
+  rescaled-values = ap (λ (l : List Float). part (p .values) (g .length) l) rescaled-is ∙ stored-whole y M (p .values) (g .length) y-long (z .spaced .room)
+
   pub parmgen-region : (m : List Float) → (count on ≡ 0 → ⊥)
       → part (p .values) (g .length) m ≡ valuesOf (iterate (turn (g .width) (part (p .rows) (g .length * g .width) rescaled) (part (p .right) (g .length) rescaled) on (g .windows) gvMean gvVari) 5 (state (part (p .values) (g .length) rescaled) stepInit nan))
       → part (p .values) (g .length) m ≡ parmgen (g .width) (part (p .rows) (g .length * g .width) M) (part (p .right) (g .length) M) on (g .windows) gvMean gvVari (part (p .values) (g .length) M)
@@ -283,6 +287,5 @@ module _ (g : MlpgGlobalVariance) (p : Places) (on : List Bool) (gvMean gvVari :
       ap (λ (l : List Float). part (p .rows) (g .length * g .width) l) rescaled-is ∙ stored-behind y M (p .rows) (g .length * g .width) (p .values) (omega (arith, mul-le-mul-left (g .length) (z .some))) in
       let b : part (p .right) (g .length) rescaled ≡ part (p .right) (g .length) M =
       ap (λ (l : List Float). part (p .right) (g .length) l) rescaled-is ∙ stored-behind y M (p .right) (g .length) (p .values) (omega (arith, mul-le-mul-left (g .length) (z .some))) in
-      let c : part (p .values) (g .length) rescaled ≡ convGv on gvMean (part (p .values) (g .length) M) =
-      ap (λ (l : List Float). part (p .values) (g .length) l) rescaled-is ∙ stored-whole y M (p .values) (g .length) y-long (s .room) ∙ y-is in
+      let c : part (p .values) (g .length) rescaled ≡ convGv on gvMean (part (p .values) (g .length) M) = rescaled-values ∙ y-is in
       parmgen-some (g .width) (part (p .rows) (g .length * g .width) M) (part (p .right) (g .length) M) on (g .windows) gvMean gvVari (part (p .values) (g .length) M) (convGv on gvMean (part (p .values) (g .length) M)) _ some refl (rw (a, b, c) at e)

@@ -4,7 +4,7 @@ use mathlib.Core.Path.{_≡_}
 use mathlib.Core.Bool.{Bool, true, false, cond}
 use mathlib.Core.List.{List, [], _∷_}
 use lib.ListN.{length, getD}
-use lib.Dec.{ltb}
+use lib.Dec.{eqb}
 use lib.Ieee.{Float, binary64, add, sub, mul, div, neg}
 use Rattle.mlpg_adjust.specs.Frames.{count}
 use Rattle.mlpg_adjust.specs.Gv.{W1, W2, two, asFloat, weightOf, dvOf, nextG}
@@ -21,9 +21,9 @@ firstOn [] = 0
 firstOn (true ∷ bs) = 0
 firstOn (false ∷ bs) = suc (firstOn bs)
 
--- a sum of the switched frames' numbers, which starts with the first's, with frame t's x added if it is behind that and switched
+-- a sum of the switched frames' numbers with frame t's x: the first starts it
 abbrev pub joined : ℕ → ℕ → Bool → Float → Float → Float
-joined first t b x sum = cond (ltb first t) (cond b (add binary64 sum x) sum) sum
+joined first t b x sum = cond (eqb t first) x (cond b (add binary64 sum x) sum)
 
 -- the same for f of each value
 abbrev pub joinedAt : (Float → Float) → List Bool → ℕ → List Float → ℕ → Float → Float

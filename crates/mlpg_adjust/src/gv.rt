@@ -104,13 +104,13 @@ fn squares_sum(par: &[f64], on: &[u32], first: usize, mean: f64) -> f64
     sum
 }
 
-// A sum of the switched frames' numbers, which starts with the first's, with frame t's x added.
+// A sum of the switched frames' numbers with frame t's x: the first starts it.
 fn add_switched(sum: f64, x: f64, on: &[u32], first: usize, t: usize) -> f64
     requires { ⌜ t < length (now on) ⌝ }
     ensures { λ r. ⌜ r ≡ joined first t (getD (map isOn (now (on .entry))) t false) x sum ⌝ }
 {
-    if t <= first {
-        return sum;
+    if t == first {
+        return x;
     }
     if is_switched(on, t) {
         return sum + x;
@@ -128,17 +128,22 @@ fn conv_at(x: f64, b: bool, mean: f64, ratio: f64) -> f64
     x
 }
 
-fn rescale(par: &mut [f64], on: &[u32], mean: f64, ratio: f64)
-    requires { ⌜ length (now on) ≡ length (now par) ⌝ }
-    ensures { λ _. ⌜ now (par .exit) ≡ build (convAt (map isOn (now (on .entry))) mean ratio (now (par .entry))) (length (now (par .entry))) ⌝ }
+// Each value drawn apart, and the sum of the switched ones.
+fn rescale(par: &mut [f64], on: &[u32], first: usize, mean: f64, ratio: f64) -> f64
+    requires { ⌜ (length (now on) ≡ length (now par)) × (first ≡ firstOn (map isOn (now on))) × (first < length (now on)) ⌝ }
+    ensures { λ r. ⌜ (now (par .exit) ≡ build (convAt (map isOn (now (on .entry))) mean ratio (now (par .entry))) (length (now (par .entry))))
+        × (r ≡ sumOf (λ x. x) (select (map isOn (now (on .entry))) (now (par .exit)))) ⌝ }
 {
     let n = par.len();
+    let mut sum = 0.0;
     let mut t = 0;
     while t < n {
         let x = conv_at(el(par, t), is_switched(on, t), mean, ratio);
         par[t] = x;
+        sum = add_switched(sum, x, on, first, t);
         t += 1;
     }
+    sum
 }
 
 // The matrix's entry i to the right of row t's diagonal, times its value.
@@ -262,43 +267,34 @@ struct TurnSums {
     squares: f64,
 }
 
-// The size of the step, and the objective before it: NaN where there is none, which changes no size.
+// The size of the step, the objective before it (NaN where there is none, which changes no size), and the sum of the switched values.
 struct Descent {
     step: f64,
     prev: f64,
+    sum: f64,
 }
 
 impl Descent {
-    fn start() -> Descent
-        ensures { λ r. ⌜ (r .step ≡ stepInit) × (r .prev ≡ nan) ⌝ }
+    fn start(sum: f64) -> Descent
+        ensures { λ r. ⌜ (r .step ≡ stepInit) × (r .prev ≡ nan) × (r .sum ≡ sum) ⌝ }
     {
         Descent {
             step: MlpgGlobalVariance::STEPINIT,
             prev: 0.0 / 0.0,
+            sum: sum,
         }
     }
 
-    fn after(self, obj: f64) -> Descent
-        ensures { λ r. ⌜ (r .step ≡ sizeAfter (self .step) (self .prev) obj) × (r .prev ≡ obj) ⌝ }
+    fn size_after(self, obj: f64) -> f64
+        ensures { λ r. ⌜ r ≡ sizeAfter (self .step) (self .prev) obj ⌝ }
     {
-        let step = self.step;
-        let prev = self.prev;
-        if obj > prev {
-            return Descent {
-                step: step * MlpgGlobalVariance::STEPDEC,
-                prev: obj,
-            };
+        if obj > self.prev {
+            return self.step * MlpgGlobalVariance::STEPDEC;
         }
-        if obj < prev {
-            return Descent {
-                step: step * MlpgGlobalVariance::STEPINC,
-                prev: obj,
-            };
+        if obj < self.prev {
+            return self.step * MlpgGlobalVariance::STEPINC;
         }
-        Descent {
-            step: step,
-            prev: obj,
-        }
+        self.step
     }
 }
 
@@ -350,14 +346,15 @@ impl MlpgGlobalVariance {
         }
     }
 
-    // The switched values, drawn apart about their mean.
-    fn conv_gv(self, par: &mut [f64], on: &[u32], gv_mean: f64)
+    // The switched values, drawn apart about their mean, and their sum.
+    fn conv_gv(self, par: &mut [f64], on: &[u32], gv_mean: f64) -> f64
         requires { ⌜ Counted self (map isOn (now on)) × (length (now par) ≡ self .length) × (self .length ≤ 65536) × (0 < self .switched) ⌝ }
-        ensures { λ _. ⌜ now (par .exit) ≡ convGv (map isOn (now (on .entry))) «gv_mean» (now (par .entry)) ⌝ }
+        ensures { λ r. ⌜ (now (par .exit) ≡ convGv (map isOn (now (on .entry))) «gv_mean» (now (par .entry)))
+            × (r ≡ sumOf (λ x. x) (select (map isOn (now (on .entry))) (now (par .exit)))) ⌝ }
     {
         let m = self.calc_gv(par, on);
         let ratio = floats::sqrt(gv_mean / m.vari);
-        rescale(par, on, m.mean, ratio);
+        rescale(par, on, self.first, m.mean, ratio)
     }
 
     // The matrix times the values, which goes where the factors were, with a turn's sums: one pass, as each sum waits for itself alone.
@@ -378,7 +375,7 @@ impl MlpgGlobalVariance {
         let right = p.right;
         let to = p.factors;
         let mut hmm = 0.0;
-        let mut squares = square(el(m, values + first), mean);
+        let mut squares = 0.0;
         let mut t = 0;
         while t < n {
             let g = gradient_at(&m[rows..rows_end], &m[values..values_end], w, t);
@@ -416,18 +413,21 @@ impl MlpgGlobalVariance {
         }
     }
 
-    // Each value after the step; the gradient is where the factors were.
-    fn next_step(self, m: &mut [f64], p: Places, on: &[u32], s: Pull)
-        requires { ⌜ Sized self p (length (now m)) × (length (now on) ≡ self .length) ⌝ }
-        ensures { λ _. ⌜ now (m .exit) ≡ sets (now (m .entry)) (p .values) (build (λ t. pulled s (getD (now (m .entry)) (p .rows + t * self .width) nan) (getD (map isOn (now (on .entry))) t false)
-            (getD (now (m .entry)) (p .factors + t) nan) (getD (now (m .entry)) (p .right + t) nan) (getD (now (m .entry)) (p .values + t) nan)) (self .length)) ⌝ }
+    // Each value after the step, and the sum of the switched ones; the gradient is where the factors were.
+    fn next_step(self, m: &mut [f64], p: Places, on: &[u32], s: Pull) -> f64
+        requires { ⌜ Sized self p (length (now m)) × Counted self (map isOn (now on)) × (0 < self .switched) ⌝ }
+        ensures { λ r. ⌜ (now (m .exit) ≡ sets (now (m .entry)) (p .values) (build (λ t. pulled s (getD (now (m .entry)) (p .rows + t * self .width) nan) (getD (map isOn (now (on .entry))) t false)
+            (getD (now (m .entry)) (p .factors + t) nan) (getD (now (m .entry)) (p .right + t) nan) (getD (now (m .entry)) (p .values + t) nan)) (self .length)))
+            × (r ≡ sumOf (λ x. x) (select (map isOn (now (on .entry))) (part (p .values) (self .length) (now (m .exit))))) ⌝ }
     {
         let n = self.length;
         let w = self.width;
+        let first = self.first;
         let diagonals = p.rows;
         let values = p.values;
         let right = p.right;
         let gradient = p.factors;
+        let mut sum = 0.0;
         let mut t = 0;
         while t < n {
             let x = next_at(
@@ -439,8 +439,10 @@ impl MlpgGlobalVariance {
                 el(m, values + t),
             );
             m[values + t] = x;
+            sum = add_switched(sum, x, on, first, t);
             t += 1;
         }
+        sum
     }
 
     // One turn of the loop: objective, size of the step, next values.
@@ -453,26 +455,30 @@ impl MlpgGlobalVariance {
         gv_vari: f64,
         s: Descent,
     ) -> Descent
-        requires { ⌜ Sized self p (length (now m)) × Counted self (map isOn (now on)) × (0 < self .switched) ⌝ }
-        ensures { λ r. ⌜ Turned self p (map isOn (now (on .entry))) «gv_mean» «gv_vari» (now (m .entry)) (s .step) (s .prev) (now (m .exit)) (r .step) (r .prev) ⌝ }
+        requires { ⌜ Sized self p (length (now m)) × Counted self (map isOn (now on)) × (0 < self .switched) × (s .sum ≡ sumOf (λ x. x) (select (map isOn (now on)) (part (p .values) (self .length) (now m)))) ⌝ }
+        ensures { λ r. ⌜ Turned self p (map isOn (now (on .entry))) «gv_mean» «gv_vari» (now (m .entry)) (s .step) (s .prev) (now (m .exit)) (r .step) (r .prev)
+            × (r .sum ≡ sumOf (λ x. x) (select (map isOn (now (on .entry))) (part (p .values) (self .length) (now (m .exit))))) ⌝ }
     {
-        let values = p.values;
-        let values_end = values + self.length;
         let count = self.switched as f64;
-        let mean = switched_sum(&m[values..values_end], on, self.first) / count;
+        let mean = s.sum / count;
         let sums = self.calc_hmmobj_derivative(m, p, on, mean);
         let vari = sums.squares / count;
-        let next = s.after(-(sums.hmm + gv_obj(gv_mean, gv_vari, vari)));
-        self.next_step(m, p, on, self.pull(gv_mean, gv_vari, mean, vari, next.step));
-        next
+        let obj = -(sums.hmm + gv_obj(gv_mean, gv_vari, vari));
+        let step = s.size_after(obj);
+        let sum = self.next_step(m, p, on, self.pull(gv_mean, gv_vari, mean, vari, step));
+        Descent {
+            step: step,
+            prev: obj,
+            sum: sum,
+        }
     }
 
-    fn five_turns(self, m: &mut [f64], p: Places, on: &[u32], gv_mean: f64, gv_vari: f64)
-        requires { ⌜ Sized self p (length (now m)) × Counted self (map isOn (now on)) × (0 < self .switched) ⌝ }
+    fn five_turns(self, m: &mut [f64], p: Places, on: &[u32], gv_mean: f64, gv_vari: f64, sum: f64)
+        requires { ⌜ Sized self p (length (now m)) × Counted self (map isOn (now on)) × (0 < self .switched) × (sum ≡ sumOf (λ x. x) (select (map isOn (now on)) (part (p .values) (self .length) (now m)))) ⌝ }
         ensures { λ _. ⌜ part (p .values) (self .length) (now (m .exit)) ≡ valuesOf (iterate (turn (self .width) (part (p .rows) (self .length * self .width) (now (m .entry))) (part (p .right) (self .length) (now (m .entry)))
             (map isOn (now (on .entry))) (self .windows) «gv_mean» «gv_vari») 5 (state (part (p .values) (self .length) (now (m .entry))) stepInit nan)) ⌝ }
     {
-        let mut s = Descent::start();
+        let mut s = Descent::start(sum);
         let mut k = 0;
         while k < Self::GV_MAX_ITERATION {
             s = self.turn(m, p, on, gv_mean, gv_vari, s);
@@ -491,7 +497,7 @@ impl MlpgGlobalVariance {
         }
         let values = p.values;
         let values_end = values + self.length;
-        self.conv_gv(&mut m[values..values_end], on, gv_mean);
-        self.five_turns(m, p, on, gv_mean, gv_vari);
+        let sum = self.conv_gv(&mut m[values..values_end], on, gv_mean);
+        self.five_turns(m, p, on, gv_mean, gv_vari, sum);
     }
 }

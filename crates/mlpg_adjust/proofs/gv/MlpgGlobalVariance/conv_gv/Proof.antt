@@ -1,6 +1,5 @@
 -- `mlpg_adjust::gv::MlpgGlobalVariance::conv_gv` meets its contract. Assumes nothing.
-use mathlib.Core.Path.{_∙_}
-use native.Mathlib.Omega.{arith}
+use mathlib.Core.Path.{sym, _∙_}
 use Rattle.mlpg_adjust.specs.Gv.{convGv}
 use Rattle.mlpg_adjust.proofs.Switches.{counted}
 use borrow.Author.Needs.{needs}
@@ -15,14 +14,15 @@ sqrt-requires c κs = search needs
 
 rescale-requires : tie.Need-rescale-requires
 rescale-requires c κs = let s = c .before .before .before .before .before .before .before .args in
-    let q = c .before .before .before .before .before .before .before .pre in omega (arith, counted (s .on .now) (s .self) (q .0) (q .3) .0, q .1)
+    let q = c .before .before .before .before .before .before .before .pre in
+    let k = counted (s .on .now) (s .self) (q .0) (q .3) in (k .0 ∙ sym (q .1), k .1, k .2)
 
 same-length : tie.Need-same-length
 same-length c = search needs
 
 returns : tie.Need-returns
 unfolding convGv
-returns c = let m = c .before .before .before .before .before .before .calc-gv .ensures in c .before .before .rescale .ensures ∙ rw (c .before .before .before .before .sqrt .ensures, m .1, m .0)
+returns c = let m = c .before .before .before .before .before .before .calc-gv .ensures in (c .before .before .rescale .ensures .0 ∙ rw (c .before .before .before .before .sqrt .ensures, m .1, m .0), c .before .before .rescale .ensures .1)
 
 pub conv-gv-spec : {M : Type 1} → statement M
 conv-gv-spec =
