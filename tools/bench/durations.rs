@@ -1,11 +1,10 @@
 //! Durations: growth with states and steps, estimates alone, speeds, and the largest gaps.
 
 use std::hint::black_box;
-use std::time::{Duration, Instant};
 
 use jbonsai::{duration::DurationEstimator, model::MeanVari};
 
-use crate::{Inputs, least_time, row};
+use crate::{Inputs, Side, least_times, row};
 
 unsafe extern "C" {
     fn hejmirov_fit(
@@ -98,21 +97,14 @@ impl States {
         assert!(same, "the two differ: {what}");
         // Short calls are timed a hundred at once, so that reading the clock doesn't count.
         let rounds = if self.means.len() * (steps as usize + 10) < 20_000 { 100 } else { 1 };
-        // Both in turn, so that what else the machine does falls on both.
-        let (mut rust, mut ours) = (Duration::MAX, Duration::MAX);
-        let begin = Instant::now();
-        while begin.elapsed() < Duration::from_secs(2) {
-            ours = ours.min(least_time(|| {
-                for _ in 0..rounds {
-                    black_box(self.ours(black_box(asked)));
+        let (rust, ours) = least_times(|side| {
+            for _ in 0..rounds {
+                match side {
+                    Side::Rust => drop(black_box(self.rust(black_box(asked)))),
+                    Side::Ours => drop(black_box(self.ours(black_box(asked)))),
                 }
-            }));
-            rust = rust.min(least_time(|| {
-                for _ in 0..rounds {
-                    black_box(self.rust(black_box(asked)));
-                }
-            }));
-        }
+            }
+        });
         row(&format!("{what}, {steps} steps"), rust / rounds, ours / rounds);
     }
 }

@@ -23,18 +23,35 @@ impl Inputs {
     }
 }
 
-/// The least time of a call, from as many runs as fit a fifth of a second, three at least.
-pub fn least_time(mut call: impl FnMut()) -> Duration {
+/// Whose call is timed.
+#[derive(Clone, Copy)]
+pub enum Side {
+    Rust,
+    Ours,
+}
+
+/// The least times of the Rust's call and of ours, a fifth of a second each in turn for two seconds, so that what else the
+/// machine does falls on both.
+pub fn least_times(mut call: impl FnMut(Side)) -> (Duration, Duration) {
+    let mut least_of = |side| {
+        let begin = Instant::now();
+        let mut least = Duration::MAX;
+        let mut runs = 0;
+        while runs < 3 || begin.elapsed() < Duration::from_millis(200) {
+            let start = Instant::now();
+            call(side);
+            least = least.min(start.elapsed());
+            runs += 1;
+        }
+        least
+    };
     let begin = Instant::now();
-    let mut least = Duration::MAX;
-    let mut runs = 0;
-    while runs < 3 || begin.elapsed() < Duration::from_millis(200) {
-        let start = Instant::now();
-        call();
-        least = least.min(start.elapsed());
-        runs += 1;
+    let (mut rust, mut ours) = (Duration::MAX, Duration::MAX);
+    while begin.elapsed() < Duration::from_secs(2) {
+        rust = rust.min(least_of(Side::Rust));
+        ours = ours.min(least_of(Side::Ours));
     }
-    least
+    (rust, ours)
 }
 
 /// One row: what was timed, the Rust's time, ours, and how many times as fast ours is.

@@ -6,7 +6,7 @@ use jbonsai::mlpg_adjust::MlpgAdjust;
 use jbonsai::model::voice::window::{Window, Windows};
 use jbonsai::model::{MeanVari, ModelStream, StreamParameter};
 
-use crate::{Inputs, least_time, row};
+use crate::{Inputs, Side, least_times, row};
 
 unsafe extern "C" {
     fn hejmirov_trajectory(
@@ -113,7 +113,7 @@ impl Utterance {
         MlpgAdjust::new(1.0, THRESHOLD, ModelStream { vector_length: self.shape.v, stream, gv, windows: &self.windows })
     }
 
-    fn ours(&mut self) {
+    fn render(&mut self) {
         let shape = &self.shape;
         // Every list comes with its own length and outlives the call.
         let refusal = unsafe {
@@ -131,15 +131,15 @@ impl Utterance {
 }
 
 fn compare(what: &str, shape: Shape) {
-    let mut utterance = Utterance::new(shape);
-    utterance.ours();
-    let rust = utterance.adjust().create(&utterance.durations).concat();
-    let same = rust.iter().zip(&utterance.out).all(|(rust, ours)| rust.to_bits() == ours.to_bits());
+    let (theirs, mut ours) = (Utterance::new(shape.clone()), Utterance::new(shape));
+    let adjust = theirs.adjust();
+    ours.render();
+    let rust = adjust.create(&theirs.durations).concat();
+    let same = rust.iter().map(|x| x.to_bits()).eq(ours.out.iter().map(|x| x.to_bits()));
     assert!(same, "the two differ: {what}");
-    let ours = least_time(|| utterance.ours());
-    let adjust = utterance.adjust();
-    let rust = least_time(|| {
-        black_box(adjust.create(black_box(&utterance.durations)));
+    let (rust, ours) = least_times(|side| match side {
+        Side::Rust => drop(black_box(adjust.create(black_box(&theirs.durations)))),
+        Side::Ours => ours.render(),
     });
     row(what, rust, ours);
 }
