@@ -6,7 +6,7 @@ use native.Mathlib.Numerals.{add-one}
 use native.Mathlib.Omega.{arith}
 use borrow.Rule.Slice.PartMut.{putMid, post-is}
 use lib.ListN.{length, set, take, drop, length-drop, length-set}
-use lib.Seq.{sets, sets-eq, drop-set-add, drop-set-lt, take-set-le, take-set-lt, take-suc-set, take-append-le, drop-append-le, length-take-le, append-snoc}
+use lib.Seq.{sets, sets-eq, drop-set-add, drop-set-lt, take-set-le, take-set-lt, take-suc-set, length-take-le, append-snoc}
 use Rattle.lists.specs.Build.{build}
 use Rattle.lists.proofs.Fills.{build-length}
 use Rattle.lists.proofs.Stores.{sets-append}
@@ -17,12 +17,6 @@ module _ {A : Type 0} where
 
   pub cut-length : (o k : ℕ) (l : List A) → o + k ≤ length l → length (cut o k l) ≡ k
   cut-length o k l h = length-take-le k (drop o l) (simp length-drop (omega arith))
-
-  -- a part of the front
-  pub part-front : (a b : List A) (o k : ℕ) → o + k ≤ length a → cut o k (a ++ b) ≡ cut o k a
-  part-front a b o k h =
-      let i : k ≤ length (drop o a) = simp length-drop (omega arith) in
-      rw (drop-append-le o a b (omega arith), take-append-le k (drop o a) b i)
 
   -- a store within a part
   pub stored-within : (l : List A) (o k i : ℕ) (v : A) → i < k → cut o k (set l (o + i) v) ≡ set (cut o k l) i v

@@ -49,10 +49,6 @@ module _ (wu : Float) (taps d : List Float) where
 -- ---- a row's entries
 
 module _ (n t : ℕ) where
-  pub on-row-length : (h : ℕ → Float → Float) (row : List Float) → length (onRow n t h row) ≡ length row
-  unfolding onRow
-  on-row-length h row = build-length _ (length row)
-
   -- what does nothing
   pub on-row-idle : (h : ℕ → Float → Float) (row : List Float) → ((s : ℕ) (y : Float) → h s y ≡ y) → row ≡ onRow n t h row
   unfolding onRow

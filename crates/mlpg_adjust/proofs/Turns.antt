@@ -54,9 +54,6 @@ module _ (n w rows right to values : ℕ) (M : List Float) (pos : 0 < w) (first 
   unfolding gradient
   G-is = rw P-long
 
-  G-long : length G ≡ n
-  G-long = rw (G-is, build-length)
-
   -- ---- `calc_hmmobj_derivative`, t frames done
 
   abbrev objective-to : Float → ℕ → Float
