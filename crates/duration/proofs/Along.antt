@@ -21,11 +21,11 @@ use Rattle.duration.specs.Steps.{Outcome, unchanged}
 use Rattle.duration.specs.Fit.{mostFrames, refusalTo}
 use Rattle.lists.specs.Refusals.{orElse}
 use Rattle.duration.specs.Align.{labelOf, Group, closing, groups, within, targetOf, fitOf, fitAlong, refusalOf, refusalAlong}
-use Rattle.duration.specs.Promise.{answerOf}
 use Rattle.duration.specs.Inner.{Lies, closed, Closes, Labelled, AtFront}
-use Rattle.duration.proofs.Calls.{refusing, refused-is, accepted-is}
+use Rattle.lists.proofs.Answers.{refusing, refused, refused-is, accepted-is}
 use Rattle.duration.proofs.Refusals.{cond-none}
-use Rattle.duration.proofs.Closing.{or-first, or-none, answer-refused, fit-few}
+use Rattle.lists.proofs.Refusals.{or-first, or-none}
+use Rattle.duration.proofs.Closing.{fit-few}
 
 abbrev joined : List ℕ → ℕ → Outcome → Outcome
 joined ds c o = record { durations = ds ++ o .durations; changes = c + o .changes }
@@ -75,7 +75,7 @@ module _ (ms vs : List Float) (k : ℕ) (ends : List Float) where
 
   module _ (start work : List ℕ) (done first frames changes i : ℕ) (l : Labelled ms vs k ends start) (a : Along start work done first frames changes i) where
     pub along-done : length ends ≤ i → AtFront (refusalAlong ms vs (groups k 0 0 ends) 0) (fitAlong ms vs (groups k 0 0 ends) 0) (Written done changes) work
-    unfolding groups fitAlong refusalAlong answerOf
+    unfolding groups fitAlong refusalAlong
     along-done h =
         let d : drop i ends ≡ [] = drop-of-length-le ends h in
         let r : refusalAlong ms vs (groups k 0 0 ends) 0 ≡ 0 = sym (a .refusal) ∙ ap (λ (es : List Float). refusalAlong ms vs (groups k done first es) frames) d in
@@ -138,7 +138,7 @@ module _ (ms vs : List Float) (k : ℕ) (ends : List Float) where
               let y : refusalAlong ms vs (groups k 0 0 ends) 0 ≡ n =
               sym (a .refusal) ∙ ap (λ (gs : List Group). refusalAlong ms vs gs frames) (here (At end) q) ∙ or-first (refusalOf ms vs group frames) _ (s .1) ∙ s .0 ∙ sym (p ∙ ap (λ (x : Closed). closed x .number) b) in
               let z : refusalAlong ms vs (groups k 0 0 ends) 0 ≡ 0 → ⊥ = λ v. s .1 (s .0 ∙ sym (p ∙ ap (λ (x : Closed). closed x .number) b) ∙ sym y ∙ v) in
-              record { answer = ap refusing (sym y) ∙ sym (answer-refused (refusalAlong ms vs (groups k 0 0 ends) 0) _ z); output = λ v. absurd (z v) }
+              record { answer = ap refusing (sym y) ∙ refused (refusalAlong ms vs (groups k 0 0 ends) 0) _ z; output = λ v. absurd (z v) }
 
           module _ (c s : ℕ) (b : r ≡ Grown c s) where
             grown : (refusalOf ms vs group frames ≡ 0) × (closed (Grown c s) .values ≡ fitOf ms vs group frames .changes ∷ total (fitOf ms vs group frames .durations) ∷ [])

@@ -9,34 +9,22 @@ use lib.Ieee.{Float}
 use lib.Seq.{sets, take-append-le, drop-at, take-length}
 use borrow.Author.Tests.{ne-eqb}
 use Rattle.lists.proofs.Stores.{filled, copied}
+use Rattle.lists.proofs.Answers.{refusing, Same, same, untouched, refused-is, accepted-is}
 use Rattle.duration.specs.declared.Fitted.{Fitted}
 use Rattle.duration.specs.declared.Fitted.the-variants.{Done, Refused}
 use Rattle.duration.specs.declared.Aligned.{Aligned}
 use Rattle.duration.specs.declared.Aligned.the-variants.{Written, Denied}
 use Rattle.lists.specs.Refusals.{orElse}
 use Rattle.duration.specs.Inner.{outputAfter, HandsOut}
-use Rattle.duration.specs.Promise.{Answer, fitted, aligned, answerOf, outputOf, clears, workOf, Says, FitSays, SpeedSays, AlignSays}
-
-abbrev pub refusing : ℕ → Answer
-refusing k = record { number = k; values = [] }
-
--- an answer without a value is a refusal, and one with the number 0 is none
-pub refused-is : (m k v : ℕ) (vs : List ℕ) → refusing m ≡ answerOf k (v ∷ vs) → (k ≡ m) × (k ≡ 0 → ⊥)
-unfolding answerOf
-refused-is m zero v vs e = absurd (let q : _≡_ {A = List ℕ} [] (v ∷ vs) = ap (λ (a : Answer). a .values) e in let z : _≡_ {A = ℕ} 0 1 = cc in omega arith)
-refused-is m (suc k) v vs e = (sym (ap (λ (a : Answer). a .number) e), λ q. omega arith)
-
-pub accepted-is : (a : Answer) (k : ℕ) (vs : List ℕ) → a ≡ answerOf k vs → a .number ≡ 0 → (k ≡ 0) × (a .values ≡ vs)
-unfolding answerOf
-accepted-is a zero vs e z = (refl, ap (λ (b : Answer). b .values) e)
-accepted-is a (suc k) vs e z = absurd (let n : a .number ≡ suc k = ap (λ (b : Answer). b .number) e in omega arith)
+use Rattle.lists.specs.Answers.{Answer, answerOf}
+use Rattle.duration.specs.Promise.{fitted, aligned, clears, workOf, Says, FitSays, SpeedSays, AlignSays}
 
 pub handed : (r : Fitted) (c : ℕ) (new out out′ : List ℕ) → r ≡ Done c → out′ ≡ new → out′ ≡ outputAfter r new out
 handed r c new out out′ e f = rw e f
 
 module _ (n : ℕ) (values new out work : List ℕ) where
   pub says-early : (b k : ℕ) → (b ≡ 0 → ⊥) → b ≤ 6 → Says (orElse b k) values new n out work (refusing b) out work
-  unfolding answerOf outputOf workOf
+  unfolding workOf
   says-early zero k z h = absurd (z refl)
   says-early (suc b) k z h =
       record { answer = refl; output = refl; workspace = rw (ne-eqb (suc b) 0 z, ne-eqb (suc b) 7 (λ q. omega arith), ne-eqb (suc b) 8 (λ q. omega arith)) }
@@ -51,16 +39,11 @@ module _ (n k : ℕ) (new out work w : List ℕ) (long : length w ≡ n) (late :
   cleared work′ e = rw (late, ← drop-at w (drop n work) n long) (e ∙ filled n 0 (w ++ drop n work) whole-long)
 
   pub says-late : (v : ℕ) (vs : List ℕ) (m : ℕ) (a : Answer) (work′ : List ℕ) → a ≡ refusing m → a ≡ answerOf k (v ∷ vs) → work′ ≡ sets (w ++ drop n work) 0 (replicate n 0) → Says (orElse 0 k) (v ∷ vs) new n out work a out work′
-  says-late v vs m a work′ r e f = record { answer = e; output = untouched k (refused-is m k v vs (sym r ∙ e) .1); workspace = cleared work′ f }
-    where
-      untouched : (k : ℕ) → (k ≡ 0 → ⊥) → out ≡ outputOf k new out
-      untouched zero z = absurd (z refl)
-      untouched (suc k) z = unfold outputOf in refl
+  says-late v vs m a work′ r e f = record { answer = e; output = untouched k new out (refused-is m k v vs (sym r ∙ e) .1); workspace = cleared work′ f }
 
   -- m numbers of it are the durations
   says-done : (values : List ℕ) (m : ℕ) (a : Answer) (out′ work′ : List ℕ) → a ≡ answerOf k values → a .number ≡ 0 → n ≤ length out → m ≡ length new → take m w ≡ new
       → out′ ≡ sets out 0 (take m (w ++ drop n work)) → work′ ≡ sets (w ++ drop n work) 0 (replicate n 0) → Says (orElse 0 k) values new n out work a out′ work′
-  unfolding outputOf
   says-done values m a out′ work′ e z room q t o f =
       let l : length new ≡ min m (length w) = ap length (sym t) ∙ length-take m w in
       let h : m ≤ length w = omega arith in
@@ -93,12 +76,6 @@ module _ (n k : ℕ) (new out work w : List ℕ) (long : length w ≡ n) (late :
       says-done (length new ∷ u ∷ []) m a out′ work′ e z room q (ap (λ (x : ℕ). take x w) q ∙ t (y .0)) o f
 
 -- ---- two outcomes of one call are equal
-
-abbrev Same : Answer → Answer → Type 0
-Same a b = (a .number ≡ b .number) × (a .values ≡ b .values)
-
-same : {a b : Answer} → a ≡ b → Same a b
-same e = (ap (λ (x : Answer). x .number) e, ap (λ (x : Answer). x .values) e)
 
 fitted-one : (r s : Fitted) → Same (fitted r) (fitted s) → r ≡ s
 fitted-one (Done c) (Done d) e = let q = e .1 in cc

@@ -11,6 +11,7 @@ use lib.Ieee.{Float}
 use borrow.Author.Tests.{lt-ltb, le-ltb, eqb-true, eqb-false}
 use Rattle.lists.specs.Totals.{total}
 use Rattle.lists.proofs.Sums.{total-whole}
+use Rattle.lists.proofs.Refusals.{or-first}
 use Rattle.duration.specs.declared.Fitted.{Fitted}
 use Rattle.duration.specs.declared.Fitted.the-variants.{Done, Refused}
 use Rattle.duration.specs.declared.align.Closed.the-variants.{Grown, Barred}
@@ -18,24 +19,11 @@ use Rattle.duration.specs.Steps.{Outcome, unchanged, step, settle}
 use Rattle.duration.specs.Fit.{mostFrames, plain, fitTo, refusalTo}
 use Rattle.lists.specs.Refusals.{orElse}
 use Rattle.duration.specs.Align.{Group, within, targetOf, fitOf, refusalOf, refusalAlong}
-use Rattle.duration.specs.Promise.{fitted, answerOf, clears}
+use Rattle.duration.specs.Promise.{fitted, clears}
 use Rattle.duration.specs.Inner.{InPlace, Closes}
-use Rattle.duration.proofs.Calls.{refusing, refused-is, accepted-is}
+use Rattle.lists.proofs.Answers.{refusing, refused, refused-is, accepted-is}
 use Rattle.duration.proofs.Stepping.{settle-there, settle-turn}
 use Rattle.duration.proofs.Fits.{fit-clears}
-
-pub or-first : (k l : ℕ) → (k ≡ 0 → ⊥) → orElse k l ≡ k
-or-first zero l z = absurd (z refl)
-or-first (suc k) l z = refl
-
-pub or-none : (k l : ℕ) → orElse k l ≡ 0 → (k ≡ 0) × (l ≡ 0)
-or-none zero l e = (refl, e)
-or-none (suc k) l e = absurd (omega arith)
-
-pub answer-refused : (k : ℕ) (vs : List ℕ) → (k ≡ 0 → ⊥) → answerOf k vs ≡ refusing k
-unfolding answerOf
-answer-refused zero vs z = absurd (z refl)
-answer-refused (suc k) vs z = refl
 
 -- ---- closing a group, whose fit left w in its place
 
@@ -51,7 +39,7 @@ module _ (ms vs : List Float) (g : Group) (frames : ℕ) (work w work′ : List 
         let o : refusalOf ms vs g frames ≡ own = or-first own _ (s .1) in
         let z : refusalOf ms vs g frames ≡ 0 → ⊥ = λ q. s .1 (sym o ∙ q) in
         let n : k ≡ refusalOf ms vs g frames = q ∙ ap (λ (x : Fitted). fitted x .number) e ∙ sym (o ∙ s .0) in
-        record { answer = ap refusing n ∙ sym (answer-refused (refusalOf ms vs g frames) _ z); output = λ q. absurd (z q) }
+        record { answer = ap refusing n ∙ refused (refusalOf ms vs g frames) _ z; output = λ q. absurd (z q) }
 
     module _ (c s : ℕ) (e : r ≡ Done c) (sum : s ≡ total w) where
       done : (own ≡ 0) × (fitted (Done c) .values ≡ fitOf ms vs g frames .changes ∷ [])
@@ -61,14 +49,14 @@ module _ (ms vs : List Float) (g : Group) (frames : ℕ) (work w work′ : List 
       sum-is = sum ∙ ap total (f .output (done .0))
 
       pub close-long : mostFrames < frames + s → Closes ms vs g frames work (Barred 8) work′
-      unfolding refusalOf answerOf
+      unfolding refusalOf
       close-long h =
           let l : mostFrames < frames + total (fitOf ms vs g frames .durations) = rw (← sum-is) h in
           let o : refusalOf ms vs g frames ≡ 8 = rw (done .0, lt-ltb mostFrames (frames + total (fitOf ms vs g frames .durations)) l) in
           record { answer = rw o; output = λ q. absurd (omega arith) }
 
       pub close-grown : frames + s ≤ mostFrames → work′ ≡ take (g .from) work ++ (w ++ drop (g .to) work) → Closes ms vs g frames work (Grown c s) work′
-      unfolding refusalOf answerOf
+      unfolding refusalOf
       close-grown h p =
           let l : frames + total (fitOf ms vs g frames .durations) ≤ mostFrames = rw (← sum-is) h in
           let o : refusalOf ms vs g frames ≡ 0 = rw (done .0, le-ltb mostFrames (frames + total (fitOf ms vs g frames .durations)) l) in

@@ -25,7 +25,8 @@ use Rattle.duration.specs.Steps.{Outcome, settle}
 use Rattle.duration.specs.Fit.{mostFrames, rhoOf, startOf, fitTo, refusalTo}
 use Rattle.duration.specs.Speed.{naturals, targetAt, fitAt, refusalAt}
 use Rattle.duration.specs.Align.{endIf, Group, closing, groups, within, targetOf, fitOf, fitAlong, refusalOf, refusalAlong}
-use Rattle.duration.specs.Promise.{Answer, fitted, aligned, answerOf, outputOf, refusalOfLists, refusalOfLabels, Says, FitSays, SpeedSays, AlignSays}
+use Rattle.lists.specs.Answers.{Answer, answerOf}
+use Rattle.duration.specs.Promise.{fitted, aligned, refusalOfLists, refusalOfLabels, Says, FitSays, SpeedSays, AlignSays}
 use Rattle.duration.specs.Fitting.{distance, Under, Fair, FairAlong, Ample, Accepted, AcceptedAlong}
 use Rattle.duration.specs.Fitting.FairAlong.{ended, next}
 use Rattle.duration.proofs.Refusals.{lists-fit, cond-none, labelled}
@@ -33,8 +34,8 @@ use Rattle.duration.proofs.Estimates.{length-estimates}
 use Rattle.duration.proofs.Settling.{Pointwise, Positive, settles-total, settles-length, settles-gap, settles-up, settles-down, settles-positive, settle-settles}
 use Rattle.duration.proofs.Settling.Pointwise.{nil, cons}
 use Rattle.duration.proofs.Settling.Positive.{none, more}
-use Rattle.duration.proofs.Calls.{accepted-is}
-use Rattle.duration.proofs.Closing.{or-none}
+use Rattle.lists.proofs.Answers.{accepted-is}
+use Rattle.lists.proofs.Refusals.{or-none}
 
 -- ---- lists state by state
 
@@ -143,12 +144,10 @@ module _ (ms vs : List Float) (t : ℕ) (some : 0 < length ms) (agree : length v
 
 -- an answer that is accepted
 done-is : (r : Fitted) (o : Outcome) → fitted r ≡ answerOf 0 (o .changes ∷ []) → r ≡ Done (o .changes)
-unfolding answerOf
 done-is (Done c) o e = let q : c ∷ [] ≡ o .changes ∷ [] = ap (λ (a : Answer). a .values) e in cc
 done-is (Refused k) o e = absurd (let q : _≡_ {A = List ℕ} [] (o .changes ∷ []) = ap (λ (a : Answer). a .values) e in let z : _≡_ {A = ℕ} 0 1 = cc in omega arith)
 
 written-is : (r : Aligned) (o : Outcome) → aligned r ≡ answerOf 0 (length (o .durations) ∷ o .changes ∷ []) → r ≡ Written (length (o .durations)) (o .changes)
-unfolding answerOf
 written-is (Written w c) o e = let q : w ∷ c ∷ [] ≡ length (o .durations) ∷ o .changes ∷ [] = ap (λ (a : Answer). a .values) e in cc
 written-is (Denied k) o e = absurd (let q : _≡_ {A = List ℕ} [] (length (o .durations) ∷ o .changes ∷ []) = ap (λ (a : Answer). a .values) e in let z : _≡_ {A = ℕ} 0 1 = cc in omega arith)
 
@@ -162,7 +161,6 @@ module _ (ms vs : List Float) (t : ℕ) (out work : List ℕ) (m : Ample ms vs t
   fit-none = rw (ne-eqb (length ms) 0 (λ q. omega (arith, m .some)), le-ltb mostFrames t (m .within), lt-leb t (length ms) (m .above), le-ltb mostFrames (total (startOf ms vs t)) (m .start))
 
   accepted : (k : ℕ) (r : Fitted) (out′ work′ : List ℕ) → k ≡ 0 → Says k (fitTo ms vs t .changes ∷ []) (fitTo ms vs t .durations) (length ms) out work (fitted r) out′ work′ → Accepted ms vs t out r out′
-  unfolding outputOf
   accepted k r out′ work′ z f =
       let g : Fair ms vs t (fitTo ms vs t) = fair ms vs t (m .some) (m .agree) (m .above) (m .within) (m .start) in
       record {
@@ -218,7 +216,6 @@ module _ (ms vs : List Float) (agree : length vs ≡ length ms) (k : ℕ) (some 
 
 pub demand-3-align : (ms vs : List Float) (nstate : ℕ) (ends : List Float) (out work : List ℕ) (r : Aligned) (out′ work′ : List ℕ) → aligned r .number ≡ 0
     → AlignSays ms vs nstate ends out work r out′ work′ → AcceptedAlong ms vs (groups nstate 0 0 ends) out r out′
-unfolding outputOf
 demand-3-align ms vs nstate ends out work r out′ work′ z f =
     let gs : List Group = groups nstate 0 0 ends in
     let o : Outcome = fitAlong ms vs gs 0 in

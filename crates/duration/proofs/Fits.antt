@@ -18,7 +18,7 @@ use Rattle.duration.specs.Estimate.{shortest, estimates}
 use Rattle.duration.specs.Steps.{Outcome, settle}
 use Rattle.duration.specs.Fit.{mostFrames, rhoOf, startOf, fitTo, refusalTo}
 use Rattle.duration.specs.Speed.{naturals, targetAt, fitAt, refusalAt}
-use Rattle.duration.specs.Promise.{answerOf, clears}
+use Rattle.duration.specs.Promise.{clears}
 use Rattle.duration.specs.Inner.{Agree, InPlace}
 
 no-list : (xs : List ℕ) → length xs ≡ 0 → xs ≡ []
@@ -26,12 +26,11 @@ no-list [] e = refl
 no-list (x ∷ xs) e = absurd (omega arith)
 
 pub fit-none : (ms vs : List Float) (t : ℕ) (work : List ℕ) → Agree ms vs work → length ms ≡ 0 → InPlace (refusalTo ms vs t) (fitTo ms vs t) (Done 0) work
-unfolding refusalTo fitTo answerOf
+unfolding refusalTo fitTo
 fit-none [] vs t work g z = record { answer = refl; output = λ q. no-list work (g .workspace) }
 fit-none (m ∷ ms) vs t work g z = absurd (omega arith)
 
 in-refused : (k m : ℕ) (o : Outcome) (work : List ℕ) → m ≡ suc k → InPlace m o (Refused (suc k)) work
-unfolding answerOf
 in-refused k m o work e = record { answer = rw e; output = λ q. absurd (omega arith) }
 
 module _ (ms vs : List Float) (t : ℕ) (some : 0 < length ms) where
@@ -44,7 +43,7 @@ module _ (ms vs : List Float) (t : ℕ) (some : 0 < length ms) where
 
   module _ (within : t ≤ mostFrames) where
     pub fit-plain : (work : List ℕ) → t ≤ length ms → work ≡ replicate (length ms) shortest → InPlace (refusalTo ms vs t) (fitTo ms vs t) (Done 0) work
-    unfolding refusalTo fitTo answerOf
+    unfolding refusalTo fitTo
     fit-plain work h e =
         let b : leb t (length ms) ≡ true = le-leb t (length ms) h in
         record { answer = rw (states, le-ltb mostFrames t within, b); output = λ q. rw (states, b) e }
@@ -55,7 +54,7 @@ module _ (ms vs : List Float) (t : ℕ) (some : 0 < length ms) where
       fit-long work h = in-refused 7 (refusalTo ms vs t) (fitTo ms vs t) work (rw (states, le-ltb mostFrames t within, lt-leb t (length ms) above, lt-ltb mostFrames (total (startOf ms vs t)) h))
 
       pub fit-settled : (c : ℕ) (work : List ℕ) → total (startOf ms vs t) ≤ mostFrames → settle mostFrames (rhoOf ms vs t) ms vs t (startOf ms vs t) ≡ record { durations = work; changes = c } → InPlace (refusalTo ms vs t) (fitTo ms vs t) (Done c) work
-      unfolding refusalTo fitTo answerOf
+      unfolding refusalTo fitTo
       fit-settled c work h e =
           let b : leb t (length ms) ≡ false = lt-leb t (length ms) above in
           record { answer = rw (states, le-ltb mostFrames t within, b, le-ltb mostFrames (total (startOf ms vs t)) h, e); output = λ q. rw (states, b, e) }
@@ -95,7 +94,7 @@ module _ (ms vs : List Float) (speed : Float) (work : List ℕ) where
 
   module _ (h : total (naturals ms vs) ≤ mostFrames) where
     pub speed-one : eq speed one ≡ true → work ≡ naturals ms vs → InPlace (refusalAt ms vs speed) (fitAt ms vs speed) (Done 0) work
-    unfolding refusalAt fitAt answerOf
+    unfolding refusalAt fitAt
     speed-one e w = record { answer = rw (le-ltb mostFrames (total (naturals ms vs)) h, e); output = λ q. rw e w }
 
     pub speed-other : (t : ℕ) (r : Fitted) → eq speed one ≡ false → t ≡ targetAt ms vs speed → InPlace (refusalTo ms vs t) (fitTo ms vs t) r work → InPlace (refusalAt ms vs speed) (fitAt ms vs speed) r work

@@ -18,7 +18,8 @@ use Rattle.duration.specs.Scores.{mostStates, keyAt, scores}
 use Rattle.duration.specs.Tree.{Kept}
 use Rattle.duration.specs.Pack.{lows, highs}
 use Rattle.duration.specs.Align.{Group, fitOf, refusalOf}
-use Rattle.duration.specs.Promise.{Answer, fitted, aligned, answerOf}
+use Rattle.lists.specs.Answers.{Answer, answerOf}
+use Rattle.duration.specs.Promise.{fitted, aligned}
 
 -- lists that agree, with one number of the work space a state
 pub record Agree (ms vs : List Float) (work : List ℕ) : Type 0 where

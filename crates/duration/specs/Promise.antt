@@ -2,7 +2,7 @@
 use mathlib.Core.Path.{_≡_}
 use mathlib.Core.Bool.{Bool, not, _||_, cond}
 use mathlib.Core.List.{List, [], _∷_, _++_}
-use Prim.Native.Nat.{ℕ, zero, suc, _*_}
+use Prim.Native.Nat.{ℕ, _*_}
 use lib.Dec.{ltb, eqb}
 use lib.ListN.{length, drop, replicate}
 use lib.Ieee.{Float}
@@ -13,13 +13,9 @@ use Rattle.duration.specs.declared.Aligned.{Aligned}
 use Rattle.duration.specs.declared.Aligned.the-variants.{Written, Denied}
 use Rattle.duration.specs.Fit.{fitTo, refusalTo}
 use Rattle.lists.specs.Refusals.{orElse}
+use Rattle.lists.specs.Answers.{Answer, answerOf, written}
 use Rattle.duration.specs.Speed.{fitAt, refusalAt}
 use Rattle.duration.specs.Align.{groups, fitAlong, refusalAlong}
-
--- 01, Refusal numbers: an answer's number, 0 for none, and its values; "A refusal carries its number only"
-pub record Answer : Type 0 where
-  pub number : ℕ
-  pub values : List ℕ
 
 -- of a fit or a speed: the unit changes
 abbrev pub fitted : Fitted → Answer
@@ -28,18 +24,8 @@ fitted (Refused number) = record { number = number; values = [] }
 
 -- of an alignment: how many durations were written, and the unit changes
 abbrev pub aligned : Aligned → Answer
-aligned (Written written changes) = record { number = 0; values = written ∷ changes ∷ [] }
+aligned (Written count changes) = record { number = 0; values = count ∷ changes ∷ [] }
 aligned (Denied number) = record { number = number; values = [] }
-
--- the answer of a call with this refusal number, 0 for none, and these values where it is accepted
-unfoldable pub answerOf : ℕ → List ℕ → Answer
-answerOf zero values = record { number = 0; values = values }
-answerOf (suc k) values = record { number = suc k; values = [] }
-
--- 01, Refusal numbers: on a refusal "output is untouched"; "An accepted call writes the stated places of the output .. and touches nothing beyond"
-unfoldable pub outputOf : ℕ → List ℕ → List ℕ → List ℕ
-outputOf zero new out = new ++ drop (length new) out
-outputOf (suc k) new out = out
 
 -- 01, Refusal numbers: an accepted call "zeros the work space it is entitled to (the same part that 7 and 8 zero)"; the others leave it untouched
 abbrev pub clears : ℕ → Bool
@@ -60,7 +46,7 @@ refusalOfLabels k l n v o w = cond (ltb 4096 n) 3 (cond (ltb k 1) 3 (cond (ltb 1
 -- A call of n states with the refusal number k, 0 for none, and these values and durations where it is accepted: its answer, and the lists at exit.
 pub record Says (k : ℕ) (values new : List ℕ) (n : ℕ) (out work : List ℕ) (r : Answer) (out′ work′ : List ℕ) : Type 0 where
   pub answer : r ≡ answerOf k values
-  pub output : out′ ≡ outputOf k new out
+  pub output : out′ ≡ written k new out
   pub workspace : work′ ≡ workOf k n work
 
 -- `estimate_duration_with_frame_length`

@@ -3,7 +3,7 @@ ghost use mathlib.Core.Path.{_≡_};
 ghost use Prim.Native.Nat.{_+_, _*_, _/_, _<_};
 ghost use lib.ListN.{length};
 ghost use Rattle.lists.specs.Totals.{total};
-ghost use Rattle.duration.specs.Steps.{step, settle};
+ghost use Rattle.duration.specs.Steps.{settle};
 ghost use Rattle.duration.specs.Fit.{mostFrames};
 ghost use Rattle.duration.specs.Scores.{keyAt, scores, entryOf};
 ghost use Rattle.duration.specs.Tree.{node, Path};

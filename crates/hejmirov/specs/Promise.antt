@@ -6,11 +6,12 @@ use Prim.Native.Nat.{ℕ}
 use lib.Dec.{eqb}
 use lib.ListN.{getD}
 use lib.Ieee.{Float}
+use Rattle.lists.specs.Answers.{Answer}
 use Rattle.duration.specs.Promise.{fitted, aligned, FitSays, SpeedSays, AlignSays}
 use Rattle.duration.specs.declared.Fitted.{Fitted}
 use Rattle.duration.specs.declared.Aligned.{Aligned}
-use Rattle.mlpg_adjust.specs.MaskPromise.{maskNumber, maskValues, MaskedDistancesSays}
-use Rattle.mlpg_adjust.specs.BandPromise.{bandNumber, BandSays}
+use Rattle.mlpg_adjust.specs.MaskPromise.{masked, MaskedDistancesSays}
+use Rattle.mlpg_adjust.specs.BandPromise.{banded, BandSays}
 use Rattle.mlpg_adjust.specs.TrajectoryPromise.{createdNumber, CreateSays}
 use Rattle.mlpg_adjust.specs.declared.Stream.{Stream}
 use Rattle.mlpg_adjust.specs.declared.GlobalVariance.{GlobalVariance}
@@ -20,7 +21,7 @@ use Rattle.mlpg_adjust.specs.declared.mask.Masked.{Masked}
 use Rattle.mlpg_adjust.specs.declared.band.Banded.{Banded}
 use Rattle.job.specs.Promise.{answered, JobSays}
 use Rattle.job.specs.declared.Answered.{Answered}
-use Rattle.spool.specs.Promise.{placeNumber, placeValues, spanNumber, spanValues, PlaceSays, SpanSays}
+use Rattle.spool.specs.Promise.{placed, spanned, PlaceSays, SpanSays}
 use Rattle.spool.specs.declared.Placed.{Placed}
 use Rattle.spool.specs.declared.Span.{Span}
 
@@ -29,52 +30,52 @@ abbrev pub handed : List ℕ → ℕ → ℕ → ℕ
 handed values i old = getD values i old
 
 -- an answer's number, and its one value behind a pointer
-pub record HandsOne (number : ℕ) (values : List ℕ) (old r new : ℕ) : Type 0 where
-  pub answers : r ≡ number
-  pub value : new ≡ handed values 0 old
+pub record HandsOne (a : Answer) (old r new : ℕ) : Type 0 where
+  pub answers : r ≡ a .number
+  pub value : new ≡ handed (a .values) 0 old
 
 -- an answer's number, and its two values behind pointers
-pub record HandsTwo (number : ℕ) (values : List ℕ) (old₀ old₁ r new₀ new₁ : ℕ) : Type 0 where
-  pub answers : r ≡ number
-  pub first : new₀ ≡ handed values 0 old₀
-  pub second : new₁ ≡ handed values 1 old₁
+pub record HandsTwo (a : Answer) (old₀ old₁ r new₀ new₁ : ℕ) : Type 0 where
+  pub answers : r ≡ a .number
+  pub first : new₀ ≡ handed (a .values) 0 old₀
+  pub second : new₁ ≡ handed (a .values) 1 old₁
 
 -- an answer's number, and its three values behind pointers
-pub record HandsThree (number : ℕ) (values : List ℕ) (old₀ old₁ old₂ r new₀ new₁ new₂ : ℕ) : Type 0 where
-  pub answers : r ≡ number
-  pub first : new₀ ≡ handed values 0 old₀
-  pub second : new₁ ≡ handed values 1 old₁
-  pub third : new₂ ≡ handed values 2 old₂
+pub record HandsThree (a : Answer) (old₀ old₁ old₂ r new₀ new₁ new₂ : ℕ) : Type 0 where
+  pub answers : r ≡ a .number
+  pub first : new₀ ≡ handed (a .values) 0 old₀
+  pub second : new₁ ≡ handed (a .values) 1 old₁
+  pub third : new₂ ≡ handed (a .values) 2 old₂
 
 -- `hejmirov_fit`
 pub record FitCallSays (ms vs : List Float) (len : Float) (out work : List ℕ) (changes r : ℕ) (out′ work′ : List ℕ) (changes′ : ℕ) : Type 0 where
   pub answer : Fitted
   pub says : FitSays ms vs len out work answer out′ work′
-  pub gives : HandsOne (fitted answer .number) (fitted answer .values) changes r changes′
+  pub gives : HandsOne (fitted answer) changes r changes′
 
 -- `hejmirov_speed`
 pub record SpeedCallSays (ms vs : List Float) (speed : Float) (out work : List ℕ) (changes r : ℕ) (out′ work′ : List ℕ) (changes′ : ℕ) : Type 0 where
   pub answer : Fitted
   pub says : SpeedSays ms vs speed out work answer out′ work′
-  pub gives : HandsOne (fitted answer .number) (fitted answer .values) changes r changes′
+  pub gives : HandsOne (fitted answer) changes r changes′
 
 -- `hejmirov_align`
 pub record AlignCallSays (ms vs : List Float) (nstate : ℕ) (ends : List Float) (out work : List ℕ) (written changes r : ℕ) (out′ work′ : List ℕ) (written′ changes′ : ℕ) : Type 0 where
   pub answer : Aligned
   pub says : AlignSays ms vs nstate ends out work answer out′ work′
-  pub gives : HandsTwo (aligned answer .number) (aligned answer .values) written changes r written′ changes′
+  pub gives : HandsTwo (aligned answer) written changes r written′ changes′
 
 -- `hejmirov_mask`
 pub record MaskCallSays (ws : List Float) (threshold : Float) (ds voiced left right : List ℕ) (frames r : ℕ) (voiced′ left′ right′ : List ℕ) (frames′ : ℕ) : Type 0 where
   pub answer : Masked
   pub says : MaskedDistancesSays ws threshold ds voiced left right answer voiced′ left′ right′
-  pub gives : HandsOne (maskNumber answer) (maskValues answer) frames r frames′
+  pub gives : HandsOne (masked answer) frames r frames′
 
 -- `hejmirov_band_rows`: the frame count is the caller's own, and is not handed out
 pub record BandCallSays (widths : List ℕ) (coefs means ivars rows right : List Float) (r : ℕ) (rows′ right′ : List Float) : Type 0 where
   pub answer : Banded
   pub says : BandSays widths coefs means ivars rows right answer rows′ right′
-  pub gives : r ≡ bandNumber answer
+  pub gives : r ≡ banded answer .number
 
 -- GV is on where any bit is set
 abbrev pub varianceOf : ℕ → Float → GlobalVariance
@@ -95,16 +96,16 @@ pub record TrajectoryCallSays (v masked : ℕ) (threshold none : Float) (gvOn : 
 pub record PlaceCallSays (frame component v place r place′ : ℕ) : Type 0 where
   pub answer : Placed
   pub says : PlaceSays frame component v answer
-  pub gives : HandsOne (placeNumber answer) (placeValues answer) place r place′
+  pub gives : HandsOne (placed answer) place r place′
 
 -- `hejmirov_excerpt`
 pub record ExcerptCallSays (trajectory : List Float) (durations : List ℕ) (v state first count r first′ count′ : ℕ) : Type 0 where
   pub answer : Span
   pub says : SpanSays trajectory durations v state answer
-  pub gives : HandsTwo (spanNumber answer) (spanValues answer) first count r first′ count′
+  pub gives : HandsTwo (spanned answer) first count r first′ count′
 
 -- `hejmirov_job`
 pub record JobCallSays (bytes out work : List ℕ) (states frames changes r : ℕ) (out′ work′ : List ℕ) (states′ frames′ changes′ : ℕ) : Type 0 where
   pub answer : Answered
   pub says : JobSays bytes out work answer out′ work′
-  pub gives : HandsThree (answered answer .number) (answered answer .values) states frames changes r states′ frames′ changes′
+  pub gives : HandsThree (answered answer) states frames changes r states′ frames′ changes′

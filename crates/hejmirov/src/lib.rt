@@ -2,10 +2,10 @@
 // A list is a pointer and a length.
 ghost use mathlib.Core.Path.{_≡_};
 ghost use Rattle.duration.specs.Promise.{fitted, aligned};
-ghost use Rattle.mlpg_adjust.specs.MaskPromise.{maskNumber, maskValues};
-ghost use Rattle.mlpg_adjust.specs.BandPromise.{bandNumber};
+ghost use Rattle.mlpg_adjust.specs.MaskPromise.{masked};
+ghost use Rattle.mlpg_adjust.specs.BandPromise.{banded};
 ghost use Rattle.mlpg_adjust.specs.TrajectoryPromise.{createdNumber};
-ghost use Rattle.spool.specs.Promise.{placeNumber, placeValues, spanNumber, spanValues};
+ghost use Rattle.spool.specs.Promise.{placed, spanned};
 ghost use Rattle.job.specs.Promise.{answered};
 ghost use Rattle.hejmirov.specs.Promise.{HandsOne, HandsTwo, HandsThree, varianceOf, FitCallSays, SpeedCallSays, AlignCallSays, MaskCallSays, BandCallSays, TrajectoryCallSays, PlaceCallSays, ExcerptCallSays, JobCallSays};
 use duration::Aligned;
@@ -59,7 +59,7 @@ pub extern "C" fn hejmirov_speed(
 
 // A fit's number; its changes go through the pointer.
 fn hand_out_fit(answer: Fitted, changes: &mut u32) -> u32
-    ensures { λ r. ⌜ HandsOne (fitted answer .number) (fitted answer .values) (now (changes .entry)) r (now (changes .exit)) ⌝ }
+    ensures { λ r. ⌜ HandsOne (fitted answer) (now (changes .entry)) r (now (changes .exit)) ⌝ }
 {
     match answer {
         Fitted::Done(count) => {
@@ -89,7 +89,7 @@ pub extern "C" fn hejmirov_align(
 }
 
 fn hand_out_alignment(answer: Aligned, written: &mut u32, changes: &mut u32) -> u32
-    ensures { λ r. ⌜ HandsTwo (aligned answer .number) (aligned answer .values) (now (written .entry)) (now (changes .entry)) r (now (written .exit)) (now (changes .exit)) ⌝ }
+    ensures { λ r. ⌜ HandsTwo (aligned answer) (now (written .entry)) (now (changes .entry)) r (now (written .exit)) (now (changes .exit)) ⌝ }
 {
     match answer {
         Aligned::Written(states, count) => {
@@ -126,7 +126,7 @@ pub extern "C" fn hejmirov_mask(
 }
 
 fn hand_out_mask(answer: Masked, frames: &mut u32) -> u32
-    ensures { λ r. ⌜ HandsOne (maskNumber answer) (maskValues answer) (now (frames .entry)) r (now (frames .exit)) ⌝ }
+    ensures { λ r. ⌜ HandsOne (masked answer) (now (frames .entry)) r (now (frames .exit)) ⌝ }
 {
     match answer {
         Masked::Done(count) => {
@@ -154,7 +154,7 @@ pub extern "C" fn hejmirov_band_rows(
 }
 
 fn number_of_rows(answer: Banded) -> u32
-    ensures { λ r. ⌜ r ≡ bandNumber answer ⌝ }
+    ensures { λ r. ⌜ r ≡ banded answer .number ⌝ }
 {
     match answer {
         Banded::Done(_) => 0,
@@ -233,7 +233,7 @@ pub extern "C" fn hejmirov_place(frame: u32, component: u32, v: u32, place: &mut
 }
 
 fn hand_out_place(answer: Placed, place: &mut u64) -> u32
-    ensures { λ r. ⌜ HandsOne (placeNumber answer) (placeValues answer) (now (place .entry)) r (now (place .exit)) ⌝ }
+    ensures { λ r. ⌜ HandsOne (placed answer) (now (place .entry)) r (now (place .exit)) ⌝ }
 {
     match answer {
         Placed::At(byte) => {
@@ -261,7 +261,7 @@ pub extern "C" fn hejmirov_excerpt(
 }
 
 fn hand_out_span(answer: Span, first: &mut u64, count: &mut u64) -> u32
-    ensures { λ r. ⌜ HandsTwo (spanNumber answer) (spanValues answer) (now (first .entry)) (now (count .entry)) r (now (first .exit)) (now (count .exit)) ⌝ }
+    ensures { λ r. ⌜ HandsTwo (spanned answer) (now (first .entry)) (now (count .entry)) r (now (first .exit)) (now (count .exit)) ⌝ }
 {
     match answer {
         Span::Numbers(from, numbers) => {
@@ -290,7 +290,7 @@ pub extern "C" fn hejmirov_job(
 }
 
 fn hand_out_job(answer: Answered, states: &mut u32, frames: &mut u32, changes: &mut u32) -> u32
-    ensures { λ r. ⌜ HandsThree (answered answer .number) (answered answer .values) (now (states .entry)) (now (frames .entry)) (now (changes .entry)) r (now (states .exit)) (now (frames .exit)) (now (changes .exit)) ⌝ }
+    ensures { λ r. ⌜ HandsThree (answered answer) (now (states .entry)) (now (frames .entry)) (now (changes .entry)) r (now (states .exit)) (now (frames .exit)) (now (changes .exit)) ⌝ }
 {
     match answer {
         Answered::Done {

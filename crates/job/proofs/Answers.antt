@@ -1,7 +1,7 @@
 -- The ways through a job. Assumes nothing.
 use mathlib.Core.Path.{_≡_, refl, sym, ap, _∙_}
 use mathlib.Core.List.{List, [], _∷_, _++_}
-use Prim.Native.Nat.{ℕ, zero, suc, _^_, _≤_}
+use Prim.Native.Nat.{ℕ, _^_, _≤_}
 use native.Mathlib.Omega.{arith}
 use lib.ListN.{length, take, drop, length-append}
 use lib.Seq.{take-at}
@@ -11,10 +11,11 @@ use Rattle.duration.specs.declared.Fitted.{Fitted}
 use Rattle.duration.specs.declared.Fitted.the-variants.{Done as Fit·Done, Refused as Fit·Refused}
 use Rattle.duration.specs.Fit.{mostFrames}
 use Rattle.duration.specs.Speed.{refusalAt}
-use Rattle.duration.specs.Promise.{Answer, fitted, answerOf, outputOf, workOf, refusalOfLists, Says}
-use Rattle.duration.proofs.Calls.{refusing, refused-is, accepted-is}
+use Rattle.lists.specs.Answers.{Answer, answerOf, written}
+use Rattle.duration.specs.Promise.{fitted, workOf, refusalOfLists, Says}
+use Rattle.lists.proofs.Answers.{refusing, refused, refused-is, accepted-is}
 use Rattle.duration.proofs.Refusals.{fitting}
-use Rattle.duration.proofs.Closing.{or-none}
+use Rattle.lists.proofs.Refusals.{or-none}
 use Rattle.job.specs.declared.Answered.the-variants.{Done, Refused}
 use Rattle.job.specs.declared.Heading.{Heading}
 use Rattle.job.specs.declared.Heading.the-variants.{States, Damaged}
@@ -28,23 +29,17 @@ use Rattle.job.proofs.Frames.{Bounded, speed-bounded}
 -- ---- other values with the same refusal, and with none
 
 module _ (k : ℕ) (values new : List ℕ) (n : ℕ) (out work out′ work′ : List ℕ) (c : ℕ) where
-  answer-refused : (k : ℕ) → (k ≡ 0 → ⊥) → refusing k ≡ answerOf k values
-  unfolding answerOf
-  answer-refused zero z = absurd (z refl)
-  answer-refused (suc k) z = refl
-
   says-refused : (m : ℕ) → Says k (c ∷ []) new n out work (refusing m) out′ work′ → Says k values new n out work (refusing m) out′ work′
   says-refused m f =
       let s = refused-is m k c [] (f .answer) in
-      record { answer = ap refusing (sym (s .0)) ∙ answer-refused k (s .1); output = f .output; workspace = f .workspace }
+      record { answer = ap refusing (sym (s .0)) ∙ refused k values (s .1); output = f .output; workspace = f .workspace }
 
   says-accepted : (a b : Answer) → k ≡ 0 → a ≡ record { number = 0; values = values } → Says k (c ∷ []) new n out work b out′ work′ → Says k values new n out work a out′ work′
-  unfolding answerOf
   says-accepted a b z e f = record { answer = e ∙ rw z; output = f .output; workspace = f .workspace }
 
 -- ---- durations that `create` does not refuse, at the front of its output
 
-module _ (j : Job) (out work out′ : List ℕ) (z : refusalOf j out work ≡ 0) (o : out′ ≡ outputOf (refusalOf j out work) (fitOf j .durations) out) where
+module _ (j : Job) (out work out′ : List ℕ) (z : refusalOf j out work ≡ 0) (o : out′ ≡ written (refusalOf j out work) (fitOf j .durations) out) where
   none : (refusalOfLists (length (j .means)) (length (j .varis)) (length out) (length work) ≡ 0) × (refusalAt (j .means) (j .varis) (j .speed) ≡ 0)
   none = or-none (refusalOfLists (length (j .means)) (length (j .varis)) (length out) (length work)) (refusalAt (j .means) (j .varis) (j .speed)) z
 
@@ -52,8 +47,7 @@ module _ (j : Job) (out work out′ : List ℕ) (z : refusalOf j out work ≡ 0)
   fit-bounded = let f = fitting _ _ _ _ (none .0) in speed-bounded (j .means) (j .varis) (f .few) (f .agree) (j .speed) (none .1)
 
   out-is : out′ ≡ fitOf j .durations ++ drop (length (fitOf j .durations)) out
-  unfolding outputOf
-  out-is = o ∙ ap (λ (k : ℕ). outputOf k (fitOf j .durations) out) z
+  out-is = o ∙ ap (λ (k : ℕ). written k (fitOf j .durations) out) z
 
   pub fit-room : length (j .means) ≤ length out′
   fit-room = rw out-is (simp length-append (omega (arith, fit-bounded .count)))
@@ -64,7 +58,7 @@ module _ (j : Job) (out work out′ : List ℕ) (z : refusalOf j out work ≡ 0)
 -- ---- a job that departs from the format
 
 pub damaged : (bytes out work : List ℕ) → formatRefusal bytes ≡ 9 → JobSays bytes out work (Refused 9) out work
-unfolding answerOf outputOf workOf
+unfolding workOf
 damaged bytes out work e = rw e (record { answer = refl; output = refl; workspace = refl })
 
 pub job-damaged : (bytes out work : List ℕ) (h : Heading) → h ≡ Damaged → headed h ≡ answerOf (formatRefusal bytes) (countOf bytes ∷ []) → JobSays bytes out work (Refused 9) out work

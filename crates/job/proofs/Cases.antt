@@ -14,7 +14,7 @@ use Rattle.duration.specs.Estimate.{number, estimates}
 use Rattle.duration.specs.Steps.{keyOf, keys, leastOf, step, settle}
 use Rattle.duration.specs.Fit.{startOf, fitTo, refusalTo}
 use Rattle.duration.specs.Speed.{naturals, targetAt, fitAt, refusalAt}
-use Rattle.duration.specs.Promise.{answerOf, outputOf, workOf, refusalOfLists}
+use Rattle.duration.specs.Promise.{workOf, refusalOfLists}
 use Rattle.job.specs.declared.Answered.the-variants.{Done, Refused}
 use Rattle.job.specs.Format.{floatsAt, Job, startsWith, formatRefusal}
 use Rattle.job.specs.Written.{bytesOfPairs, bytesOfHeading, bytesOfJob}
@@ -47,12 +47,12 @@ nines = 9 ∷ 9 ∷ 9 ∷ []
 
 -- 01, Places and the job file: "states 2, frames 10, changes 1, 4, 6"
 pub worked-job : JobSays bytes sevens nines (Done 2 10 1) (4 ∷ 6 ∷ 7 ∷ []) (0 ∷ 0 ∷ 9 ∷ [])
-unfolding formatRefusal startsWith little floatsAt build answerOf outputOf workOf refusalOfLists refusalAt fitAt naturals targetAt refusalTo fitTo settle step keys keyOf leastOf costBelow absOf total startOf estimates roundedOf sumOf foldFrom pairsOf ofBits ofInt add sub mul div lt eq isNan
+unfolding formatRefusal startsWith little floatsAt build workOf refusalOfLists refusalAt fitAt naturals targetAt refusalTo fitTo settle step keys keyOf leastOf costBelow absOf total startOf estimates roundedOf sumOf foldFrom pairsOf ofBits ofInt add sub mul div lt eq isNan
 worked-job = record { answer = refl; output = refl; workspace = refl }
 
 -- room for one number where the job has two states
 pub worked-no-room : JobSays bytes (7 ∷ []) nines (Refused 6) (7 ∷ []) nines
-unfolding formatRefusal startsWith little floatsAt build answerOf outputOf workOf refusalOfLists
+unfolding formatRefusal startsWith little floatsAt build workOf refusalOfLists
 worked-no-room = record { answer = refl; output = refl; workspace = refl }
 
 -- another mark, another version, one state more, a byte too few, a byte too many, no bytes

@@ -8,7 +8,7 @@ use native.Mathlib.Omega.{arith}
 use lib.Dec.{ltb, eqb}
 use lib.ListN.{length}
 use borrow.Author.Tests.{eq-eqb, ne-eqb, lt-ltb, le-ltb, eqb-true, ltb-false}
-use Rattle.duration.specs.Promise.{answerOf}
+use Rattle.lists.specs.Answers.{answerOf}
 use Rattle.job.specs.declared.Heading.the-variants.{States, Damaged}
 use Rattle.job.specs.Format.{mark, versionOf, version, countOf, mostStates, lengthOf, IsJob, startsWith, formatRefusal}
 use Rattle.job.specs.Inner.{headed}
@@ -84,9 +84,7 @@ no-job-9 bytes n = ⊎-elim (λ (e : formatRefusal bytes ≡ 0). absurd (n (acce
 -- ---- the heading's answer
 
 pub heading-damaged : (bytes : List ℕ) → formatRefusal bytes ≡ 9 → headed Damaged ≡ answerOf (formatRefusal bytes) (countOf bytes ∷ [])
-unfolding answerOf
 heading-damaged bytes e = rw e
 
 pub heading-states : (bytes : List ℕ) (count : ℕ) → count ≡ countOf bytes → formatRefusal bytes ≡ 0 → headed (States count) ≡ answerOf (formatRefusal bytes) (countOf bytes ∷ [])
-unfolding answerOf
 heading-states bytes count q e = rw (e, q)

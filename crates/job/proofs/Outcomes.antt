@@ -1,23 +1,20 @@
 -- What the promise says: two outcomes of one job are equal; what is no job is 9 and changes nothing; a job comes to what `create` does. Assumes nothing.
 use mathlib.Core.Path.{_≡_, refl, sym, ap, _∙_}
 use mathlib.Core.List.{List}
-use Prim.Native.Nat.{ℕ, zero, suc, _≤_}
+use Prim.Native.Nat.{ℕ, _≤_}
 use native.Mathlib.Omega.{arith}
 use lib.ListN.{length, take}
 use Rattle.lists.specs.Refusals.{orElse}
 use Rattle.duration.specs.declared.Fitted.{Fitted}
-use Rattle.duration.specs.Promise.{Answer, fitted, answerOf, SpeedSays}
-use Rattle.duration.proofs.Calls.{accepted-is}
-use Rattle.duration.proofs.Closing.{or-none}
+use Rattle.duration.specs.Promise.{fitted, SpeedSays}
+use Rattle.lists.proofs.Answers.{Same, same, accepted-is}
+use Rattle.lists.proofs.Refusals.{or-none}
 use Rattle.job.specs.declared.Answered.{Answered}
 use Rattle.job.specs.declared.Answered.the-variants.{Done, Refused}
 use Rattle.job.specs.Format.{IsJob, Job, jobOf, formatRefusal}
 use Rattle.job.specs.Promise.{answered, fitOf, refusalOf, JobSays}
 use Rattle.job.proofs.Departures.{job-accepted, no-job-9}
 use Rattle.job.proofs.Answers.{fit-room, fit-taken, damaged}
-
-abbrev Same : Answer → Answer → Type 0
-Same a b = (a .number ≡ b .number) × (a .values ≡ b .values)
 
 answered-one : (r s : Answered) → Same (answered r) (answered s) → r ≡ s
 answered-one (Done a b c) (Done x y z) e = let q = e .1 in cc
@@ -28,13 +25,7 @@ answered-one (Refused k) (Refused l) e = ap Refused (e .0)
 pub job-one : (bytes out work o₁ o₂ w₁ w₂ : List ℕ) (r s : Answered) → JobSays bytes out work r o₁ w₁ → JobSays bytes out work s o₂ w₂ → (r ≡ s) × (o₁ ≡ o₂) × (w₁ ≡ w₂)
 job-one bytes out work o₁ o₂ w₁ w₂ r s f g =
     let e : answered r ≡ answered s = f .answer ∙ sym (g .answer) in
-    (answered-one r s (ap (λ (x : Answer). x .number) e, ap (λ (x : Answer). x .values) e), f .output ∙ sym (g .output), f .workspace ∙ sym (g .workspace))
-
--- an answer's number
-number-is : (k : ℕ) (values : List ℕ) → answerOf k values .number ≡ k
-unfolding answerOf
-number-is zero values = refl
-number-is (suc k) values = refl
+    (answered-one r s (same e), f .output ∙ sym (g .output), f .workspace ∙ sym (g .workspace))
 
 module _ (bytes out work : List ℕ) (r : Answered) (out′ work′ : List ℕ) (f : JobSays bytes out work r out′ work′) where
   -- what departs from the format
@@ -48,7 +39,7 @@ module _ (bytes out work : List ℕ) (r : Answered) (out′ work′ : List ℕ) 
       let a = rw e at (f .answer) in
       let b = rw e at (f .output) in
       let c = rw e at (f .workspace) in
-      (ap (λ (x : Answer). x .number) a ∙ number-is _ _ ∙ sym (ap (λ (x : Answer). x .number) (g .answer) ∙ number-is _ _), b ∙ sym (g .output), c ∙ sym (g .workspace))
+      (same a .0 ∙ sym (same (g .answer) .0), b ∙ sym (g .output), c ∙ sym (g .workspace))
 
 -- an accepted job: its states' durations stand at the front of the output
 pub job-states : (bytes out work : List ℕ) (r : Answered) (s frames c : ℕ) (out′ work′ : List ℕ) → r ≡ Done s frames c → JobSays bytes out work r out′ work′ → (s ≤ length out′) × (take s out′ ≡ fitOf (jobOf bytes) .durations)

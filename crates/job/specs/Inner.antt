@@ -2,7 +2,8 @@
 use mathlib.Core.List.{List, [], _∷_}
 use Prim.Native.Nat.{ℕ}
 use Rattle.duration.specs.declared.Fitted.{Fitted}
-use Rattle.duration.specs.Promise.{Answer, SpeedSays}
+use Rattle.lists.specs.Answers.{Answer}
+use Rattle.duration.specs.Promise.{SpeedSays}
 use Rattle.job.specs.declared.Heading.{Heading}
 use Rattle.job.specs.declared.Heading.the-variants.{States, Damaged}
 use Rattle.job.specs.Format.{Job}

@@ -6,7 +6,8 @@ use Rattle.lists.specs.Refusals.{orElse}
 use Rattle.lists.specs.Totals.{total}
 use Rattle.duration.specs.Steps.{Outcome}
 use Rattle.duration.specs.Speed.{fitAt, refusalAt}
-use Rattle.duration.specs.Promise.{Answer, refusalOfLists, Says}
+use Rattle.lists.specs.Answers.{Answer}
+use Rattle.duration.specs.Promise.{refusalOfLists, Says}
 use Rattle.job.specs.declared.Answered.{Answered}
 use Rattle.job.specs.declared.Answered.the-variants.{Done, Refused}
 use Rattle.job.specs.Format.{Job, jobOf, formatRefusal}

@@ -3,3 +3,4 @@ pub mod Totals
 pub mod Bytes
 pub mod Build
 pub mod Refusals
+pub mod Answers

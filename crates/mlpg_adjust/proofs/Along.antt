@@ -1,17 +1,21 @@
 -- Laws of passes along the frames: what each does to the rows and the right side. Assumes nothing.
 use mathlib.Core.Path.{_≡_, refl, sym, ap, _∙_}
+use mathlib.Core.Bool.{Bool, true, false, cond}
 use mathlib.Core.List.{List}
 use mathlib.Core.Logic.{⊎-elim, _≢_}
-use Prim.Native.Nat.{ℕ, _+_, _-_, _*_, _<_, _≤_}
+use Prim.Native.Nat.{ℕ, _+_, _*_, _<_, _≤_}
 use native.Mathlib.Omega.{arith}
+use borrow.Author.Tests.{lt-ltb, le-ltb, le-leb, lt-leb}
+use lib.Dec.{ltb, leb}
 use lib.ListN.{length, set, drop, length-set, length-drop}
 use lib.Seq.{ext-getD, getD-set-same, getD-set-other, length-take-le}
 use lib.Ieee.{Float, nan}
 use Rattle.lists.proofs.Numbers.{le-or-lt}
 use Rattle.lists.proofs.Rows.{row-fits, row-in}
 use Rattle.mlpg_adjust.specs.Rows.{elem, part}
-use Rattle.mlpg_adjust.specs.Passes.{Along, Moved}
+use Rattle.mlpg_adjust.specs.Passes.{Along, Moved, within}
 use Rattle.mlpg_adjust.specs.declared.solve.Places.{Places}
+use Rattle.mlpg_adjust.specs.declared.passes.Span.{Span}
 use Rattle.mlpg_adjust.proofs.Readings.{part-elem}
 
 -- ---- numbers at every step-th place
@@ -40,37 +44,94 @@ module _ (at step : ℕ) (f : ℕ → Float → Float) (d : List Float) where
     off = λ i g. getD-set-other m q i x nan (λ z. g t (omega arith) (z ∙ e)) ∙ k .off i (λ s l. g s (omega arith));
   }
 
+-- ---- rows of a span
+
+module _ (r : Span) (t : ℕ) (h : Float → Float) (y : Float) where
+  pub within-on : r .from ≤ t → t < r .to → within r t h y ≡ h y
+  within-on a b = rw (le-leb (r .from) t a, lt-ltb t (r .to) b)
+
+  pub within-idle : (r .from ≤ t → t < r .to → h y ≡ y) → within r t h y ≡ y
+  within-idle e = ⊎-elim
+      (λ (a : r .from ≤ t). ⊎-elim
+      (λ (b : r .to ≤ t). rw (le-leb (r .from) t a, le-ltb t (r .to) b))
+      (λ (b : t < r .to). rw (le-leb (r .from) t a, lt-ltb t (r .to) b) (e a b))
+      (le-or-lt (r .to) t))
+      (λ (a : t < r .from). rw (lt-leb (r .from) t a))
+      (le-or-lt (r .from) t)
+
+  pub within-same : (k : Float → Float) → h y ≡ k y → within r t h y ≡ within r t k y
+  within-same k e = rw e
+
+  within-then : (k : Float → Float) → within r t k (within r t h y) ≡ within r t (λ x. k (h x)) y
+  within-then k = twice (leb (r .from) t) (ltb t (r .to))
+    where
+      twice : (a b : Bool) → cond a (cond b (k (cond a (cond b (h y) y) y)) (cond a (cond b (h y) y) y)) (cond a (cond b (h y) y) y) ≡ cond a (cond b (k (h y)) y) y
+      twice true true = refl
+      twice true false = refl
+      twice false b = refl
+
+-- the rows before row t
+abbrev pub upTo : ℕ → Span
+upTo t = record { from = 0; to = t }
+
+-- the rows up to those of a span, then the span's
+within-next : (r : Span) (t : ℕ) (h : Float → Float) (y : Float) → r .from ≤ r .to → within r t h (within (upTo (r .from)) t h y) ≡ within (upTo (r .to)) t h y
+within-next r t h y l = ⊎-elim
+    (λ (a : r .from ≤ t). ap (within r t h) (within-idle (upTo (r .from)) t h y (λ b c. absurd (omega (arith, a, c)))) ∙ ⊎-elim
+    (λ (b : r .to ≤ t). within-idle r t h y (λ c e. absurd (omega (arith, b, e))) ∙ sym (within-idle (upTo (r .to)) t h y (λ c e. absurd (omega (arith, b, e)))))
+    (λ (b : t < r .to). within-on r t h y a b ∙ sym (within-on (upTo (r .to)) t h y (omega arith) b))
+    (le-or-lt (r .to) t))
+    (λ (a : t < r .from).
+    within-idle r t h _ (λ b c. absurd (omega (arith, a, b))) ∙ within-on (upTo (r .from)) t h y (omega arith) a ∙ sym (within-on (upTo (r .to)) t h y (omega arith) (omega (arith, a, l))))
+    (le-or-lt (r .from) t)
+
 -- ---- places of a region
 
 module _ (p : Places) (n w : ℕ) where
-  -- a part before the rows
-  pub pairs-kept : (f : ℕ → ℕ → Float → Float) (g : ℕ → Float → Float) (d m : List Float) (u : ℕ) → Moved p n w f g d m → u + n ≤ p .rows → p .rows ≤ length d → part u n m ≡ part u n d
-  pairs-kept f g d m u k h l =
-      let a : length (part u n m) ≡ n = length-take-le n (drop u m) (simp length-drop (omega (arith, k .long))) in
-      let b : length (part u n d) ≡ n = length-take-le n (drop u d) (simp length-drop (omega arith)) in
-      ext-getD nan (part u n m) (part u n d) (a ∙ sym b)
-      (λ i q. let r : i < n = omega arith in sym (part-elem u n i m r) ∙ k .pairs (u + i) (omega arith) ∙ part-elem u n i d r)
+  module _ (r : Span) where
+    -- a part before the rows
+    pub pairs-kept : (f : ℕ → ℕ → Float → Float) (g : ℕ → Float → Float) (d m : List Float) (u k : ℕ) → Moved p n w r f g d m → u + k ≤ p .rows → p .rows ≤ length d → part u k m ≡ part u k d
+    pairs-kept f g d m u k q h l =
+        let a : length (part u k m) ≡ k = length-take-le k (drop u m) (simp length-drop (omega (arith, q .long))) in
+        let b : length (part u k d) ≡ k = length-take-le k (drop u d) (simp length-drop (omega arith)) in
+        ext-getD nan (part u k m) (part u k d) (a ∙ sym b)
+        (λ i e. let c : i < k = omega arith in sym (part-elem u k i m c) ∙ q .pairs (u + i) (omega arith) ∙ part-elem u k i d c)
 
-  pub moved-none : (f : ℕ → ℕ → Float → Float) (g : ℕ → Float → Float) (d : List Float) → ((t j : ℕ) (y : Float) → t < n → j < w → f t j y ≡ y) → ((t : ℕ) (y : Float) → t < n → g t y ≡ y) → Moved p n w f g d d
-  moved-none f g d a b = record { long = refl; pairs = λ i h. refl; entries = λ t j h l. sym (a t j _ h l); sides = λ t h. sym (b t _ h) }
+    pub moved-none : (f : ℕ → ℕ → Float → Float) (g : ℕ → Float → Float) (d : List Float) → ((t j : ℕ) (y : Float) → t < n → j < w → r .from ≤ t → t < r .to → f t j y ≡ y)
+        → ((t : ℕ) (y : Float) → t < n → r .from ≤ t → t < r .to → g t y ≡ y) → Moved p n w r f g d d
+    moved-none f g d a b = record {
+      long = refl;
+      pairs = λ i h. refl;
+      entries = λ t j h l. sym (within-idle r t (f t j) _ (a t j _ h l));
+      sides = λ t h. sym (within-idle r t (g t) _ (b t _ h));
+    }
 
-  -- one after the other
-  pub moved-then : (f f′ : ℕ → ℕ → Float → Float) (g g′ : ℕ → Float → Float) (d m m′ : List Float) → Moved p n w f g d m → Moved p n w f′ g′ m m′ → Moved p n w (λ t j y. f′ t j (f t j y)) (λ t y. g′ t (g t y)) d m′
-  moved-then f f′ g g′ d m m′ k l = record {
-    long = l .long ∙ k .long;
-    pairs = λ i h. l .pairs i h ∙ k .pairs i h;
-    entries = λ t j h b. l .entries t j h b ∙ ap (f′ t j) (k .entries t j h b);
-    sides = λ t h. l .sides t h ∙ ap (g′ t) (k .sides t h);
-  }
+    -- one after the other
+    pub moved-then : (f f′ : ℕ → ℕ → Float → Float) (g g′ : ℕ → Float → Float) (d m m′ : List Float) → Moved p n w r f g d m → Moved p n w r f′ g′ m m′ → Moved p n w r (λ t j y. f′ t j (f t j y)) (λ t y. g′ t (g t y)) d m′
+    moved-then f f′ g g′ d m m′ k l = record {
+      long = l .long ∙ k .long;
+      pairs = λ i h. l .pairs i h ∙ k .pairs i h;
+      entries = λ t j h b. l .entries t j h b ∙ ap (within r t (f′ t j)) (k .entries t j h b) ∙ within-then r t (f t j) _ (f′ t j);
+      sides = λ t h. l .sides t h ∙ ap (within r t (g′ t)) (k .sides t h) ∙ within-then r t (g t) _ (g′ t);
+    }
 
-  pub moved-same : (f f′ : ℕ → ℕ → Float → Float) (g g′ : ℕ → Float → Float) (d m : List Float) → ((t j : ℕ) (y : Float) → t < n → j < w → f t j y ≡ f′ t j y) → ((t : ℕ) (y : Float) → t < n → g t y ≡ g′ t y)
-      → Moved p n w f g d m → Moved p n w f′ g′ d m
-  moved-same f f′ g g′ d m a b k = record {
-    long = k .long;
-    pairs = k .pairs;
-    entries = λ t j h l. k .entries t j h l ∙ a t j _ h l;
-    sides = λ t h. k .sides t h ∙ b t _ h;
-  }
+    pub moved-same : (f f′ : ℕ → ℕ → Float → Float) (g g′ : ℕ → Float → Float) (d m : List Float) → ((t j : ℕ) (y : Float) → t < n → j < w → f t j y ≡ f′ t j y) → ((t : ℕ) (y : Float) → t < n → g t y ≡ g′ t y)
+        → Moved p n w r f g d m → Moved p n w r f′ g′ d m
+    moved-same f f′ g g′ d m a b k = record {
+      long = k .long;
+      pairs = k .pairs;
+      entries = λ t j h l. k .entries t j h l ∙ within-same r t (f t j) _ (f′ t j) (a t j _ h l);
+      sides = λ t h. k .sides t h ∙ within-same r t (g t) _ (g′ t) (b t _ h);
+    }
+
+    -- the rows up to those of the span, then the span's
+    pub moved-next : (f : ℕ → ℕ → Float → Float) (g : ℕ → Float → Float) (d m m′ : List Float) → r .from ≤ r .to → Moved p n w (upTo (r .from)) f g d m → Moved p n w r f g m m′ → Moved p n w (upTo (r .to)) f g d m′
+    moved-next f g d m m′ e k l = record {
+      long = l .long ∙ k .long;
+      pairs = λ i h. l .pairs i h ∙ k .pairs i h;
+      entries = λ t j h b. l .entries t j h b ∙ ap (within r t (f t j)) (k .entries t j h b) ∙ within-next r t (f t j) _ e;
+      sides = λ t h. l .sides t h ∙ ap (within r t (g t)) (k .sides t h) ∙ within-next r t (g t) _ e;
+    }
 
 -- rows and entries have places of their own
 pub one-row : (w t s i j : ℕ) → i < w → j < w → t * w + i ≡ s * w + j → t ≡ s

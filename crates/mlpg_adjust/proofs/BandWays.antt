@@ -14,15 +14,16 @@ use lib.Seq.{sets, length-sets}
 use lib.Ieee.{Float}
 use Rattle.lists.specs.Build.{foldFrom}
 use Rattle.lists.specs.Refusals.{orElse}
+use Rattle.lists.proofs.Answers.{Same, same, refused-as, accepted}
 use Rattle.model.specs.Windows.{windowRefusal, longest, bandWidth}
 use Rattle.model.proofs.Accepted.{accepted-whole, width-some, width-few}
 use Rattle.mlpg_adjust.specs.Rows.{rows}
 use Rattle.mlpg_adjust.specs.Paper.{bandRows, rightSide}
 use Rattle.mlpg_adjust.specs.Inner.{Taps}
-use Rattle.mlpg_adjust.specs.BandPromise.{bandNumber, bandValues, bandAnswer, framesOf, setRefusal, bandRefusal, BandSays}
+use Rattle.mlpg_adjust.specs.BandPromise.{banded, bandedOf, framesOf, setRefusal, bandRefusal, BandSays}
 use Rattle.mlpg_adjust.specs.declared.band.Banded.{Banded}
 use Rattle.mlpg_adjust.specs.declared.band.Banded.the-variants.{Done, Refused}
-use Rattle.mlpg_adjust.proofs.Regions.{returned, stored-at}
+use Rattle.lists.proofs.Regions.{returned, stored-at}
 use Rattle.mlpg_adjust.proofs.Standings.{matrix-length, side-length}
 
 -- ---- the rows that are written
@@ -69,31 +70,31 @@ module _ (ws : List ℕ) (cs : List Float) (ok : windowRefusal ws cs ≡ 0) wher
 -- ---- how many frames there are
 
 module _ (ws : List ℕ) (cs : List Float) (m i : ℕ) where
-  pub frames-windows : (k : ℕ) → k ≡ windowRefusal ws cs → (k ≡ 0 → ⊥) → Refused k ≡ bandAnswer (setRefusal ws cs m i) (framesOf ws m)
+  pub frames-windows : (k : ℕ) → k ≡ windowRefusal ws cs → (k ≡ 0 → ⊥) → Refused k ≡ bandedOf (setRefusal ws cs m i) (framesOf ws m)
   unfolding setRefusal
   frames-windows zero e h = absurd (h refl)
   frames-windows (suc k) e h = rw (← e)
 
   module _ (z : windowRefusal ws cs ≡ 0) where
-    pub frames-rest : (m % length ws ≡ 0 → ⊥) → Refused 4 ≡ bandAnswer (setRefusal ws cs m i) (framesOf ws m)
+    pub frames-rest : (m % length ws ≡ 0 → ⊥) → Refused 4 ≡ bandedOf (setRefusal ws cs m i) (framesOf ws m)
     unfolding setRefusal
     frames-rest h = rw (z, ne-eqb (m % length ws) 0 h)
 
     module _ (q : m % length ws ≡ 0) where
-      pub frames-other : (i ≡ m → ⊥) → Refused 4 ≡ bandAnswer (setRefusal ws cs m i) (framesOf ws m)
+      pub frames-other : (i ≡ m → ⊥) → Refused 4 ≡ bandedOf (setRefusal ws cs m i) (framesOf ws m)
       unfolding setRefusal
       frames-other h = rw (z, eq-eqb (m % length ws) 0 q, ne-eqb i m h)
 
       module _ (e : i ≡ m) where
-        pub frames-many : 65536 < m / length ws → Refused 5 ≡ bandAnswer (setRefusal ws cs m i) (framesOf ws m)
+        pub frames-many : 65536 < m / length ws → Refused 5 ≡ bandedOf (setRefusal ws cs m i) (framesOf ws m)
         unfolding setRefusal
         frames-many h = rw (z, eq-eqb (m % length ws) 0 q, eq-eqb i m e, lt-ltb 65536 (m / length ws) h)
 
-        pub frames-few : m / length ws ≤ 65536 → Done (m / length ws) ≡ bandAnswer (setRefusal ws cs m i) (framesOf ws m)
+        pub frames-few : m / length ws ≤ 65536 → Done (m / length ws) ≡ bandedOf (setRefusal ws cs m i) (framesOf ws m)
         unfolding setRefusal
         frames-few h = rw (z, eq-eqb (m % length ws) 0 q, eq-eqb i m e, le-ltb 65536 (m / length ws) h)
 
-pub passed : (k n m : ℕ) → bandAnswer k n ≡ Done m → (k ≡ 0) × (n ≡ m)
+pub passed : (k n m : ℕ) → bandedOf k n ≡ Done m → (k ≡ 0) × (n ≡ m)
 passed zero n m e = (refl, cc)
 passed (suc k) n m e = let z : _≡_ {A = ℕ} 0 1 = cc in absurd (omega arith)
 
@@ -133,9 +134,9 @@ module _ (ws : List ℕ) (cs ms us A R : List Float) where
   refusal = bandRefusal ws cs ms us A R
 
   refuses : (k : ℕ) → refusal ≡ suc k → BandSays ws cs ms us A R (Refused (suc k)) A R
-  refuses k e = record { number = sym e; values = rw e; matrix = rw e; side = rw e }
+  refuses k e = record { answer = refused-as k _ _ e; matrix = rw e; side = rw e }
 
-  pub band-stops : (K j : ℕ) (r : Banded) → setRefusal ws cs (length ms) (length us) ≡ K → r ≡ bandAnswer K n → r ≡ Refused j → BandSays ws cs ms us A R r A R
+  pub band-stops : (K j : ℕ) (r : Banded) → setRefusal ws cs (length ms) (length us) ≡ K → r ≡ bandedOf K n → r ≡ Refused j → BandSays ws cs ms us A R r A R
   unfolding bandRefusal
   band-stops zero j r e a b = let z : _≡_ {A = ℕ} 0 1 = cc in absurd (omega arith)
   band-stops (suc k) j r e a b = rw a (refuses k (rw e))
@@ -157,8 +158,7 @@ module _ (ws : List ℕ) (cs ms us A R : List Float) where
       band-done : n ≤ length R → (X Y : List Float) → X ≡ bandRows ws cs n us (bandWidth ws) → Y ≡ rightSide ws cs n us ms
           → BandSays ws cs ms us A R (Done n) (X ++ drop (n * bandWidth ws) A) (Y ++ drop n R)
       band-done g X Y e o = record {
-        number = sym (none g);
-        values = rw (none g);
+        answer = accepted _ _ _ (none g) refl;
         matrix = rw (none g, e, matrix-length ws cs n us ms (bandWidth ws));
         side = rw (none g, o, side-length ws cs n us ms (bandWidth ws));
       }
@@ -169,13 +169,13 @@ module _ (ws : List ℕ) (cs ms us A R : List Float) where
 
 -- ---- one outcome
 
-pub banded-one : (x y : Banded) → bandNumber x ≡ bandNumber y → bandValues x ≡ bandValues y → x ≡ y
-banded-one (Done m) (Done n) e o = cc
-banded-one (Done m) (Refused k) e o = let z : _≡_ {A = ℕ} 0 1 = cc in absurd (omega arith)
-banded-one (Refused j) (Done n) e o = let z : _≡_ {A = ℕ} 0 1 = cc in absurd (omega arith)
-banded-one (Refused j) (Refused k) e o = cc
+pub banded-one : (x y : Banded) → Same (banded x) (banded y) → x ≡ y
+banded-one (Done m) (Done n) e = let v = e .1 in cc
+banded-one (Done m) (Refused k) e = let v = e .1 in let z : _≡_ {A = ℕ} 0 1 = cc in absurd (omega arith)
+banded-one (Refused j) (Done n) e = let v = e .1 in let z : _≡_ {A = ℕ} 0 1 = cc in absurd (omega arith)
+banded-one (Refused j) (Refused k) e = ap Refused (e .0)
 
 pub band-one : (ws : List ℕ) (cs ms us A R : List Float) (x y : Banded) (A₁ R₁ A₂ R₂ : List Float)
     → BandSays ws cs ms us A R x A₁ R₁ → BandSays ws cs ms us A R y A₂ R₂ → (x ≡ y) × (A₁ ≡ A₂) × (R₁ ≡ R₂)
 band-one ws cs ms us A R x y A₁ R₁ A₂ R₂ a b =
-    (banded-one x y (a .number ∙ sym (b .number)) (a .values ∙ sym (b .values)), a .matrix ∙ sym (b .matrix), a .side ∙ sym (b .side))
+    (banded-one x y (same (a .answer ∙ sym (b .answer))), a .matrix ∙ sym (b .matrix), a .side ∙ sym (b .side))

@@ -3,25 +3,25 @@ use mathlib.Core.Path.{_≡_, refl, sym, ap, _∙_}
 use mathlib.Core.Bool.{Bool}
 use mathlib.Core.Logic.{_≢_, ⊎-elim}
 use mathlib.Core.List.{List, [], _∷_}
-use Prim.Native.Nat.{ℕ, zero, suc, _+_, _-_, _*_, _/_, _%_, _<_, _≤_}
-use native.Mathlib.Nat.{suc-mul, zero-mul, div-add-mod', mod-lt, mod-eq-of-lt, add-mul-mod-self-right, div-lt-iff-lt-mul, add-sub-cancel-left}
+use Prim.Native.Nat.{ℕ, zero, suc, _+_, _*_, _/_, _%_, _<_, _≤_}
+use native.Mathlib.Nat.{suc-mul, zero-mul, div-add-mod', mod-lt, mod-eq-of-lt, add-mul-mod-self-right, div-lt-iff-lt-mul, add-zero, add-comm}
 use native.Mathlib.Omega.{arith}
-use lib.ListN.{length, getD, set, take, drop, length-set}
+use lib.ListN.{length, getD, set, drop, length-set}
 use lib.Seq.{getD-set-same, getD-set-other}
 use lib.Ieee.{Float, nan}
 use Rattle.lists.specs.Totals.{total}
 use Rattle.lists.specs.Build.{build}
 use Rattle.lists.proofs.Numbers.{le-or-lt}
-use Rattle.mlpg_adjust.specs.Frames.{fill, setsBy}
+use Rattle.mlpg_adjust.specs.Frames.{fill, count, setsBy, setsLanes}
 use Rattle.mlpg_adjust.specs.Rows.{elem, part}
 use Rattle.mlpg_adjust.specs.Region.{regionOf}
 use Rattle.mlpg_adjust.specs.Trajectory.{streamMask}
 use Rattle.mlpg_adjust.specs.TrajectoryInner.{Columned}
 use Rattle.mlpg_adjust.specs.declared.mask.Voicing.{Voicing}
-use Rattle.mlpg_adjust.proofs.Builds.{build-is}
+use Rattle.lists.proofs.Builds.{build-is}
 use Rattle.mlpg_adjust.proofs.Readings.{part-part}
 use Rattle.mlpg_adjust.proofs.MaskClosing.{mask-long}
-use Rattle.mlpg_adjust.proofs.MaskFilling.{sets-by-length, fill-length}
+use Rattle.mlpg_adjust.proofs.MaskFilling.{sets-by-length, lanes-length, fill-length, fill-front}
 
 -- ---- one column, from place q on
 
@@ -72,16 +72,26 @@ module _ (f : ℕ → List Float) (v n : ℕ) (out : List Float) (long : length 
   pub columned-all : 0 < v → Columned f v v out → out ≡ build (λ p. elem (f (p % v)) (p / v)) (n * v)
   columned-all b k = build-is (λ p. elem (f (p % v)) (p / v)) (n * v) out nan long (λ j h. k .stands j (omega arith) (mod-lt j b))
 
--- ---- the values of component c + l, which its region holds, are filled back
+-- ---- several columns side by side, from column c on
 
-pub column-filled : (u : Voicing) (v : ℕ) (records : List Float) (ds : List ℕ) (none : Float) (values n size o l c : ℕ) (work out out′ : List Float) (f : ℕ → List Float)
-    → o ≡ l * size → values + n ≤ size → c + l < v → length out ≡ total ds * v
-    → f (c + l) ≡ fill none (streamMask (u .size) records (u .threshold) ds) (part values n (regionOf size l work)) → Columned f v (c + l) out
-    → out′ ≡ setsBy v (c + l) (fill none (streamMask (u .size) records (u .threshold) ds) (take (o + values + n - (o + values)) (drop (o + values) work))) out
-    → Columned f v (c + (l + 1)) out′
-column-filled u v records ds none values n size o l c work out out′ f e r h long q k w =
+module _ (f : ℕ → List Float) (v n c : ℕ) (xs : ℕ → List Float) (out : List Float) (long : length out ≡ n * v) (k : Columned f v c out) where
+  columned-lanes : (lanes : ℕ) → c + lanes ≤ v → ((l : ℕ) → l < lanes → f (c + l) ≡ xs l) → ((l : ℕ) → length (xs l) ≡ n) → Columned f v (c + lanes) (setsLanes v c xs lanes out)
+  unfolding setsLanes
+  columned-lanes zero b h e = rw add-zero k
+  columned-lanes (suc l) b h e =
+      let z : c + suc l ≡ c + l + 1 = omega arith in
+      let s : f (c + l) ≡ xs l = h l (omega arith) in
+      rw (z, ← s)
+      (columned-next f v n (setsLanes v c xs l out) (lanes-length v c xs l out ∙ long) (c + l) (omega arith) (ap length s ∙ e l) (columned-lanes l (omega arith) (λ j g. h j (omega arith)) e))
+
+-- the values of components, which their regions hold, are filled back
+pub columned-filled : (u : Voicing) (v : ℕ) (records : List Float) (ds : List ℕ) (none : Float) (values n size lanes c : ℕ) (work out out′ : List Float) (f : ℕ → List Float)
+    → values + n ≤ size → n ≡ count (streamMask (u .size) records (u .threshold) ds) → c + lanes ≤ v → length out ≡ total ds * v
+    → ((l : ℕ) → l < lanes → f (c + l) ≡ fill none (streamMask (u .size) records (u .threshold) ds) (part values n (regionOf size l work))) → Columned f v c out
+    → out′ ≡ setsLanes v c (λ l. fill none (streamMask (u .size) records (u .threshold) ds) (drop (values + l * size) work)) lanes out → Columned f v (c + lanes) out′
+columned-filled u v records ds none values n size lanes c work out out′ f r m h long q k w =
     let mask : List Bool = streamMask (u .size) records (u .threshold) ds in
-    let z : c + (l + 1) ≡ c + l + 1 = omega arith in
-    let m : f (c + l) ≡ fill none mask (take (o + values + n - (o + values)) (drop (o + values) work)) = q ∙ rw (add-sub-cancel-left (o + values) n, e) (ap (fill none mask) (part-part values n (l * size) size work r)) in
-    let i : length (f (c + l)) ≡ total ds = ap length q ∙ fill-length none mask _ ∙ mask-long u records ds in
-    rw (z, w, ← m) (columned-next f v (total ds) out long (c + l) h i k)
+    rw w
+    (columned-lanes f v (total ds) c (λ l. fill none mask (drop (values + l * size) work)) out long k lanes h
+    (λ l i. q l i ∙ rw (part-part values n (l * size) size work r, add-comm values (l * size)) (fill-front none mask (drop (l * size + values) work) n (omega arith)))
+    (λ l. fill-length none mask _ ∙ mask-long u records ds))

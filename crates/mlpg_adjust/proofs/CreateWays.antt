@@ -18,7 +18,8 @@ use Rattle.lists.proofs.Fills.{build-length}
 use Rattle.model.specs.Windows.{widthsFit, allFinite, windowRefusal}
 use Rattle.model.proofs.Windows.{fit-some, fit-few}
 use Rattle.mlpg_adjust.specs.Trajectory.{recordSize, gvOn, sizeOf, trajectory, numbersOf}
-use Rattle.mlpg_adjust.specs.TrajectoryPromise.{outOfRange, gvDisagrees, disagree, short, createRefusal, written, zeroFloats, zeroMarks, CreateSays}
+use Rattle.lists.specs.Answers.{written}
+use Rattle.mlpg_adjust.specs.TrajectoryPromise.{outOfRange, gvDisagrees, disagree, short, createRefusal, zeroFloats, zeroMarks, CreateSays}
 use Rattle.mlpg_adjust.specs.TrajectoryInner.{Shaped, Room}
 use Rattle.mlpg_adjust.specs.declared.Stream.{Stream}
 use Rattle.mlpg_adjust.specs.declared.Created.the-variants.{Done, Refused}

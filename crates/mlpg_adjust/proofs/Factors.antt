@@ -16,9 +16,10 @@ use Rattle.lists.proofs.Rows.{row-in}
 use Rattle.mlpg_adjust.specs.Rows.{elem, part, row, rows}
 use Rattle.mlpg_adjust.specs.Solve.{reach, reduced, factorAt, factor, forwardTerm, forwardAt, forward, backwardAt, backward}
 use Rattle.mlpg_adjust.proofs.Orders.{less-same}
-use Rattle.mlpg_adjust.proofs.Builds.{build-same}
+use Rattle.lists.proofs.Builds.{build-same}
 use Rattle.mlpg_adjust.proofs.Readings.{part-elem, read-under}
-use Rattle.mlpg_adjust.proofs.Regions.{stored-behind, stored-rule, build-first}
+use Rattle.lists.proofs.Regions.{stored-behind, stored-rule}
+use Rattle.lists.proofs.Builds.{build-first}
 
 -- ---- row t of the factors is stored behind the t rows at `factors` of M, from row t at `rows`
 

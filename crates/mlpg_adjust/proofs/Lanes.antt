@@ -11,9 +11,8 @@ use lib.Seq.{sets, length-sets}
 use lib.Ieee.{Float}
 use Rattle.lists.proofs.Numbers.{le-or-lt}
 use Rattle.lists.proofs.Rows.{row-fits}
-use Rattle.mlpg_adjust.specs.Rows.{part}
 use Rattle.mlpg_adjust.specs.Region.{regionOf}
-use Rattle.mlpg_adjust.proofs.Regions.{returned, stored-whole, stored-behind, stored-before}
+use Rattle.lists.proofs.Regions.{returned, stored-whole, stored-behind, stored-before}
 
 -- region l lies within the list
 pub region-fits : (size lanes l : ℕ) (m : List Float) → l < lanes → lanes * size ≤ length m → l * size + size ≤ length m

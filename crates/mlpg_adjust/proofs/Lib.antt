@@ -2,15 +2,12 @@
 pub mod MaskLaws
 pub mod MaskTheory
 pub mod MaskClosing
-pub mod MaskWindows
 pub mod MaskFilling
 pub mod MaskWays
 pub mod Orders
-pub mod Builds
 pub mod Terms
 pub mod Windows
 pub mod Readings
-pub mod Regions
 pub mod Along
 pub mod Taps
 pub mod Passing
@@ -18,6 +15,9 @@ pub mod Factors
 pub mod Standings
 pub mod Three
 pub mod Lanes
+pub mod MaskRuns
+pub mod MaskStates
+pub mod MaskGroups
 pub mod Switches
 pub mod Turns
 pub mod BandWays

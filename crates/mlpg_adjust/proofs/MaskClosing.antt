@@ -1,27 +1,26 @@
 -- Closing up: what the loops over states do at each turn, and that closing up along the frames is by the distances. Assumes nothing.
 use mathlib.Core.Path.{_≡_, refl, sym, ap, _∙_}
 use mathlib.Core.Bool.{Bool, true, false}
-use mathlib.Core.List.{List, [], _∷_, _++_, map}
+use mathlib.Core.List.{List, [], _∷_, _++_, append-assoc, append-nil, map}
 use Prim.Native.Nat.{ℕ, zero, suc, _+_, _-_, _*_, _<_, _≤_}
-use native.Mathlib.Nat.{add-sub-cancel-left}
-use native.Mathlib.Numerals.{add-one}
 use native.Mathlib.Omega.{arith}
 use borrow.Author.Tests.{le-ltb}
 use borrow.Rule.Slice.PartMut.{midOf, putMid, same-len-mid}
 use lib.ListN.{length, take, drop, getD, replicate, length-drop, length-map, length-replicate, take-append-drop, drop-of-length-le, List·getD-map}
-use lib.Seq.{sets, drop-append-add, drop-cons, drop-drop, length-take-le, take-all, take-at}
+use lib.Seq.{sets, drop-append-add, drop-drop, length-take-le, take-all, take-at}
 use lib.Ieee.{Float, nan}
 use Rattle.lists.specs.Totals.{total}
 use Rattle.lists.proofs.Sums.{total-append, total-more}
-use Rattle.lists.proofs.Fills.{finished, build-length}
+use Rattle.lists.proofs.Fills.{build-length}
 use Rattle.model.specs.Pair.{ivarOf}
 use Rattle.model.specs.Weight.{voicedAt}
 use Rattle.model.specs.declared.voice.model.Weight.the-variants.{Absent}
 use Rattle.mlpg_adjust.specs.declared.mask.Voicing.{Voicing}
 use Rattle.mlpg_adjust.specs.Frames.{expand, select, count}
 use Rattle.mlpg_adjust.specs.MaskVoicing.{maskOf, weightAt, weightsOf, column}
-use Rattle.mlpg_adjust.specs.MaskBoundaries.{ahead, lefts, rights, shut, closeUp, shutAll}
-use Rattle.mlpg_adjust.proofs.MaskLaws.{build-at, expand-next, part-put, part-length, part-filled}
+use Rattle.mlpg_adjust.specs.MaskBoundaries.{ahead, lefts, rights, shut, closeUp}
+use Rattle.lists.proofs.Builds.{build-at}
+use Rattle.mlpg_adjust.proofs.MaskLaws.{expand-next, part-put, part-length, part-filled}
 use Rattle.mlpg_adjust.proofs.MaskTheory.{expand-length, lefts-length, rights-length, weights-length, weights-at}
 
 -- ---- a state's frames
@@ -85,14 +84,48 @@ count-most [] = omega arith
 count-most (true ∷ bs) = omega (arith, count-most bs)
 count-most (false ∷ bs) = omega (arith, count-most bs)
 
--- ---- the voiced frames of the first s states are closed up, k of them: bs is the mask and ys the frames' items
+-- ---- the voiced frames of the first s states are closed up: bs is the mask and ys the frames' items
 
+module _ {A : Type 0} (ds : List ℕ) (ys : List A) (s : ℕ) (t : s < length ds) (y : length ys ≡ total ds) where
+  state-rest : drop (getD ds s 0) (drop (frame ds s) ys) ≡ drop (frame ds (s + 1)) ys
+  state-rest = drop-drop (getD ds s 0) (frame ds s) ys ∙ rw (frame-next ds s t)
+
+  state-far : getD ds s 0 ≤ length (drop (frame ds s) ys)
+  state-far = rw length-drop (omega (arith, frame-next ds s t, total-most ds (s + 1)))
+
+  state-length : (d : ℕ) → d ≡ getD ds s 0 → length (take d (drop (frame ds s) ys)) ≡ d
+  state-length d e = length-take-le d (drop (frame ds s) ys) (rw e state-far)
+
+module _ {A : Type 0} (bs : List Bool) (ds : List ℕ) (ys done : List A) (s : ℕ) where
+  -- what is done, with what is to come, is the whole
+  abbrev pub ClosedUp : Type 0
+  ClosedUp = done ++ select (drop (frame ds s) bs) (drop (frame ds s) ys) ≡ select bs ys
+
+  module _ (i : ClosedUp) where
+    pub closed-all : length bs ≡ total ds → length ds ≤ s → done ≡ select bs ys
+    unfolding select
+    closed-all e h =
+        let f : frame ds s ≡ total ds = ap total (take-all s ds h) in
+        let l : length bs ≤ frame ds s = omega arith in
+        let b : drop (frame ds s) bs ≡ [] = drop-of-length-le bs l in
+        sym (append-nil done) ∙ rw b at i
+
+    module _ (t : s < length ds) (y : length ys ≡ total ds) where
+      pub closed-off : drop (frame ds s) bs ≡ replicate (getD ds s 0) false ++ drop (frame ds (s + 1)) bs → done ++ select (drop (frame ds (s + 1)) bs) (drop (frame ds (s + 1)) ys) ≡ select bs ys
+      closed-off b = rw (← state-rest ds ys s t y, ← select-off (getD ds s 0) (drop (frame ds (s + 1)) bs) (drop (frame ds s) ys) (state-far ds ys s t y), ← b) i
+
+      pub closed-on : (d : ℕ) (w : List A) → drop (frame ds s) bs ≡ replicate (getD ds s 0) true ++ drop (frame ds (s + 1)) bs → d ≡ getD ds s 0 → w ≡ take d (drop (frame ds s) ys)
+          → (done ++ w) ++ select (drop (frame ds (s + 1)) bs) (drop (frame ds (s + 1)) ys) ≡ select bs ys
+      closed-on d w b e o =
+          rw (append-assoc, o, e, ← state-rest ds ys s t y, ← select-on (getD ds s 0) (drop (frame ds (s + 1)) bs) (drop (frame ds s) ys) (state-far ds ys s t y), ← b) i
+
+-- the same in front of a list, k of them
 module _ {A : Type 0} where
   pub record Closing (bs : List Bool) (ds : List ℕ) (ys old out : List A) (s k : ℕ) : Type 0 where
     pub within : s ≤ length ds
     pub long : length out ≡ length old
     pub room : k + count (drop (frame ds s) bs) ≡ length old
-    pub done : take k out ++ select (drop (frame ds s) bs) (drop (frame ds s) ys) ≡ select bs ys
+    pub done : ClosedUp bs ds ys (take k out) s
 
   pub closing : (bs : List Bool) (ds : List ℕ) (ys old : List A) → length old ≡ count bs → Closing bs ds ys old old 0 0
   unfolding total
@@ -100,46 +133,36 @@ module _ {A : Type 0} where
 
   module _ (bs : List Bool) (ds : List ℕ) (ys old out : List A) (s k : ℕ) (i : Closing bs ds ys old out s k) where
     pub closed : length bs ≡ total ds → length ds ≤ s → out ≡ select bs ys
-    unfolding select count
+    unfolding count
     closed e h =
         let f : frame ds s ≡ total ds = ap total (take-all s ds h) in
         let l : length bs ≤ frame ds s = omega arith in
-        let b : drop (frame ds s) bs ≡ [] = drop-of-length-le bs l in
-        let c : count (drop (frame ds s) bs) ≡ 0 = rw b in
-        finished out k _ _ (omega (arith, i .room, i .long)) (rw b) (i .done)
+        let c : count (drop (frame ds s) bs) ≡ 0 = rw (drop-of-length-le bs l) in
+        sym (take-all k out (omega (arith, i .room, i .long))) ∙ closed-all bs ds ys (take k out) s (i .done) e h
 
     module _ (t : s < length ds) (y : length ys ≡ total ds) where
-      ends : frame ds s + getD ds s 0 ≤ length ys
-      ends = omega (arith, frame-next ds s t, total-most ds (s + 1))
-
-      rest : drop (getD ds s 0) (drop (frame ds s) ys) ≡ drop (frame ds (s + 1)) ys
-      rest = drop-drop (getD ds s 0) (frame ds s) ys ∙ rw (frame-next ds s t)
-
-      far : getD ds s 0 ≤ length (drop (frame ds s) ys)
-      far = rw length-drop (omega (arith, ends))
-
       pub closing-off : drop (frame ds s) bs ≡ replicate (getD ds s 0) false ++ drop (frame ds (s + 1)) bs → Closing bs ds ys old out (s + 1) k
       closing-off b =
           record {
             within = omega arith;
             long = i .long;
             room = omega (arith, i .room, ap count b, count-off (getD ds s 0) (drop (frame ds (s + 1)) bs));
-            done = rw (← rest, ← select-off (getD ds s 0) (drop (frame ds (s + 1)) bs) (drop (frame ds s) ys) far, ← b) (i .done);
+            done = closed-off bs ds ys (take k out) s (i .done) t y b;
           }
 
       module _ (b : drop (frame ds s) bs ≡ replicate (getD ds s 0) true ++ drop (frame ds (s + 1)) bs) where
         pub closing-room : k + getD ds s 0 ≤ length out
         closing-room = omega (arith, i .room, i .long, ap count b, count-on (getD ds s 0) (drop (frame ds (s + 1)) bs))
 
-        pub closing-on : (d : ℕ) (w : List A) → d ≡ getD ds s 0 → w ≡ take d (drop (frame ds s) ys) → Closing bs ds ys old (putMid k (k + d - k) out w) (s + 1) (k + d)
+        closing-on : (d : ℕ) (w : List A) → d ≡ getD ds s 0 → w ≡ take d (drop (frame ds s) ys) → Closing bs ds ys old (putMid k (k + d - k) out w) (s + 1) (k + d)
         closing-on d w e o =
             let r = closing-room in
-            let a : length w ≡ d = rw o (length-take-le d (drop (frame ds s) ys) (rw e far)) in
+            let a : length w ≡ d = ap length o ∙ state-length ds ys s t y d e in
             record {
               within = omega arith;
               long = same-len-mid k (k + d - k) out w (a ∙ sym (part-length out k d (omega arith))) ∙ i .long;
               room = omega (arith, i .room, ap count b, count-on (getD ds s 0) (drop (frame ds (s + 1)) bs));
-              done = part-put out w k d _ _ (omega arith) a (rw (o, e, ← rest, ← select-on (getD ds s 0) (drop (frame ds (s + 1)) bs) (drop (frame ds s) ys) far, ← b) (i .done));
+              done = part-put out w k d _ _ (omega arith) a (rw append-assoc at (closed-on bs ds ys (take k out) s (i .done) t y d w b e o));
             }
 
   -- a state's item at its frames
@@ -229,6 +252,12 @@ ivars-at size records j n s h = List·getD-map ivarOf (column size records j n) 
 
 -- ---- the boundaries: closing up along the frames is by the distances, frame by frame
 
+unfoldable pub shutAll : ℕ → ℕ → List ℕ → List ℕ → List Float → List Float
+shutAll before after [] rs vs = []
+shutAll before after (l ∷ ls) [] vs = []
+shutAll before after (l ∷ ls) (r ∷ rs) [] = []
+shutAll before after (l ∷ ls) (r ∷ rs) (v ∷ vs) = shut before after l r v ∷ shutAll before after ls rs vs
+
 pub close-select : (before after l : ℕ) (bs : List Bool) (vs : List Float) → closeUp before after l bs vs ≡ select bs (shutAll before after (lefts l bs) (rights bs) vs)
 unfolding closeUp select shutAll lefts rights
 close-select before after l [] vs = refl
@@ -253,52 +282,3 @@ module _ (before after : ℕ) where
   shut-length (l ∷ ls) [] vs a b = absurd (omega arith)
   shut-length (l ∷ ls) (r ∷ rs) [] a b = absurd (omega arith)
   shut-length (l ∷ ls) (r ∷ rs) (v ∷ vs) a b = ap suc (shut-length ls rs vs (omega arith) (omega arith))
-
-  pub shut-drop : (f : ℕ) (ls rs : List ℕ) (vs : List Float) → length rs ≡ length ls → length vs ≡ length ls → drop f (shutAll before after ls rs vs) ≡ shutAll before after (drop f ls) (drop f rs) (drop f vs)
-  unfolding shutAll
-  shut-drop zero ls rs vs a b = refl
-  shut-drop (suc f) [] rs vs a b = refl
-  shut-drop (suc f) (l ∷ ls) [] vs a b = absurd (omega arith)
-  shut-drop (suc f) (l ∷ ls) (r ∷ rs) [] a b = absurd (omega arith)
-  shut-drop (suc f) (l ∷ ls) (r ∷ rs) (v ∷ vs) a b = shut-drop f ls rs vs (omega arith) (omega arith)
-
-  pub shut-take : (d : ℕ) (ls rs : List ℕ) (vs : List Float) → length rs ≡ length ls → length vs ≡ length ls → take d (shutAll before after ls rs vs) ≡ shutAll before after (take d ls) (take d rs) (take d vs)
-  unfolding shutAll
-  shut-take zero ls rs vs a b = refl
-  shut-take (suc d) [] rs vs a b = refl
-  shut-take (suc d) (l ∷ ls) [] vs a b = absurd (omega arith)
-  shut-take (suc d) (l ∷ ls) (r ∷ rs) [] a b = absurd (omega arith)
-  shut-take (suc d) (l ∷ ls) (r ∷ rs) (v ∷ vs) a b = ap (λ (k : List Float). shut before after l r v ∷ k) (shut-take d ls rs vs (omega arith) (omega arith))
-
-  -- one state's inverse variance v, at one frame more
-  pub shut-next : (ls rs : List ℕ) (v : Float) (j n : ℕ) → j < n → j < length ls → j < length rs
-      → shutAll before after (drop j ls) (drop j rs) (replicate (n - j) v) ≡ shut before after (getD ls j 0) (getD rs j 0) v ∷ shutAll before after (drop (j + 1) ls) (drop (j + 1) rs) (replicate (n - (j + 1)) v)
-  unfolding shutAll
-  shut-next ls rs v j n h a b =
-      let z : n - j ≡ suc (n - (j + 1)) = omega arith in
-      rw (z, drop-cons ls j 0 a, drop-cons rs j 0 b, add-one)
-
-  pub shut-start : (ls rs : List ℕ) (v : Float) (n : ℕ) → shutAll before after ls rs (replicate (n - 0) v) ≡ shutAll before after ls rs (replicate n v)
-  shut-start ls rs v n = let z : n - 0 ≡ n = omega arith in rw z
-
-  pub shut-none : (ls rs : List ℕ) (vs : List Float) (j : ℕ) → length ls ≤ j → shutAll before after (drop j ls) (drop j rs) vs ≡ []
-  unfolding shutAll
-  shut-none ls rs vs j h = rw (drop-of-length-le ls h)
-
-  -- a voiced state's frames, by their distances
-  pub closing-shut : (bs : List Bool) (ds ls rs : List ℕ) (xs old out : List Float) (s k : ℕ) → Closing bs ds (shutAll before after ls rs (expand ds xs)) old out s k → s < length ds
-      → length xs ≡ length ds → length ls ≡ total ds → length rs ≡ total ds → drop (frame ds s) bs ≡ replicate (getD ds s 0) true ++ drop (frame ds (s + 1)) bs
-      → (d f : ℕ) (x z : Float) (w : List Float) → d ≡ getD ds s 0 → f ≡ frame ds s → x ≡ getD xs s z
-      → w ≡ shutAll before after (midOf f (f + d - f) ls) (midOf f (f + d - f) rs) (replicate (length (midOf k (k + d - k) out)) x)
-      → Closing bs ds (shutAll before after ls rs (expand ds xs)) old (putMid k (k + d - k) out w) (s + 1) (k + d)
-  closing-shut bs ds ls rs xs old out s k i t e a c b d f x z w o p q r =
-      let v = expand-length ds xs e in
-      let y : length (shutAll before after ls rs (expand ds xs)) ≡ total ds = shut-length ls rs (expand ds xs) (c ∙ sym a) (v ∙ sym a) ∙ a in
-      let room : k + d ≤ length out = omega (arith, closing-room bs ds _ old out s k i t y b) in
-      let m : f + d - f ≡ d = add-sub-cancel-left f d in
-      let n = part-length out k d room in
-      let g : length (drop f rs) ≡ length (drop f ls) = simp (length-drop, a, c) in
-      let h : length (drop f (expand ds xs)) ≡ length (drop f ls) = simp (length-drop, a, v) in
-      let j = items-at ds xs s d x z e t o q in
-      closing-on bs ds _ old out s k i t y b d w o
-      (r ∙ rw (m, n, j, ← p, ← shut-take d (drop f ls) (drop f rs) (drop f (expand ds xs)) g h, ← shut-drop f ls rs (expand ds xs) (c ∙ sym a) (v ∙ sym a)))

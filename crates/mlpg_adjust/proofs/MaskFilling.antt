@@ -1,16 +1,17 @@
 -- Filling back: what the loops do at each turn. Assumes nothing.
 use mathlib.Core.Path.{_≡_, refl, sym, ap, _∙_}
 use mathlib.Core.Bool.{Bool, true, false}
-use mathlib.Core.List.{List, [], _∷_, _++_}
-use Prim.Native.Nat.{ℕ, zero, suc, _+_, _-_, _*_, _<_, _≤_}
-use native.Mathlib.Nat.{zero-mul, suc-mul, mul-le-mul-right, add-mul}
+use mathlib.Core.Logic.{_≢_}
+use mathlib.Core.List.{List, [], _∷_, _++_, append-nil}
+use Prim.Native.Nat.{ℕ, zero, suc, _+_, _-_, _*_, _%_, _<_, _≤_}
+use native.Mathlib.Nat.{zero-mul, suc-mul, mul-le-mul-right, add-mul, mod-eq-of-lt, add-mul-mod-self-right}
 use native.Mathlib.Numerals.{add-one}
 use native.Mathlib.Omega.{arith}
 use lib.ListN.{length, take, drop, getD, set, replicate, length-set, length-drop, length-replicate, drop-of-length-le}
-use lib.Seq.{drop-cons, drop-drop, length-take-le, take-all}
+use lib.Seq.{drop-cons, drop-drop, drop-nil, take-all, set-comm}
 use Rattle.lists.specs.Totals.{total}
 use Rattle.lists.proofs.Rows.{row-fits}
-use Rattle.mlpg_adjust.specs.Frames.{fill, count, setsBy}
+use Rattle.mlpg_adjust.specs.Frames.{fill, count, setsBy, setsLanes}
 use Rattle.mlpg_adjust.proofs.MaskClosing.{frame, frame-next, total-most, count-on, count-off}
 
 -- ---- the places of a column: j of d are done, and q is the next
@@ -20,6 +21,12 @@ column-next p q j v e = rw add-one (omega (arith, suc-mul j v))
 
 pub column-in : (p q j d v n : ℕ) → q ≡ p + j * v → j < d → p + d * v < n + v → q < n
 column-in p q j d v n e h l = omega (arith, row-fits v j d h)
+
+-- a lane's places are no other lane's
+lane-other : (v m n i j : ℕ) → m < n → n < v → n + i * v ≢ m + j * v
+lane-other v m n i j h b e =
+    let same : n ≡ m = sym (add-mul-mod-self-right n i v ∙ mod-eq-of-lt b) ∙ ap (λ (x : ℕ). x % v) e ∙ add-mul-mod-self-right m j v ∙ mod-eq-of-lt (omega arith) in
+    omega arith
 
 module _ {A : Type 0} where
   pub sets-by-length : (v p : ℕ) (xs out : List A) → length (setsBy v p xs out) ≡ length out
@@ -55,18 +62,75 @@ module _ {A : Type 0} where
   unfolding setsBy
   spread-done v q j d x out whole h e = let z : d - j ≡ 0 = omega arith in rw z at e
 
+  -- ---- lane after lane
+
+  -- a column and a number at none of its places may be stored in either order, and so may two columns
+  column-set : (v p q : ℕ) (xs out : List A) (y : A) → ((i : ℕ) → p + i * v ≢ q) → setsBy v p xs (set out q y) ≡ set (setsBy v p xs out) q y
+  unfolding setsBy
+  column-set v p q [] out y h = refl
+  column-set v p q (x ∷ xs) out y h =
+      rw (set-comm out q p y x (λ e. h 0 (omega (arith, e, zero-mul v))))
+      (column-set v (p + v) q xs (set out p x) y (λ i e. h (suc i) (omega (arith, e, suc-mul i v))))
+
+  column-swap : (v p q : ℕ) (xs ys out : List A) → ((i j : ℕ) → p + i * v ≢ q + j * v) → setsBy v p xs (setsBy v q ys out) ≡ setsBy v q ys (setsBy v p xs out)
+  unfolding setsBy
+  column-swap v p q xs [] out h = refl
+  column-swap v p q xs (y ∷ ys) out h =
+      column-swap v p (q + v) xs ys (set out q y) (λ i j e. h i (suc j) (omega (arith, e, suc-mul j v)))
+      ∙ rw (column-set v p q xs out y (λ i e. h i 0 (omega (arith, e, zero-mul v))))
+
+  pub lanes-length : (v p : ℕ) (xs : ℕ → List A) (n : ℕ) (out : List A) → length (setsLanes v p xs n out) ≡ length out
+  unfolding setsLanes
+  lanes-length v p xs zero out = refl
+  lanes-length v p xs (suc n) out = sets-by-length v (p + n) (xs n) (setsLanes v p xs n out) ∙ lanes-length v p xs n out
+
+  pub lanes-next : (v p : ℕ) (xs : ℕ → List A) (l : ℕ) (old out w : List A) → out ≡ setsLanes v p xs l old → w ≡ setsBy v (p + l) (xs l) out → w ≡ setsLanes v p xs (l + 1) old
+  unfolding setsLanes
+  lanes-next v p xs l old out w i e = rw (add-one, ← i) e
+
+  pub lanes-done : (v p : ℕ) (xs : ℕ → List A) (l lanes : ℕ) (old out : List A) → l ≤ lanes → lanes ≤ l → out ≡ setsLanes v p xs l old → out ≡ setsLanes v p xs lanes old
+  lanes-done v p xs l lanes old out h g i = let e : lanes ≡ l = omega arith in rw e i
+
+  lanes-same : (v p : ℕ) (xs ys : ℕ → List A) (n : ℕ) (out : List A) → ((l : ℕ) → l < n → xs l ≡ ys l) → setsLanes v p xs n out ≡ setsLanes v p ys n out
+  unfolding setsLanes
+  lanes-same v p xs ys zero out h = refl
+  lanes-same v p xs ys (suc n) out h = rw (h n (omega arith), lanes-same v p xs ys n out (λ l b. h l (omega arith)))
+
+  lanes-empty : (v p n : ℕ) (out : List A) → setsLanes v p (λ l. []) n out ≡ out
+  unfolding setsLanes setsBy
+  lanes-empty v p zero out = refl
+  lanes-empty v p (suc n) out = lanes-empty v p n out
+
+  -- a lane's column and those of the lanes before it may be stored in either order
+  lane-swap : (v p q : ℕ) (xs : List A) (ys : ℕ → List A) (m n : ℕ) (out : List A) → m ≤ n → n < v
+      → setsBy v (p + n) xs (setsLanes v (p + q * v) ys m out) ≡ setsLanes v (p + q * v) ys m (setsBy v (p + n) xs out)
+  unfolding setsLanes
+  lane-swap v p q xs ys zero n out h b = refl
+  lane-swap v p q xs ys (suc m) n out h b =
+      column-swap v (p + n) (p + q * v + m) xs (ys m) (setsLanes v (p + q * v) ys m out) (λ i j e. lane-other v m n i (q + j) (omega arith) b (omega (arith, e, add-mul q j v)))
+      ∙ rw (lane-swap v p q xs ys m n out (omega arith) b)
+
+  -- the first d numbers of every lane, and then the others
+  lanes-append : (v p d : ℕ) (xs ys : ℕ → List A) (n : ℕ) (out : List A) → n ≤ v → ((l : ℕ) → length (xs l) ≡ d)
+      → setsLanes v p (λ l. xs l ++ ys l) n out ≡ setsLanes v (p + d * v) ys n (setsLanes v p xs n out)
+  unfolding setsLanes
+  lanes-append v p d xs ys zero out b h = refl
+  lanes-append v p d xs ys (suc n) out b h =
+      let z : p + n + d * v ≡ p + d * v + n = omega arith in
+      rw (lanes-append v p d xs ys n out (omega arith) h, sets-by-append, h n, lane-swap v p d (xs n) ys n n (setsLanes v p xs n out) (omega arith) (omega arith), z)
+
   -- ---- frames that are voiced or unvoiced together
 
-  fill-off : (none : A) (d : ℕ) (bs : List Bool) (xs : List A) → fill none (replicate d false ++ bs) xs ≡ replicate d none ++ fill none bs xs
+  fill-off : (none : A) (d : ℕ) (xs : List A) → fill none (replicate d false) xs ≡ replicate d none
   unfolding fill
-  fill-off none zero bs xs = refl
-  fill-off none (suc d) bs xs = ap (λ (l : List A). none ∷ l) (fill-off none d bs xs)
+  fill-off none zero xs = refl
+  fill-off none (suc d) xs = ap (λ (l : List A). none ∷ l) (fill-off none d xs)
 
-  fill-on : (none : A) (d : ℕ) (bs : List Bool) (xs : List A) → d ≤ length xs → fill none (replicate d true ++ bs) xs ≡ take d xs ++ fill none bs (drop d xs)
+  fill-on : (none : A) (d : ℕ) (xs : List A) → d ≤ length xs → fill none (replicate d true) xs ≡ take d xs
   unfolding fill
-  fill-on none zero bs xs h = refl
-  fill-on none (suc d) bs [] h = absurd (omega arith)
-  fill-on none (suc d) bs (x ∷ xs) h = ap (λ (l : List A). x ∷ l) (fill-on none d bs xs (omega arith))
+  fill-on none zero xs h = refl
+  fill-on none (suc d) [] h = absurd (omega arith)
+  fill-on none (suc d) (x ∷ xs) h = ap (λ (l : List A). x ∷ l) (fill-on none d xs (omega arith))
 
   pub fill-length : (none : A) (bs : List Bool) (xs : List A) → length (fill none bs xs) ≡ length bs
   unfolding fill
@@ -75,58 +139,108 @@ module _ {A : Type 0} where
   fill-length none (true ∷ bs) [] = ap suc (fill-length none bs [])
   fill-length none (true ∷ bs) (x ∷ xs) = ap suc (fill-length none bs xs)
 
-  -- ---- the first s states' frames of one component are filled, k of them voiced: p is the next place
+  -- only as many values are used as frames are voiced
+  pub fill-front : (none : A) (bs : List Bool) (xs : List A) (n : ℕ) → count bs ≤ n → fill none bs (take n xs) ≡ fill none bs xs
+  unfolding fill count
+  fill-front none [] xs n h = refl
+  fill-front none (false ∷ bs) xs n h = ap (λ (l : List A). none ∷ l) (fill-front none bs xs n h)
+  fill-front none (true ∷ bs) xs zero h = absurd (omega arith)
+  fill-front none (true ∷ bs) [] (suc n) h = refl
+  fill-front none (true ∷ bs) (x ∷ xs) (suc n) h = ap (λ (l : List A). x ∷ l) (fill-front none bs xs n (omega arith))
 
-  pub record Filling (none : A) (v c : ℕ) (bs : List Bool) (ds : List ℕ) (values old out : List A) (s p k : ℕ) : Type 0 where
+  fill-append : (none : A) (cs bs : List Bool) (xs : List A) → fill none (cs ++ bs) xs ≡ fill none cs xs ++ fill none bs (drop (count cs) xs)
+  unfolding fill count
+  fill-append none [] bs xs = refl
+  fill-append none (false ∷ cs) bs xs = ap (λ (l : List A). none ∷ l) (fill-append none cs bs xs)
+  fill-append none (true ∷ cs) bs [] = ap (λ (l : List A). none ∷ l) (fill-append none cs bs [] ∙ rw (drop-nil (count cs)))
+  fill-append none (true ∷ cs) bs (x ∷ xs) = ap (λ (l : List A). x ∷ l) (fill-append none cs bs xs)
+
+count-append : (cs bs : List Bool) → count (cs ++ bs) ≡ count cs + count bs
+unfolding count
+count-append [] bs = omega arith
+count-append (true ∷ cs) bs = omega (arith, count-append cs bs)
+count-append (false ∷ cs) bs = count-append cs bs
+
+count-all : (d : ℕ) → count (replicate d true) ≡ d
+unfolding count
+count-all d = omega (arith, ap count (append-nil (replicate d true)), count-on d [])
+
+count-none : (d : ℕ) → count (replicate d false) ≡ 0
+unfolding count
+count-none d = ap count (sym (append-nil (replicate d false))) ∙ count-off d []
+
+-- ---- the frames of a state that is voiced, and of one that is not
+
+pub state-fits : (size d from : ℕ) (y : Bool) → y ≡ true → from + count (replicate d y) ≤ size → from + d ≤ size
+state-fits size d from y e h = rw (e, count-all d) at h
+
+module _ {A : Type 0} (none : A) (v p lanes size d from : ℕ) (work old w : List A) (y : Bool) where
+  pub state-on : y ≡ true → from + count (replicate d y) ≤ size → lanes * size ≤ length work → w ≡ setsLanes v p (λ l. take d (drop (from + l * size) work)) lanes old
+      → (from + d ≡ from + count (replicate d y)) × (w ≡ setsLanes v p (λ l. fill none (replicate d y) (drop (from + l * size) work)) lanes old)
+  state-on e h b o =
+      let f = state-fits size d from y e h in (
+        rw (e, count-all d),
+        o ∙ lanes-same v p _ _ lanes old
+            (λ l g. let r : d ≤ length (drop (from + l * size) work) = rw length-drop (omega (arith, row-fits size l lanes g)) in rw e (sym (fill-on none d (drop (from + l * size) work) r))),
+      )
+
+  pub state-off : y ≡ false → w ≡ setsLanes v p (λ l. replicate d none) lanes old
+      → (from ≡ from + count (replicate d y)) × (w ≡ setsLanes v p (λ l. fill none (replicate d y) (drop (from + l * size) work)) lanes old)
+  state-off e o = (rw (e, count-none d) (omega arith), o ∙ lanes-same v p _ _ lanes old (λ l g. rw e (sym (fill-off none d (drop (from + l * size) work)))))
+
+-- ---- the first s states' frames of the components from c on are filled: p is the next place, and k that of the next values in the first region
+
+module _ {A : Type 0} (none : A) (v c lanes size a : ℕ) (bs : List Bool) (ds : List ℕ) (work old : List A) where
+  pub record Filling (out : List A) (s p k : ℕ) : Type 0 where
     pub within : s ≤ length ds
     pub place : p ≡ frame ds s * v + c
     pub long : length out ≡ length old
-    pub room : k + count (drop (frame ds s) bs) ≡ length values
-    pub done : setsBy v p (fill none (drop (frame ds s) bs) (drop k values)) out ≡ setsBy v c (fill none bs values) old
+    pub room : k + count (drop (frame ds s) bs) ≡ a + count bs
+    pub done : setsLanes v p (λ l. fill none (drop (frame ds s) bs) (drop (k + l * size) work)) lanes out ≡ setsLanes v c (λ l. fill none bs (drop (a + l * size) work)) lanes old
 
-  pub filling : (none : A) (v c : ℕ) (bs : List Bool) (ds : List ℕ) (values old : List A) → length values ≡ count bs → Filling none v c bs ds values old old 0 c 0
+  pub filling : Filling old 0 c a
   unfolding total
-  filling none v c bs ds values old e = record { within = omega arith; place = omega (arith, zero-mul v); long = refl; room = omega arith; done = refl }
+  filling = record { within = omega arith; place = omega (arith, zero-mul v); long = refl; room = refl; done = refl }
 
-  module _ (none : A) (v c : ℕ) (bs : List Bool) (ds : List ℕ) (values old out : List A) (s p k : ℕ) (i : Filling none v c bs ds values old out s p k) where
-    pub filled-back : length bs ≡ total ds → length ds ≤ s → out ≡ setsBy v c (fill none bs values) old
-    unfolding setsBy fill
+  module _ (out : List A) (s p k : ℕ) (i : Filling out s p k) where
+    pub filled-back : length bs ≡ total ds → length ds ≤ s → out ≡ setsLanes v c (λ l. fill none bs (drop (a + l * size) work)) lanes old
+    unfolding fill
     filled-back e h =
         let f : frame ds s ≡ total ds = ap total (take-all s ds h) in
         let l : length bs ≤ frame ds s = omega arith in
-        rw (drop-of-length-le bs l) at (i .done)
+        sym (lanes-empty v p lanes out) ∙ (rw (drop-of-length-le bs l) at (i .done))
 
     module _ (t : s < length ds) where
-      next-place : (d : ℕ) → d ≡ getD ds s 0 → p + d * v ≡ frame ds (s + 1) * v + c
-      next-place d e = omega (arith, i .place, ap (λ (n : ℕ). n * v) (frame-next ds s t), add-mul (frame ds s) (getD ds s 0) v, ap (λ (n : ℕ). n * v) e)
+      next-place : p + getD ds s 0 * v ≡ frame ds (s + 1) * v + c
+      next-place = omega (arith, i .place, ap (λ (n : ℕ). n * v) (frame-next ds s t), add-mul (frame ds s) (getD ds s 0) v)
 
-      pub filling-room : (d : ℕ) → d ≡ getD ds s 0 → c < v → total ds * v ≤ length old → p + d * v < length out + v
-      filling-room d e h l = omega (arith, next-place d e, i .long, mul-le-mul-right v (total-most ds (s + 1)))
+      pub filling-room : c + lanes ≤ v → length old ≡ total ds * v → p + getD ds s 0 * v + lanes ≤ length out + v
+      filling-room h l = omega (arith, next-place, i .long, mul-le-mul-right v (total-most ds (s + 1)))
 
-      pub filling-off : (d : ℕ) (w : List A) → d ≡ getD ds s 0 → drop (frame ds s) bs ≡ replicate (getD ds s 0) false ++ drop (frame ds (s + 1)) bs
-          → w ≡ setsBy v p (replicate d none) out → Filling none v c bs ds values old w (s + 1) (p + d * v) k
-      filling-off d w e b o =
-          let n : length (replicate (getD ds s 0) none) ≡ d = length-replicate (getD ds s 0) none ∙ sym e in
-          record {
-            within = omega arith;
-            place = next-place d e;
-            long = rw o (sets-by-length v p (replicate d none) out ∙ i .long);
-            room = omega (arith, i .room, ap count b, count-off (getD ds s 0) (drop (frame ds (s + 1)) bs));
-            done = rw (o, e) (rw (b, fill-off none (getD ds s 0) (drop (frame ds (s + 1)) bs) (drop k values), sets-by-append, length-replicate) at (i .done));
-          }
+      module _ (y : Bool) (b : drop (frame ds s) bs ≡ replicate (getD ds s 0) y ++ drop (frame ds (s + 1)) bs) where
+        gone : k + count (replicate (getD ds s 0) y) + count (drop (frame ds (s + 1)) bs) ≡ a + count bs
+        gone = omega (arith, i .room, ap count b, count-append (replicate (getD ds s 0) y) (drop (frame ds (s + 1)) bs))
 
-      module _ (b : drop (frame ds s) bs ≡ replicate (getD ds s 0) true ++ drop (frame ds (s + 1)) bs) where
-        pub filling-ends : k + getD ds s 0 ≤ length values
-        filling-ends = omega (arith, i .room, ap count b, count-on (getD ds s 0) (drop (frame ds (s + 1)) bs))
+        pub filling-ends : a + count bs ≤ size → k + count (replicate (getD ds s 0) y) ≤ size
+        filling-ends h = omega (arith, gone)
 
-        pub filling-on : (d : ℕ) (w : List A) → d ≡ getD ds s 0 → w ≡ setsBy v p (take d (drop k values)) out → Filling none v c bs ds values old w (s + 1) (p + d * v) (k + d)
-        filling-on d w e o =
-            let l : getD ds s 0 ≤ length (drop k values) = rw length-drop (omega (arith, filling-ends)) in
-            let n = length-take-le (getD ds s 0) (drop k values) l in
+        -- a lane's numbers of the state's frames, and the others
+        lane-next : (j l : ℕ) → j ≡ k + count (replicate (getD ds s 0) y) → fill none (drop (frame ds s) bs) (drop (k + l * size) work)
+            ≡ fill none (replicate (getD ds s 0) y) (drop (k + l * size) work) ++ fill none (drop (frame ds (s + 1)) bs) (drop (j + l * size) work)
+        lane-next j l q =
+            let z : k + l * size + count (replicate (getD ds s 0) y) ≡ j + l * size = omega arith in
+            rw (b, fill-append none (replicate (getD ds s 0) y) (drop (frame ds (s + 1)) bs) (drop (k + l * size) work), drop-drop, z)
+
+        pub filling-next : lanes ≤ v → (j : ℕ) (w : List A) → j ≡ k + count (replicate (getD ds s 0) y)
+            → w ≡ setsLanes v p (λ l. fill none (replicate (getD ds s 0) y) (drop (k + l * size) work)) lanes out → Filling w (s + 1) (p + getD ds s 0 * v) j
+        filling-next h j w q o =
+            let state : ℕ → List A = λ l. fill none (replicate (getD ds s 0) y) (drop (k + l * size) work) in
+            let rest : ℕ → List A = λ l. fill none (drop (frame ds (s + 1)) bs) (drop (j + l * size) work) in
             record {
               within = omega arith;
-              place = next-place d e;
-              long = rw o (sets-by-length v p (take d (drop k values)) out ∙ i .long);
-              room = omega (arith, i .room, ap count b, count-on (getD ds s 0) (drop (frame ds (s + 1)) bs));
-              done = rw (o, e) (rw (b, fill-on none (getD ds s 0) (drop (frame ds (s + 1)) bs) (drop k values) l, sets-by-append, n, drop-drop) at (i .done));
+              place = next-place;
+              long = rw o (lanes-length v p _ lanes out ∙ i .long);
+              room = omega (arith, gone);
+              done = rw (o, ← lanes-append v p (getD ds s 0) state rest lanes out h (λ l. fill-length none _ _ ∙ length-replicate (getD ds s 0) y))
+                  (lanes-same v p (λ l. state l ++ rest l) _ lanes out (λ l g. sym (lane-next j l q)) ∙ i .done);
             }

@@ -1,19 +1,16 @@
 -- What the loops over flags and states do at each turn. Assumes nothing.
 use mathlib.Core.Path.{_≡_, refl, sym, ap, _∙_}
 use mathlib.Core.Bool.{Bool, true, false}
-use mathlib.Core.Logic.{⊎-elim}
 use mathlib.Core.List.{List, [], _∷_, _++_, append-assoc, append-nil, map}
 use Prim.Native.Nat.{ℕ, zero, suc, _+_, _-_, _<_, _≤_}
 use native.Mathlib.Nat.{add-sub-cancel-left, le-of-eq}
 use native.Mathlib.Numerals.{add-one}
 use native.Mathlib.Omega.{arith}
 use borrow.Rule.Slice.PartMut.{midOf, putMid, mid-len, same-len-mid}
-use lib.ListN.{length, set, take, drop, getD, replicate, length-append, length-replicate, length-set, drop-of-length-le, List·getD-append}
-use lib.Seq.{sets, length-take-le, take-at, take-suc, take-length, take-take, take-set-le, drop-cons, drop-set-lt, getD-take, getD-at}
+use lib.ListN.{length, set, take, drop, getD, replicate, length-append, length-replicate, length-set, drop-of-length-le}
+use lib.Seq.{sets, length-take-le, take-at, take-suc, take-length, take-take, take-set-le, drop-cons, drop-set-lt, getD-take}
 use Rattle.lists.specs.Totals.{total}
-use Rattle.lists.specs.Build.{build}
-use Rattle.lists.proofs.Numbers.{le-or-lt}
-use Rattle.lists.proofs.Fills.{stored, finished, stored-back, build-length}
+use Rattle.lists.proofs.Fills.{stored, finished, stored-back}
 use Rattle.lists.proofs.Stores.{filled, copied}
 use Rattle.mlpg_adjust.specs.Frames.{expand}
 use Rattle.mlpg_adjust.specs.MaskVoicing.{isOn}
@@ -24,15 +21,6 @@ pub copied-whole : (src dst : List ℕ) → length dst ≡ length src → sets d
 copied-whole src dst e =
     let h : length dst ≤ length src = omega arith in
     copied (length src) src dst (omega arith) (omega arith) ∙ rw (take-length src, drop-of-length-le dst h, append-nil)
-
--- the item at a place of a list by a rule
-pub build-at : {A : Type 0} (f : ℕ → A) (n s : ℕ) (z : A) → s < n → getD (build f n) s z ≡ f s
-unfolding build
-build-at f zero s z h = absurd (omega arith)
-build-at f (suc n) s z h = ⊎-elim
-    (λ (g : n ≤ s). let e : s ≡ n = omega arith in rw e (getD-at (build f n) (f n) [] z n (build-length f n)))
-    (λ (g : s < n). let l : s < length (build f n) = rw (build-length f n) g in List·getD-append (build f n) (f n ∷ []) z s l ∙ build-at f n s z g)
-    (le-or-lt n s)
 
 -- ---- flags
 

@@ -16,7 +16,8 @@ use Rattle.model.specs.Record.{fromLinear}
 use Rattle.mlpg_adjust.specs.Frames.{expand}
 use Rattle.mlpg_adjust.specs.MaskVoicing.{flag, isOn, maskOf, weightAt, weightsOf}
 use Rattle.mlpg_adjust.specs.MaskBoundaries.{lefts, rights}
-use Rattle.mlpg_adjust.proofs.MaskLaws.{build-at, map-expand}
+use Rattle.lists.proofs.Builds.{build-at}
+use Rattle.mlpg_adjust.proofs.MaskLaws.{map-expand}
 
 pub flags-back : (bs : List Bool) → map isOn (map flag bs) ≡ bs
 flags-back [] = refl

@@ -1,7 +1,7 @@
 -- The ways out of the mask's calls, and that each promise allows one outcome. Assumes nothing.
-use mathlib.Core.Path.{_≡_, refl, sym, _∙_}
+use mathlib.Core.Path.{_≡_, refl, sym, ap, _∙_}
 use mathlib.Core.Bool.{true, false}
-use mathlib.Core.List.{List, [], _++_, map}
+use mathlib.Core.List.{List, [], _∷_, _++_, map}
 use Prim.Native.Nat.{ℕ, zero, suc, _<_, _≤_}
 use native.Mathlib.Omega.{arith}
 use borrow.Author.Tests.{ltb-false, lt-ltb, le-ltb, eqb-true, eq-eqb, ne-eqb}
@@ -10,10 +10,11 @@ use lib.Dec.{ltb, eqb}
 use lib.Ieee.{Float}
 use Rattle.lists.specs.Totals.{total}
 use Rattle.lists.specs.Refusals.{orElse}
+use Rattle.lists.proofs.Answers.{refusing, Same, same, refused, untouched, accepted, in-front}
 use Rattle.model.specs.declared.voice.model.Weight.the-variants.{Given}
 use Rattle.mlpg_adjust.specs.MaskVoicing.{flag, isOn, maskOf}
 use Rattle.mlpg_adjust.specs.MaskBoundaries.{lefts, rights}
-use Rattle.mlpg_adjust.specs.MaskPromise.{maskNumber, maskValues, answerOf, unless, leaves, tooShort, framesRefusal, maskRefusal, distancesRefusal, maskedDistancesRefusal, MaskSays, DistancesSays, MaskedDistancesSays}
+use Rattle.mlpg_adjust.specs.MaskPromise.{masked, maskedOf, tooShort, framesRefusal, maskRefusal, distancesRefusal, maskedDistancesRefusal, MaskSays, DistancesSays, MaskedDistancesSays}
 use Rattle.mlpg_adjust.specs.declared.mask.Masked.{Masked}
 use Rattle.mlpg_adjust.specs.declared.mask.Masked.the-variants.{Done, Refused}
 use Rattle.mlpg_adjust.proofs.MaskTheory.{mask-length, lefts-length, rights-length}
@@ -21,20 +22,20 @@ use Rattle.mlpg_adjust.proofs.MaskTheory.{mask-length, lefts-length, ri
 -- ---- answers
 
 -- an answer of number k that is a refusal: the number is given, whatever comes after
-pub stopped : (k n j : ℕ) → answerOf k n ≡ Refused j → (0 < j) × ((rest : ℕ) → orElse k rest ≡ j)
+pub stopped : (k n j : ℕ) → maskedOf k n ≡ Refused j → (0 < j) × ((rest : ℕ) → orElse k rest ≡ j)
 stopped zero n j e = let z : _≡_ {A = ℕ} 0 1 = cc in absurd (omega arith)
 stopped (suc k) n j e = let z : suc k ≡ j = cc in (omega arith, λ rest. z)
 
-pub passed : (k n m : ℕ) → answerOf k n ≡ Done m → (k ≡ 0) × (n ≡ m)
+pub passed : (k n m : ℕ) → maskedOf k n ≡ Done m → (k ≡ 0) × (n ≡ m)
 passed zero n m e = (refl, cc)
 passed (suc k) n m e = let z : _≡_ {A = ℕ} 0 1 = cc in absurd (omega arith)
 
 -- number and values say which answer it is
-pub answer-one : (x y : Masked) → maskNumber x ≡ maskNumber y → maskValues x ≡ maskValues y → x ≡ y
-answer-one (Done m) (Done n) e o = cc
-answer-one (Done m) (Refused k) e o = let z : _≡_ {A = ℕ} 0 1 = cc in absurd (omega arith)
-answer-one (Refused j) (Done n) e o = let z : _≡_ {A = ℕ} 0 1 = cc in absurd (omega arith)
-answer-one (Refused j) (Refused k) e o = cc
+pub answer-one : (x y : Masked) → Same (masked x) (masked y) → x ≡ y
+answer-one (Done m) (Done n) e = let v = e .1 in cc
+answer-one (Done m) (Refused k) e = let v = e .1 in let z : _≡_ {A = ℕ} 0 1 = cc in absurd (omega arith)
+answer-one (Refused j) (Done n) e = let v = e .1 in let z : _≡_ {A = ℕ} 0 1 = cc in absurd (omega arith)
+answer-one (Refused j) (Refused k) e = ap Refused (e .0)
 
 -- ---- 3, 4 and 5
 
@@ -76,28 +77,15 @@ module _ (weights : ℕ) (ds : List ℕ) where
     ]) refl
   ]) refl
 
--- ---- lent lists at exit, and values
-
-no-values : (q : ℕ) (xs : List ℕ) → 0 < q → [] ≡ unless q xs
-no-values zero xs h = absurd (omega arith)
-no-values (suc q) xs h = refl
-
-untouched : (q : ℕ) (new old : List ℕ) → 0 < q → old ≡ leaves q new old
-untouched zero new old h = absurd (omega arith)
-untouched (suc q) new old h = refl
-
-in-front : (q n : ℕ) (new w old : List ℕ) → q ≡ 0 → w ≡ new → length new ≡ n → w ++ drop n old ≡ leaves q new old
-in-front q n new w old z o e = rw (z, o, e)
-
 -- ---- `mask`
 
 module _ (ws : List Float) (threshold : Float) (ds v : List ℕ) where
   mask-refuses : (k : ℕ) → 0 < k → maskRefusal ws ds v ≡ k → MaskSays ws threshold ds v (Refused k) v
   mask-refuses k h e =
-      let p : 0 < maskRefusal ws ds v = omega arith in
-      record { number = sym e; values = no-values _ _ p; flags = untouched _ _ _ p }
+      let p : maskRefusal ws ds v ≡ 0 → ⊥ = λ z. omega arith in
+      record { answer = ap refusing (sym e) ∙ refused _ _ p; flags = untouched _ _ _ p }
 
-  pub mask-stops : (x : Masked) (k : ℕ) → x ≡ answerOf (framesRefusal (length ws) ds) (total ds) → x ≡ Refused k → MaskSays ws threshold ds v x v
+  pub mask-stops : (x : Masked) (k : ℕ) → x ≡ maskedOf (framesRefusal (length ws) ds) (total ds) → x ≡ Refused k → MaskSays ws threshold ds v x v
   mask-stops x k e o = let s = stopped (framesRefusal (length ws) ds) (total ds) k (sym e ∙ o) in rw o (mask-refuses k (s .0) (s .1 (tooShort (total ds) v)))
 
   module _ (z : framesRefusal (length ws) ds ≡ 0) where
@@ -110,18 +98,18 @@ module _ (ws : List Float) (threshold : Float) (ds v : List ℕ) where
     pub mask-done : (m n : ℕ) (w : List ℕ) → total ds ≡ m → n ≡ m → n ≤ length v → w ≡ map flag (maskOf threshold (map Given ws) ds) → MaskSays ws threshold ds v (Done m) (w ++ drop n v)
     mask-done m n w e t h o =
         let q : maskRefusal ws ds v ≡ 0 = rw (z, le-ltb (length v) (total ds) (omega arith)) in
-        record { number = sym q; values = rw (q, e); flags = in-front _ n _ w v q o (flags-length ∙ e ∙ sym t) }
+        record { answer = accepted _ _ _ q (ap (λ (x : ℕ). x ∷ []) (sym e)); flags = in-front _ n _ w v q o (flags-length ∙ e ∙ sym t) }
 
 pub mask-one : (ws : List Float) (threshold : Float) (ds v : List ℕ) (x y : Masked) (v₁ v₂ : List ℕ) → MaskSays ws threshold ds v x v₁ → MaskSays ws threshold ds v y v₂ → (x ≡ y) × (v₁ ≡ v₂)
-mask-one ws threshold ds v x y v₁ v₂ a b = (answer-one x y (a .number ∙ sym (b .number)) (a .values ∙ sym (b .values)), a .flags ∙ sym (b .flags))
+mask-one ws threshold ds v x y v₁ v₂ a b = (answer-one x y (same (a .answer ∙ sym (b .answer))), a .flags ∙ sym (b .flags))
 
 -- ---- `boundary_distances`
 
 module _ (v l r : List ℕ) where
   distances-refuses : (k : ℕ) → 0 < k → distancesRefusal (length v) l r ≡ k → DistancesSays v l r (Refused k) l r
   distances-refuses k h e =
-      let p : 0 < distancesRefusal (length v) l r = omega arith in
-      record { number = sym e; values = no-values _ _ p; before = untouched _ _ _ p; after = untouched _ _ _ p }
+      let p : distancesRefusal (length v) l r ≡ 0 → ⊥ = λ z. omega arith in
+      record { answer = ap refusing (sym e) ∙ refused _ _ p; before = untouched _ _ _ p; after = untouched _ _ _ p }
 
   pub distances-5 : 65536 < length v → DistancesSays v l r (Refused 5) l r
   distances-5 h = distances-refuses 5 (omega arith) (rw (lt-ltb 65536 (length v) h))
@@ -140,25 +128,24 @@ module _ (v l r : List ℕ) where
           let q : distancesRefusal (length v) l r ≡ 0 = rw (le-ltb 65536 (length v) small, le-ltb (length l) (length v) a, le-ltb (length r) (length v) b) in
           let n : length (map isOn v) ≡ length v = length-map v isOn in
           record {
-            number = sym q;
-            values = rw q;
+            answer = accepted _ _ _ q refl;
             before = in-front _ _ _ l′ l q o (lefts-length 0 (map isOn v) ∙ n);
             after = in-front _ _ _ r′ r q p (rights-length (map isOn v) ∙ n);
           }
 
 pub distances-one : (v l r : List ℕ) (x y : Masked) (l₁ r₁ l₂ r₂ : List ℕ) → DistancesSays v l r x l₁ r₁ → DistancesSays v l r y l₂ r₂ → (x ≡ y) × (l₁ ≡ l₂) × (r₁ ≡ r₂)
 distances-one v l r x y l₁ r₁ l₂ r₂ a b =
-    (answer-one x y (a .number ∙ sym (b .number)) (a .values ∙ sym (b .values)), a .before ∙ sym (b .before), a .after ∙ sym (b .after))
+    (answer-one x y (same (a .answer ∙ sym (b .answer))), a .before ∙ sym (b .before), a .after ∙ sym (b .after))
 
 -- ---- `mask_with_distances`
 
 module _ (ws : List Float) (threshold : Float) (ds v l r : List ℕ) where
   masked-refuses : (k : ℕ) → 0 < k → maskedDistancesRefusal ws ds v l r ≡ k → MaskedDistancesSays ws threshold ds v l r (Refused k) v l r
   masked-refuses k h e =
-      let p : 0 < maskedDistancesRefusal ws ds v l r = omega arith in
-      record { number = sym e; values = no-values _ _ p; flags = untouched _ _ _ p; before = untouched _ _ _ p; after = untouched _ _ _ p }
+      let p : maskedDistancesRefusal ws ds v l r ≡ 0 → ⊥ = λ z. omega arith in
+      record { answer = ap refusing (sym e) ∙ refused _ _ p; flags = untouched _ _ _ p; before = untouched _ _ _ p; after = untouched _ _ _ p }
 
-  pub masked-stops : (x : Masked) (k : ℕ) → x ≡ answerOf (framesRefusal (length ws) ds) (total ds) → x ≡ Refused k → MaskedDistancesSays ws threshold ds v l r x v l r
+  pub masked-stops : (x : Masked) (k : ℕ) → x ≡ maskedOf (framesRefusal (length ws) ds) (total ds) → x ≡ Refused k → MaskedDistancesSays ws threshold ds v l r x v l r
   masked-stops x k e o = let s = stopped (framesRefusal (length ws) ds) (total ds) k (sym e ∙ o) in rw o (masked-refuses k (s .0) (s .1 (orElse (tooShort (total ds) v) (orElse (tooShort (total ds) l) (tooShort (total ds) r)))))
 
   module _ (z : framesRefusal (length ws) ds ≡ 0) where
@@ -179,8 +166,7 @@ module _ (ws : List Float) (threshold : Float) (ds v l r : List ℕ) where
             let q : maskedDistancesRefusal ws ds v l r ≡ 0 = rw (z, le-ltb (length v) (total ds) a, le-ltb (length l) (total ds) b, le-ltb (length r) (total ds) s) in
             let y : length (maskOf threshold (map Given ws) ds) ≡ n = mask-length threshold (map Given ws) ds (simp length-map (framed (length ws) ds z .agree)) ∙ e ∙ sym u in
             record {
-              number = sym q;
-              values = rw (q, e);
+              answer = accepted _ _ _ q (ap (λ (x : ℕ). x ∷ []) (sym e));
               flags = in-front _ n _ v′ v q o (simp length-map y);
               before = in-front _ n _ l′ l q p (lefts-length 0 (maskOf threshold (map Given ws) ds) ∙ y);
               after = in-front _ n _ r′ r q t (rights-length (maskOf threshold (map Given ws) ds) ∙ y);
@@ -189,4 +175,4 @@ module _ (ws : List Float) (threshold : Float) (ds v l r : List ℕ) where
 pub masked-one : (ws : List Float) (threshold : Float) (ds v l r : List ℕ) (x y : Masked) (v₁ l₁ r₁ v₂ l₂ r₂ : List ℕ)
     → MaskedDistancesSays ws threshold ds v l r x v₁ l₁ r₁ → MaskedDistancesSays ws threshold ds v l r y v₂ l₂ r₂ → (x ≡ y) × (v₁ ≡ v₂) × (l₁ ≡ l₂) × (r₁ ≡ r₂)
 masked-one ws threshold ds v l r x y v₁ l₁ r₁ v₂ l₂ r₂ a b =
-    (answer-one x y (a .number ∙ sym (b .number)) (a .values ∙ sym (b .values)), a .flags ∙ sym (b .flags), a .before ∙ sym (b .before), a .after ∙ sym (b .after))
+    (answer-one x y (same (a .answer ∙ sym (b .answer))), a .flags ∙ sym (b .flags), a .before ∙ sym (b .before), a .after ∙ sym (b .after))

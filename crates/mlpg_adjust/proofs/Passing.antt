@@ -1,10 +1,10 @@
--- Laws of the passes one after the other: a tap's columns, a window's taps, all windows. Assumes nothing.
+-- Laws of the passes one after the other: a tap's columns, a window's taps, all windows, all blocks. Assumes nothing.
 use mathlib.Core.Path.{_≡_, refl, sym, ap, _∙_}
 use mathlib.Core.Bool.{Bool, true, false, cond}
 use mathlib.Core.List.{List, [], _∷_}
 use mathlib.Core.Logic.{⊎-elim}
 use Prim.Native.Nat.{ℕ, zero, suc, _+_, _-_, _*_, _/_, _<_, _≤_, min}
-use native.Mathlib.Nat.{zero-add, zero-mul, suc-mul}
+use native.Mathlib.Nat.{zero-add, zero-mul, suc-mul, mul-le-mul-right}
 use native.Mathlib.Numerals.{add-one}
 use native.Mathlib.Omega.{arith}
 use borrow.Rule.Slice.PartMut.{putMid}
@@ -25,19 +25,20 @@ use Rattle.mlpg_adjust.specs.Sums.{over}
 use Rattle.mlpg_adjust.specs.Rows.{nought, elem, part, rows}
 use Rattle.mlpg_adjust.specs.Paper.{W, term, rightTerm, partOf, entrySum, rightSum, entryOf, bandRows, rightSide}
 use Rattle.mlpg_adjust.specs.Inner.{Taps}
-use Rattle.mlpg_adjust.specs.Region.{Laid, Rowed}
-use Rattle.mlpg_adjust.specs.Passes.{Moved, atFrame, inside, tapEntry, tapSide, windowEntry, windowSide, windowsEntry, windowsSide, still, inColumn}
+use Rattle.mlpg_adjust.specs.Region.{Spaced, Laid, Rowed}
+use Rattle.mlpg_adjust.specs.Passes.{Moved, atFrame, inside, within, tapEntry, tapSide, windowEntry, windowSide, windowsEntry, windowsSide, wholeEntry, wholeSide, still, inColumn}
 use Rattle.mlpg_adjust.specs.declared.solve.Places.{Places}
-use Rattle.mlpg_adjust.proofs.Readings.{part-elem, part-part, read-under}
-use Rattle.mlpg_adjust.proofs.Regions.{returned, stored-behind}
+use Rattle.mlpg_adjust.specs.declared.passes.Span.{Span}
+use Rattle.mlpg_adjust.proofs.Readings.{part-elem, part-part, read-under, read-beyond}
+use Rattle.lists.proofs.Regions.{returned}
 use Rattle.mlpg_adjust.proofs.Orders.{over-step, over-idle}
 use Rattle.mlpg_adjust.proofs.Terms.{eq-nought, W-short, W-beyond, term-idle, right-idle}
-use Rattle.mlpg_adjust.proofs.Builds.{build-is}
+use Rattle.lists.proofs.Builds.{build-is}
 use Rattle.mlpg_adjust.proofs.Windows.{total-front}
-use Rattle.mlpg_adjust.proofs.Along.{moved-none, moved-then, moved-same, pairs-kept}
+use Rattle.mlpg_adjust.proofs.Along.{within-on, within-idle, upTo, moved-none, moved-then, moved-same, moved-next, pairs-kept}
 use Rattle.mlpg_adjust.proofs.Taps.{zero-entry, zero-side, zero-column}
 
-module _ (p : Places) (n w : ℕ) (taps : List Float) (u : ℕ) (d : List Float) (ub : u + n ≤ p .rows) (room : p .rows ≤ length d) where
+module _ (p : Places) (n w : ℕ) (r : Span) (taps : List Float) (u : ℕ) (d : List Float) (ub : u + n ≤ p .rows) (room : p .rows ≤ length d) where
   -- ---- the columns of tap k, j of them
 
   module _ (k : ℕ) (kb : k < length taps) where
@@ -47,8 +48,8 @@ module _ (p : Places) (n w : ℕ) (taps : List Float) (u : ℕ) (d : List Float)
     abbrev firsts : ℕ → ℕ → ℕ → Float → Float
     firsts j t i y = cond (ltb i j) (C t i y) y
 
-    pub columns-none : Moved p n w (firsts 0) still d d
-    columns-none = moved-none p n w (firsts 0) still d (λ t i y a b. rw (le-ltb i 0 (omega arith))) (λ t y a. refl)
+    pub columns-none : Moved p n w r (firsts 0) still d d
+    columns-none = moved-none p n w r (firsts 0) still d (λ t i y a b c e. rw (le-ltb i 0 (omega arith))) (λ t y a b c. refl)
 
     one-more : (j t i : ℕ) (y : Float) → inColumn j C t i (firsts j t i y) ≡ firsts (j + 1) t i y
     one-more j t i y = ⊎-elim
@@ -59,15 +60,15 @@ module _ (p : Places) (n w : ℕ) (taps : List Float) (u : ℕ) (d : List Float)
         (λ (a : j < i). rw (ne-eqb i j (λ e. omega arith), le-ltb i j (omega arith), le-ltb i (j + 1) (omega arith)))
         (le-or-lt i j)
 
-    pub columns-next : (m m′ : List Float) (j : ℕ) → Moved p n w (firsts j) still d m → Moved p n w (inColumn j (tapEntry taps (part u n m) (part u n m) n k)) still m m′
-        → Moved p n w (firsts (j + 1)) still d m′
+    pub columns-next : (m m′ : List Float) (j : ℕ) → Moved p n w r (firsts j) still d m → Moved p n w r (inColumn j (tapEntry taps (part u n m) (part u n m) n k)) still m m′
+        → Moved p n w r (firsts (j + 1)) still d m′
     columns-next m m′ j a b =
-        moved-same p n w (λ t i y. inColumn j C t i (firsts j t i y)) (firsts (j + 1)) still still d m′ (λ t i y g h. one-more j t i y) (λ t y h. refl)
-        (moved-then p n w (firsts j) (inColumn j C) still still d m m′ a (rw (pairs-kept p n w (firsts j) still d m u a ub room) at b))
+        moved-same p n w r (λ t i y. inColumn j C t i (firsts j t i y)) (firsts (j + 1)) still still d m′ (λ t i y g h. one-more j t i y) (λ t y h. refl)
+        (moved-then p n w r (firsts j) (inColumn j C) still still d m m′ a (rw (pairs-kept p n w r (firsts j) still d m u n a ub room) at b))
 
-    pub columns-all : (m : List Float) (j : ℕ) → j ≡ length taps - k → Moved p n w (firsts j) still d m → Moved p n w C still d m
+    pub columns-all : (m : List Float) (j : ℕ) → j ≡ length taps - k → Moved p n w r (firsts j) still d m → Moved p n w r C still d m
     columns-all m j e =
-        moved-same p n w (firsts j) C still still d m
+        moved-same p n w r (firsts j) C still still d m
         (λ t i y g h. ⊎-elim
         (λ (a : j ≤ i).
         let past : length taps ≤ k + i = omega arith in
@@ -85,18 +86,18 @@ module _ (p : Places) (n w : ℕ) (taps : List Float) (u : ℕ) (d : List Float)
     -- ---- tap k whole
 
     module _ (k : ℕ) (kb : k < length taps) where
-      pub tap-zero : eq (elem taps k) nought ≡ true → Moved p n w (tapEntry taps us ms n k) (tapSide taps us ms n k) d d
-      tap-zero z = moved-none p n w (tapEntry taps us ms n k) (tapSide taps us ms n k) d (λ t j y a b. zero-entry taps us ms n k kb t y a j z) (λ t y a. zero-side taps us ms n k kb t y a z)
+      pub tap-zero : eq (elem taps k) nought ≡ true → Moved p n w r (tapEntry taps us ms n k) (tapSide taps us ms n k) d d
+      tap-zero z = moved-none p n w r (tapEntry taps us ms n k) (tapSide taps us ms n k) d (λ t j y a b c e. zero-entry taps us ms n k kb t y a j z) (λ t y a b c. zero-side taps us ms n k kb t y a z)
 
       same : (t j : ℕ) (y : Float) → tapEntry taps us us n k t j y ≡ tapEntry taps us ms n k t j y
       unfolding tapEntry
       same t j y = refl
 
-      pub tap-done : (m m′ : List Float) → Moved p n w (λ t j y. y) (tapSide taps us ms n k) d m → Moved p n w (tapEntry taps (part u n m) (part u n m) n k) still m m′
-          → Moved p n w (tapEntry taps us ms n k) (tapSide taps us ms n k) d m′
+      pub tap-done : (m m′ : List Float) → Moved p n w r (λ t j y. y) (tapSide taps us ms n k) d m → Moved p n w r (tapEntry taps (part u n m) (part u n m) n k) still m m′
+          → Moved p n w r (tapEntry taps us ms n k) (tapSide taps us ms n k) d m′
       tap-done m m′ a b =
-          moved-same p n w (tapEntry taps us us n k) (tapEntry taps us ms n k) (tapSide taps us ms n k) (tapSide taps us ms n k) d m′ (λ t j y g h. same t j y) (λ t y h. refl)
-          (moved-then p n w (λ t j y. y) (tapEntry taps us us n k) (tapSide taps us ms n k) still d m m′ a (rw (pairs-kept p n w (λ t j y. y) (tapSide taps us ms n k) d m u a ub room) at b))
+          moved-same p n w r (tapEntry taps us us n k) (tapEntry taps us ms n k) (tapSide taps us ms n k) (tapSide taps us ms n k) d m′ (λ t j y g h. same t j y) (λ t y h. refl)
+          (moved-then p n w r (λ t j y. y) (tapEntry taps us us n k) (tapSide taps us ms n k) still d m m′ a (rw (pairs-kept p n w r (λ t j y. y) (tapSide taps us ms n k) d m u n a ub room) at b))
 
     -- ---- the taps of a window from the last to tap k: at row t these are the frames below t + half + 1 - k
 
@@ -139,34 +140,34 @@ module _ (p : Places) (n w : ℕ) (taps : List Float) (u : ℕ) (d : List Float)
     late : (t f : ℕ) → below 0 t ≤ f → f < n → eq (W taps f t) nought ≡ true
     late t f h l = rw (W-beyond taps t f (omega arith)) eq-nought
 
-    pub taps-none : Moved p n w (entriesTo (length taps)) (sidesTo (length taps)) d d
+    pub taps-none : Moved p n w r (entriesTo (length taps)) (sidesTo (length taps)) d d
     unfolding over
-    taps-none = moved-none p n w (entriesTo (length taps)) (sidesTo (length taps)) d
-        (λ t j y a b. ⊎-elim
+    taps-none = moved-none p n w r (entriesTo (length taps)) (sidesTo (length taps)) d
+        (λ t j y a b e i. ⊎-elim
         (λ (c : n ≤ t + j). rw (le-ltb (t + j) n c))
         (λ (c : t + j < n). rw (lt-ltb (t + j) n c) (over-idle (term taps us t (t + j)) 0 (below (length taps) t) y (omega arith) (λ f z g h. term-idle taps us ms t f (early t f h) (t + j) z)))
         (le-or-lt n (t + j)))
-        (λ t y a. over-idle (rightTerm taps us ms t) 0 (below (length taps) t) y (omega arith) (λ f z g h. right-idle taps us ms t f (early t f h) z))
+        (λ t y a b c. over-idle (rightTerm taps us ms t) 0 (below (length taps) t) y (omega arith) (λ f z g h. right-idle taps us ms t f (early t f h) z))
 
-    pub taps-next : (m m′ : List Float) (k : ℕ) → Moved p n w (entriesTo (k + 1)) (sidesTo (k + 1)) d m → Moved p n w (tapEntry taps (part u n m) (part mean n m) n k) (tapSide taps (part u n m) (part mean n m) n k) m m′
-        → Moved p n w (entriesTo k) (sidesTo k) d m′
+    pub taps-next : (m m′ : List Float) (k : ℕ) → Moved p n w r (entriesTo (k + 1)) (sidesTo (k + 1)) d m → Moved p n w r (tapEntry taps (part u n m) (part mean n m) n k) (tapSide taps (part u n m) (part mean n m) n k) m m′
+        → Moved p n w r (entriesTo k) (sidesTo k) d m′
     taps-next m m′ k a b =
-        moved-same p n w (λ t j y. tapEntry taps us ms n k t j (entriesTo (k + 1) t j y)) (entriesTo k) (λ t y. tapSide taps us ms n k t (sidesTo (k + 1) t y)) (sidesTo k) d m′
+        moved-same p n w r (λ t j y. tapEntry taps us ms n k t j (entriesTo (k + 1) t j y)) (entriesTo k) (λ t y. tapSide taps us ms n k t (sidesTo (k + 1) t y)) (sidesTo k) d m′
         (λ t j y g h. entry-more k t j y) (λ t y h. side-more k t y)
-        (moved-then p n w (entriesTo (k + 1)) (tapEntry taps us ms n k) (sidesTo (k + 1)) (tapSide taps us ms n k) d m m′ a
-        (rw (pairs-kept p n w (entriesTo (k + 1)) (sidesTo (k + 1)) d m u a ub room, pairs-kept p n w (entriesTo (k + 1)) (sidesTo (k + 1)) d m mean a mb room) at b))
+        (moved-then p n w r (entriesTo (k + 1)) (tapEntry taps us ms n k) (sidesTo (k + 1)) (tapSide taps us ms n k) d m m′ a
+        (rw (pairs-kept p n w r (entriesTo (k + 1)) (sidesTo (k + 1)) d m u n a ub room, pairs-kept p n w r (entriesTo (k + 1)) (sidesTo (k + 1)) d m mean n a mb room) at b))
 
-    pub taps-all : (m : List Float) → Moved p n w (entriesTo 0) (sidesTo 0) d m → Moved p n w (windowEntry taps us ms n) (windowSide taps us ms n) d m
+    pub taps-all : (m : List Float) → Moved p n w r (entriesTo 0) (sidesTo 0) d m → Moved p n w r (windowEntry taps us ms n) (windowSide taps us ms n) d m
     unfolding windowEntry windowSide
     taps-all m =
-        moved-same p n w (entriesTo 0) (windowEntry taps us ms n) (sidesTo 0) (windowSide taps us ms n) d m
+        moved-same p n w r (entriesTo 0) (windowEntry taps us ms n) (sidesTo 0) (windowSide taps us ms n) d m
         (λ t j y a b. ⊎-elim
         (λ (c : n ≤ t + j). rw (le-ltb (t + j) n c))
         (λ (c : t + j < n). rw (lt-ltb (t + j) n c) (sym (over-idle (term taps us t (t + j)) (below 0 t) n y (omega arith) (λ f z g h. term-idle taps us ms t f (late t f g h) (t + j) z))))
         (le-or-lt n (t + j)))
         (λ t y a. sym (over-idle (rightTerm taps us ms t) (below 0 t) n y (omega arith) (λ f z g h. right-idle taps us ms t f (late t f g h) z)))
 
--- ---- all windows
+-- ---- a span of rows is cleared
 
 -- numbers that are stored from place i on
 sets-at : (xs l : List Float) (i j : ℕ) → j < length xs → i + length xs ≤ length l → elem (sets l i xs) (i + j) ≡ elem xs j
@@ -184,6 +185,59 @@ cleared a e v l x h g k =
     let long : length (part a (e - a) l) ≡ e - a = length-take-le (e - a) (drop a l) (simp length-drop (omega arith)) in
     let z : x ≡ replicate (e - a) v = k ∙ filled (e - a) v (part a (e - a) l) (omega arith) ∙ fill-done (replicate (e - a) v) (part a (e - a) l) (e - a) (omega arith) in
     returned a e l x h g (ap length z ∙ length-replicate (e - a) v) ∙ ap (sets l a) z
+
+-- the places from a to e get one number: place i is among them where row t is a span's
+filled-as : (r : Span) (t : ℕ) (l : List Float) (a e i : ℕ) (v : Float) → a ≤ e → e ≤ length l → (t < r .from → i < a) → (r .from ≤ t → a ≤ i) → (t < r .to → i < e) → (r .to ≤ t → e ≤ i)
+    → elem (sets l a (replicate (e - a) v)) i ≡ within r t (λ y. v) (elem l i)
+filled-as r t l a e i v h g before from to behind = ⊎-elim
+    (λ (b : r .from ≤ t). let q = from b in ⊎-elim
+    (λ (c : r .to ≤ t). let o = behind c in read-beyond (replicate (e - a) v) l a i (rw length-replicate (omega arith)) ∙ sym (within-idle r t (λ y. v) (elem l i) (λ x y. absurd (omega (arith, c, y)))))
+    (λ (c : t < r .to). let o = to c in
+    let z : i ≡ a + (i - a) = omega arith in
+    ap (elem (sets l a (replicate (e - a) v))) z ∙ sets-at (replicate (e - a) v) l a (i - a) (rw length-replicate (omega arith)) (rw length-replicate (omega arith)) ∙ getD-replicate (e - a) (i - a) v nan (omega arith)
+    ∙ sym (within-on r t (λ y. v) (elem l i) b c))
+    (le-or-lt (r .to) t))
+    (λ (b : t < r .from). read-under (replicate (e - a) v) l a i (before b) ∙ sym (within-idle r t (λ y. v) (elem l i) (λ x y. absurd (omega (arith, b, x)))))
+    (le-or-lt (r .from) t)
+
+-- a span's rows lie within the rows
+module _ (p : Places) (n w : ℕ) (r : Span) (size : ℕ) (most : r .to ≤ n) (sp : Spaced p n w size) where
+  rows-end : p .rows + r .to * w ≤ p .right
+  rows-end = omega (arith, sp .right-at, mul-le-mul-right w most)
+
+  pub rows-room : p .rows + r .to * w ≤ size
+  rows-room = omega (arith, rows-end, sp .factors-at, sp .values-at, sp .room)
+
+-- its rows and right side are cleared one after the other
+module _ (p : Places) (n w : ℕ) (r : Span) (d m m′ : List Float) (fit : r .from ≤ r .to) (most : r .to ≤ n) (sp : Spaced p n w (length d))
+    (rows-clear : m ≡ sets d (p .rows + r .from * w) (replicate (p .rows + r .to * w - (p .rows + r .from * w)) nought)) where
+  abbrev row-zeros : List Float
+  row-zeros = replicate (p .rows + r .to * w - (p .rows + r .from * w)) nought
+
+  abbrev side-zeros : List Float
+  side-zeros = replicate (p .right + r .to - (p .right + r .from)) nought
+
+  rows-long : length m ≡ length d
+  rows-long = ap length rows-clear ∙ length-sets d (p .rows + r .from * w) row-zeros
+
+  module _ (right-clear : m′ ≡ sets m (p .right + r .from) side-zeros) where
+    before-right : (i : ℕ) → i < p .right → elem m′ i ≡ elem m i
+    before-right i h = ap (λ (l : List Float). elem l i) right-clear ∙ read-under side-zeros m (p .right + r .from) i (omega arith)
+
+    pub rows-cleared : Moved p n w r (λ t j y. nought) (λ t y. nought) d m′
+    rows-cleared = record {
+      long = ap length right-clear ∙ length-sets m (p .right + r .from) side-zeros ∙ rows-long;
+      pairs = λ i h. before-right i (omega (arith, h, sp .right-at)) ∙ ap (λ (l : List Float). elem l i) rows-clear ∙ read-under row-zeros d (p .rows + r .from * w) i (omega (arith, h));
+      entries = λ t j h b. before-right (p .rows + (t * w + j)) (omega (arith, sp .right-at, row-in w t n j h b)) ∙ ap (λ (l : List Float). elem l (p .rows + (t * w + j))) rows-clear
+          ∙ filled-as r t d (p .rows + r .from * w) (p .rows + r .to * w) (p .rows + (t * w + j)) nought (omega (arith, mul-le-mul-right w fit)) (rows-room p n w r (length d) most sp)
+          (λ a. omega (arith, row-in w t (r .from) j a b)) (λ a. omega (arith, mul-le-mul-right w a)) (λ a. omega (arith, row-in w t (r .to) j a b)) (λ a. omega (arith, mul-le-mul-right w a));
+      sides = λ t h. ap (λ (l : List Float). elem l (p .right + t)) right-clear
+          ∙ filled-as r t m (p .right + r .from) (p .right + r .to) (p .right + t) nought (omega (arith, fit)) (omega (arith, most, rows-long, sp .factors-at, sp .values-at, sp .room))
+          (λ a. omega (arith, a)) (λ a. omega (arith, a)) (λ a. omega (arith, a)) (λ a. omega (arith, a))
+          ∙ ap (within r t (λ y. nought)) (ap (λ (l : List Float). elem l (p .right + t)) rows-clear ∙ read-beyond row-zeros d (p .rows + r .from * w) (p .right + t) (rw length-replicate (omega (arith, rows-end p n w r (length d) most sp, mul-le-mul-right w fit))));
+    }
+
+-- ---- all windows
 
 -- a band by its entries
 grid-is : (F : ℕ → ℕ → Float) (w n : ℕ) (l : List Float) → length l ≡ n * w → ((t j : ℕ) → t < n → j < w → elem l (t * w + j) ≡ F t j) → l ≡ rows (λ t. build (F t) w) n
@@ -206,7 +260,7 @@ window-part l a k n i h = sym (part-part (i * n) n a k l h)
 pub taps-in : (widths : List ℕ) (coefs : List Float) (w : ℕ) → Taps widths coefs w → (i : ℕ) → i < length widths → total (take i widths) + getD widths i 0 ≤ length coefs
 taps-in widths coefs w k i h = omega (arith, k .taps, total-more widths i h, total-front widths (i + 1))
 
-module _ (widths : List ℕ) (coefs : List Float) (p : Places) (n w : ℕ) (d : List Float) (laid : Laid p (length widths) n w (length d)) where
+module _ (widths : List ℕ) (coefs : List Float) (p : Places) (n w : ℕ) (r : Span) (d : List Float) (laid : Laid p (length widths) n w (length d)) where
   abbrev us-all : List Float
   us-all = part (p .ivars) (length widths * n) d
 
@@ -222,59 +276,60 @@ module _ (widths : List ℕ) (coefs : List Float) (p : Places) (n w : ℕ) (d : 
   inner : p .rows ≤ length d
   inner = omega (arith, laid .behind .right-at, laid .behind .factors-at, laid .behind .values-at, laid .behind .room)
 
-  pub windows-none : Moved p n w (E 0) (S 0) d d
+  pub windows-none : Moved p n w r (E 0) (S 0) d d
   unfolding over windowsEntry windowsSide
-  windows-none = moved-none p n w (E 0) (S 0) d (λ t j y a b. pick (ltb (t + j) n) y) (λ t y a. refl)
+  windows-none = moved-none p n w r (E 0) (S 0) d (λ t j y a b c e. pick (ltb (t + j) n) y) (λ t y a b c. refl)
     where
       pick : (b : Bool) (y : Float) → cond b y y ≡ y
       pick true y = refl
       pick false y = refl
 
-  pub windows-next : (m m′ taps : List Float) (i b : ℕ) → i < length widths → b ≡ i * n → taps ≡ windowOf widths coefs i → Moved p n w (E i) (S i) d m
-      → Moved p n w (windowEntry taps (part (p .ivars + b) n m) (part b n m) n) (windowSide taps (part (p .ivars + b) n m) (part b n m) n) m m′ → Moved p n w (E (i + 1)) (S (i + 1)) d m′
+  pub windows-next : (m m′ taps : List Float) (i b : ℕ) → i < length widths → b ≡ i * n → taps ≡ windowOf widths coefs i → Moved p n w r (E i) (S i) d m
+      → Moved p n w r (windowEntry taps (part (p .ivars + b) n m) (part b n m) n) (windowSide taps (part (p .ivars + b) n m) (part b n m) n) m m′ → Moved p n w r (E (i + 1)) (S (i + 1)) d m′
   unfolding over windowEntry windowSide windowsEntry windowsSide
   windows-next m m′ taps i b h e f a k =
       let fit : i * n + n ≤ length widths * n = row-fits n i (length widths) h in
       let x : part (p .ivars + b) n m ≡ partOf n us-all i =
-      pairs-kept p n w (E i) (S i) d m (p .ivars + b) a (omega (arith, e, fit, laid .rows-at)) inner ∙ rw e (window-part d (p .ivars) (length widths * n) n i fit) in
+      pairs-kept p n w r (E i) (S i) d m (p .ivars + b) n a (omega (arith, e, fit, laid .rows-at)) inner ∙ rw e (window-part d (p .ivars) (length widths * n) n i fit) in
       let y : part b n m ≡ partOf n ms-all i =
-      pairs-kept p n w (E i) (S i) d m b a (omega (arith, e, fit, laid .ivars-at, laid .rows-at)) inner ∙ ap (λ (x : ℕ). part x n d) (e ∙ sym (zero-add (i * n)))
+      pairs-kept p n w r (E i) (S i) d m b n a (omega (arith, e, fit, laid .ivars-at, laid .rows-at)) inner ∙ ap (λ (x : ℕ). part x n d) (e ∙ sym (zero-add (i * n)))
       ∙ window-part d 0 (length widths * n) n i fit in
-      moved-same p n w _ (E (i + 1)) _ (S (i + 1)) d m′
+      moved-same p n w r _ (E (i + 1)) _ (S (i + 1)) d m′
       (λ t j z g l. ⊎-elim (λ (c : n ≤ t + j). rw (le-ltb (t + j) n c)) (λ (c : t + j < n). rw (lt-ltb (t + j) n c, add-one)) (le-or-lt n (t + j)))
       (λ t z g. rw add-one)
-      (moved-then p n w (E i) (windowEntry (windowOf widths coefs i) (partOf n us-all i) (partOf n ms-all i) n) (S i) (windowSide (windowOf widths coefs i) (partOf n us-all i) (partOf n ms-all i) n) d m m′ a (rw (x, y, f) at k))
+      (moved-then p n w r (E i) (windowEntry (windowOf widths coefs i) (partOf n us-all i) (partOf n ms-all i) n) (S i) (windowSide (windowOf widths coefs i) (partOf n us-all i) (partOf n ms-all i) n) d m m′ a (rw (x, y, f) at k))
 
-  -- ---- from zeroed rows
+  -- ---- a block from zeroed rows
 
-  module _ (z : List Float) (zeroed : z ≡ sets d (p .rows) (replicate (p .right + n - p .rows) nought)) where
-    abbrev many : ℕ
-    many = p .right + n - p .rows
+  pub block-done : (z m : List Float) → Moved p n w r (λ t j y. nought) (λ t y. nought) d z
+      → Moved p n w r (windowsEntry widths coefs (part (p .ivars) (length widths * n) z) (part 0 (length widths * n) z) n (length widths)) (windowsSide widths coefs (part (p .ivars) (length widths * n) z) (part 0 (length widths * n) z) n (length widths)) z m
+      → Moved p n w r (wholeEntry widths coefs p n d) (wholeSide widths coefs p n d) d m
+  block-done z m a k =
+      let us : part (p .ivars) (length widths * n) z ≡ us-all = pairs-kept p n w r (λ t j y. nought) (λ t y. nought) d z (p .ivars) (length widths * n) a (laid .rows-at) inner in
+      let ms : part 0 (length widths * n) z ≡ ms-all = pairs-kept p n w r (λ t j y. nought) (λ t y. nought) d z 0 (length widths * n) a (omega (arith, laid .ivars-at, laid .rows-at)) inner in
+      moved-then p n w r (λ t j y. nought) (E (length widths)) (λ t y. nought) (S (length widths)) d z m a (rw (us, ms) at k)
 
-    zero-at : (i : ℕ) → i < many → elem z (p .rows + i) ≡ nought
-    zero-at i h =
-        ap (λ (l : List Float). elem l (p .rows + i)) zeroed
-        ∙ sets-at (replicate many nought) d (p .rows) i (rw length-replicate h) (rw length-replicate (omega (arith, laid .behind .right-at, laid .behind .factors-at, laid .behind .values-at, laid .behind .room)))
-        ∙ getD-replicate many i nought nan h
+-- ---- all blocks
 
-    pub zeroed-long : length z ≡ length d
-    zeroed-long = ap length zeroed ∙ length-sets d (p .rows) (replicate many nought)
+module _ (widths : List ℕ) (coefs : List Float) (p : Places) (n w : ℕ) (d : List Float) (laid : Laid p (length widths) n w (length d)) where
+  pub blocks-none : Moved p n w (upTo 0) (wholeEntry widths coefs p n d) (wholeSide widths coefs p n d) d d
+  blocks-none = moved-none p n w (upTo 0) (wholeEntry widths coefs p n d) (wholeSide widths coefs p n d) d (λ t j y a b c e. absurd (omega (arith, e))) (λ t y a b c. absurd (omega (arith, c)))
 
-    kept : (o k : ℕ) → o + k ≤ p .rows → part o k z ≡ part o k d
-    kept o k h = ap (part o k) zeroed ∙ stored-behind (replicate many nought) d o k (p .rows) h
+  pub blocks-next : (m m′ : List Float) (r : Span) → r .from ≤ r .to → Moved p n w (upTo (r .from)) (wholeEntry widths coefs p n d) (wholeSide widths coefs p n d) d m → Moved p n w r (wholeEntry widths coefs p n m) (wholeSide widths coefs p n m) m m′ → Moved p n w (upTo (r .to)) (wholeEntry widths coefs p n d) (wholeSide widths coefs p n d) d m′
+  blocks-next m m′ r l a k =
+      let room = inner widths coefs p n w r d laid in
+      let us : part (p .ivars) (length widths * n) m ≡ part (p .ivars) (length widths * n) d = pairs-kept p n w (upTo (r .from)) (wholeEntry widths coefs p n d) (wholeSide widths coefs p n d) d m (p .ivars) (length widths * n) a (laid .rows-at) room in
+      let ms : part 0 (length widths * n) m ≡ part 0 (length widths * n) d = pairs-kept p n w (upTo (r .from)) (wholeEntry widths coefs p n d) (wholeSide widths coefs p n d) d m 0 (length widths * n) a (omega (arith, laid .ivars-at, laid .rows-at)) room in
+      moved-next p n w r (wholeEntry widths coefs p n d) (wholeSide widths coefs p n d) d m m′ l a (moved-same p n w r (wholeEntry widths coefs p n m) (wholeEntry widths coefs p n d) (wholeSide widths coefs p n m) (wholeSide widths coefs p n d) m m′ (λ t j y g h. rw (us, ms)) (λ t y h. rw (us, ms)) k)
 
-    pub rows-done : (m : List Float) → Moved p n w (windowsEntry widths coefs (part (p .ivars) (length widths * n) z) (part 0 (length widths * n) z) n (length widths))
-        (windowsSide widths coefs (part (p .ivars) (length widths * n) z) (part 0 (length widths * n) z) n (length widths)) z m → Rowed widths coefs p n w d m
-    unfolding bandRows rightSide entryOf entrySum rightSum windowsEntry windowsSide
-    rows-done m k =
-        let us : part (p .ivars) (length widths * n) z ≡ us-all = kept (p .ivars) (length widths * n) (laid .rows-at) in
-        let ms : part 0 (length widths * n) z ≡ ms-all = kept 0 (length widths * n) (omega (arith, laid .ivars-at, laid .rows-at)) in
-        let room : p .right + n ≤ length m = omega (arith, k .long, zeroed-long, laid .behind .factors-at, laid .behind .values-at, laid .behind .room) in
-        record {
-          long = k .long ∙ zeroed-long;
-          rows = grid-is (entryOf widths coefs n us-all) w n (part (p .rows) (n * w) m) (length-take-le (n * w) (drop (p .rows) m) (simp length-drop (omega (arith, room, laid .behind .right-at))))
-              (λ t j a b. sym (part-elem (p .rows) (n * w) (t * w + j) m (row-in w t n j a b)) ∙ k .entries t j a b ∙ rw (us, zero-at (t * w + j) (omega (arith, laid .behind .right-at, row-in w t n j a b))));
-          right = build-is (rightSum widths coefs n us-all ms-all) n (part (p .right) n m) nan (length-take-le n (drop (p .right) m) (simp length-drop (omega (arith, room))))
-              (λ t a. let f : p .right + t ≡ p .rows + (p .right + t - p .rows) = omega (arith, laid .behind .right-at) in
-              sym (part-elem (p .right) n t m a) ∙ k .sides t a ∙ rw (us, ms) (ap (over _ (length widths)) (ap (elem z) f ∙ zero-at (p .right + t - p .rows) (omega (arith, a, laid .behind .right-at)))));
-        }
+  pub blocks-all : (m : List Float) → Moved p n w (upTo n) (wholeEntry widths coefs p n d) (wholeSide widths coefs p n d) d m → Rowed widths coefs p n w d m
+  unfolding bandRows rightSide entryOf entrySum rightSum windowsEntry windowsSide
+  blocks-all m k =
+      let room : p .right + n ≤ length m = omega (arith, k .long, laid .behind .factors-at, laid .behind .values-at, laid .behind .room) in
+      record {
+        long = k .long;
+        rows = grid-is (entryOf widths coefs n (part (p .ivars) (length widths * n) d)) w n (part (p .rows) (n * w) m) (length-take-le (n * w) (drop (p .rows) m) (simp length-drop (omega (arith, room, laid .behind .right-at))))
+            (λ t j a b. sym (part-elem (p .rows) (n * w) (t * w + j) m (row-in w t n j a b)) ∙ k .entries t j a b ∙ within-on (upTo n) t (wholeEntry widths coefs p n d t j) _ (omega arith) a);
+        right = build-is (rightSum widths coefs n (part (p .ivars) (length widths * n) d) (part 0 (length widths * n) d)) n (part (p .right) n m) nan (length-take-le n (drop (p .right) m) (simp length-drop (omega (arith, room))))
+            (λ t a. sym (part-elem (p .right) n t m a) ∙ k .sides t a ∙ within-on (upTo n) t (wholeSide widths coefs p n d t) _ (omega arith) a);
+      }

@@ -26,11 +26,11 @@ use Rattle.mlpg_adjust.specs.declared.Stream.{Stream}
 use Rattle.mlpg_adjust.specs.declared.component.Plan.{Plan}
 use Rattle.mlpg_adjust.specs.declared.gv.MlpgGlobalVariance.{MlpgGlobalVariance}
 use Rattle.mlpg_adjust.specs.declared.mask.Voicing.{Voicing}
-use Rattle.mlpg_adjust.proofs.Builds.{build-same}
+use Rattle.lists.proofs.Builds.{build-same}
 use Rattle.mlpg_adjust.proofs.Columns.{columned-all}
 use Rattle.mlpg_adjust.proofs.MaskClosing.{count-most}
 use Rattle.mlpg_adjust.proofs.TrajectoryLaws.{stream-long}
-use Rattle.mlpg_adjust.proofs.Regions.{returned, stored-behind, stored-whole}
+use Rattle.lists.proofs.Regions.{returned, stored-behind, stored-whole}
 
 -- ---- the global variance is off or on
 

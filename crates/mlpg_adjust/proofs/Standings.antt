@@ -17,7 +17,7 @@ use Rattle.mlpg_adjust.specs.Solve.{factorAt, factor, forwardAt, forward
 use Rattle.mlpg_adjust.specs.Region.{Spaced, matrixOf, sideOf, factorsOf, forwardOf, Rowed, Standing, Backing, Solved}
 use Rattle.mlpg_adjust.specs.declared.solve.Places.{Places}
 use Rattle.mlpg_adjust.proofs.Readings.{part-elem, part-part}
-use Rattle.mlpg_adjust.proofs.Regions.{stored-behind, stored-before, stored-at, stored-within}
+use Rattle.lists.proofs.Regions.{stored-behind, stored-before, stored-at, stored-within}
 use Rattle.mlpg_adjust.proofs.Factors.{rows-length, factor-front, factor-next, forward-looks, forward-length, forward-next, backward-next, backward-none}
 
 -- ---- the rows and the right side by their rows

@@ -3,7 +3,7 @@ use mathlib.Core.Path.{_≡_, refl, sym, ap, subst, _∙_}
 use mathlib.Core.Bool.{Bool, true, false, cond}
 use mathlib.Core.List.{List}
 use mathlib.Core.Logic.{⊎-elim, _≢_}
-use Prim.Native.Nat.{ℕ, _+_, _-_, _*_, _/_, _<_, _≤_, min}
+use Prim.Native.Nat.{ℕ, suc, _+_, _-_, _*_, _/_, _<_, _≤_, min, max}
 use native.Mathlib.Nat.{add-mul, mul-one, mul-le-mul-right, not-le-of-lt}
 use native.Mathlib.Omega.{arith}
 use borrow.Author.Tests.{lt-ltb, le-ltb, le-leb, lt-leb, eq-eqb, ne-eqb}
@@ -14,11 +14,12 @@ use Rattle.lists.proofs.Rows.{row-fits, row-in}
 use Rattle.mlpg_adjust.specs.Rows.{nought, elem, part}
 use Rattle.mlpg_adjust.specs.Paper.{W, added, term, rightTerm}
 use Rattle.mlpg_adjust.specs.Region.{Spaced}
-use Rattle.mlpg_adjust.specs.Passes.{Along, Moved, atFrame, tapEntry, tapSide, still, inColumn}
+use Rattle.mlpg_adjust.specs.Passes.{Along, Moved, atFrame, tapEntry, tapSide, within, still, inColumn}
 use Rattle.mlpg_adjust.specs.declared.solve.Places.{Places}
+use Rattle.mlpg_adjust.specs.declared.passes.Span.{Span}
 use Rattle.mlpg_adjust.proofs.Readings.{part-elem}
 use Rattle.mlpg_adjust.proofs.Terms.{same-at, W-own, W-tap, term-idle, right-idle}
-use Rattle.mlpg_adjust.proofs.Along.{moved-none, one-row}
+use Rattle.mlpg_adjust.proofs.Along.{within-on, within-idle, within-same, moved-none, one-row}
 
 -- ---- the frame that row t's tap k stands at
 
@@ -107,8 +108,8 @@ module _ (taps us ms : List Float) (n k : ℕ) (kb : k < length taps) where
 pub row-place : (r from t : ℕ) → from ≤ t → r + from + (t - from) * 1 ≡ r + t
 row-place r from t h = omega (arith, mul-one (t - from))
 
-pub frame-place : (u half k t : ℕ) → k - half ≤ t → u + (k - half + half - k) + (t - (k - half)) ≡ u + (t + half - k)
-frame-place u half k t h = omega arith
+pub frame-place : (u half k from t : ℕ) → k - half ≤ from → from ≤ t → u + (from + half - k) + (t - from) ≡ u + (t + half - k)
+frame-place u half k from t h l = omega arith
 
 pub frame-in : (n half k t : ℕ) → k - half ≤ t → t < n - (half - k) → t + half - k < n
 frame-in n half k t a b = omega arith
@@ -122,14 +123,50 @@ not-behind r from to s t h l e = omega (arith, mul-one s)
 pub before : (from to t : ℕ) → from ≤ t → t < to → t - from < to - from
 before from to t a b = omega arith
 
+reached : (from to s : ℕ) → s < to - from → from + s < to
+reached from to s h = omega arith
+
+pub below : (n missing t : ℕ) → t ≤ n - missing → t ≤ n
+below n missing t h = omega arith
+
+column-of-row : (n j t : ℕ) → t < n - j → t + j < n
+column-of-row n j t h = omega arith
+
 pub behind : (from to s t : ℕ) → to ≤ t → s < to - from → t ≢ from + s
 behind from to s t h l e = omega arith
 
-least-left : (a b to t : ℕ) → to ≡ min a b → t < to → t < a
-least-left a b to t e h = omega arith
+-- the rows from the later of two on, and to the earlier of two
+pub late : (a b from : ℕ) → from ≡ max a b → b ≤ from
+late a b from e = omega arith
 
-least-right : (a n j to t : ℕ) → to ≡ min a (n - j) → t < to → t + j < n
-least-right a n j to t e h = omega arith
+pub early : (a b to : ℕ) → to ≡ min a b → to ≤ b
+early a b to e = omega arith
+
+pub earlier : (a b c end to : ℕ) → end ≡ min a b → to ≡ min end c → to ≤ b
+earlier a b c end to e f = omega arith
+
+module _ (a b from t : ℕ) (e : from ≡ max a b) where
+  from-left : from ≤ t → a ≤ t
+  from-left h = omega arith
+
+  from-right : from ≤ t → b ≤ t
+  from-right h = omega arith
+
+  not-from : t < from → a ≤ t → t < b
+  not-from h l = omega arith
+
+module _ (a b to t : ℕ) (e : to ≡ min a b) where
+  to-left : t < to → t < a
+  to-left h = omega arith
+
+  to-right : t < to → t < b
+  to-right h = omega arith
+
+  not-to : to ≤ t → t < a → b ≤ t
+  not-to h l = omega arith
+
+not-least : (a b c end to t : ℕ) → end ≡ min a b → to ≡ min end c → to ≤ t → t < a → min b c ≤ t
+not-least a b c end to t e f h l = omega arith
 
 module _ (r w from s t i j : ℕ) (h : i < w) (l : j < w) where
   pub column-place : from ≤ t → r + (from * w + j) + (t - from) * w ≡ r + (t * w + j)
@@ -155,7 +192,7 @@ module _ (rows from to n w j size : ℕ) (h : from < to) (l : to ≤ n) (b : j <
   pub row-narrow : w ≤ size
   row-narrow = omega (arith, row-fits w from n (omega arith))
 
-pub frames-end : (n half k from to : ℕ) → from ≡ k - half → to ≤ n - (half - k) → from < to → from + half - k + (to - from) ≤ n
+pub frames-end : (n half k from to : ℕ) → k - half ≤ from → to ≤ n - (half - k) → from < to → from + half - k + (to - from) ≤ n
 frames-end n half k from to e h l = omega arith
 
 pub less-min : (a b : ℕ) → a - min a b ≡ a - b
@@ -163,39 +200,50 @@ less-min a b = omega arith
 
 -- ---- a pass along the right side, and one along a column
 
-module _ (p : Places) (n w : ℕ) (taps : List Float) (k u : ℕ) (d : List Float) (kb : k < length taps) (nz : eq (elem taps k) nought ≡ false) (ub : u + n ≤ p .rows) (sp : Spaced p n w (length d)) where
-  abbrev from : ℕ
-  from = k - length taps / 2
+module _ (p : Places) (n w : ℕ) (r : Span) (taps : List Float) (k u : ℕ) (d : List Float) (kb : k < length taps) (nz : eq (elem taps k) nought ≡ false) (ub : u + n ≤ p .rows) (sp : Spaced p n w (length d))
+    (from : ℕ) (fb : from ≡ max (r .from) (k - length taps / 2)) where
+  abbrev half-width : ℕ
+  half-width = length taps / 2
 
   abbrev first : ℕ
-  first = from + length taps / 2 - k
+  first = from + half-width - k
 
-  module _ (mean : ℕ) (mb : mean + n ≤ p .rows) where
-    abbrev to : ℕ
-    to = n - (length taps / 2 - k)
+  starts-late : k - half-width ≤ from
+  starts-late = late (r .from) (k - half-width) from fb
 
+  module _ (mean : ℕ) (mb : mean + n ≤ p .rows) (to : ℕ) (tb : to ≡ min (r .to) (n - (length taps / 2 - k))) where
     abbrev T : ℕ → Float → Float
     T = tapSide taps (part u n d) (part mean n d) n k
 
-    pub side-none : to ≤ from → Moved p n w (λ t j y. y) T d d
-    side-none h = moved-none p n w (λ t j y. y) T d (λ t j y a b. refl) (λ t y a. out-side taps (part u n d) (part mean n d) n k kb t y a (λ b. omega arith))
+    -- a row of the span that the pass doesn't reach
+    unreached : (t : ℕ) (y : Float) → t < n → r .from ≤ t → t < r .to → (from ≤ t → to ≤ t) → T t y ≡ y
+    unreached t y h a b o = out-side taps (part u n d) (part mean n d) n k kb t y h (λ c. ⊎-elim
+        (λ (e : from ≤ t). not-to (r .to) (n - (half-width - k)) to t tb (o e) b)
+        (λ (e : t < from). absurd (not-le-of-lt (not-from (r .from) (k - half-width) from t fb e a) c))
+        (le-or-lt from t))
+
+    pub side-none : to ≤ from → Moved p n w r (λ t j y. y) T d d
+    side-none h = moved-none p n w r (λ t j y. y) T d (λ t j y a b c e. refl) (λ t y a b c. unreached t y a b c (λ e. omega (arith, h, e)))
 
     pub side-done : (m : List Float) → from < to
-        → Along (p .right + from) 1 (to - from) (λ t x. add binary64 x (mul binary64 (mul binary64 (elem taps k) (elem d (u + first + t))) (elem d (mean + first + t)))) d m → Moved p n w (λ t j y. y) T d m
+        → Along (p .right + from) 1 (to - from) (λ t x. add binary64 x (mul binary64 (mul binary64 (elem taps k) (elem d (u + first + t))) (elem d (mean + first + t)))) d m → Moved p n w r (λ t j y. y) T d m
     side-done m l q = record {
       long = q .long;
       pairs = λ i h. q .off i (λ s a e. far i s h e);
-      entries = λ t j h b. q .off (p .rows + (t * w + j)) (λ s a e. near t j s h b e);
+      entries = λ t j h b. q .off (p .rows + (t * w + j)) (λ s a e. near t j s h b e) ∙ sym (within-idle r t (λ y. y) _ (λ c e. refl));
       sides = λ t h. ⊎-elim
           (λ (a : from ≤ t). ⊎-elim
-          (λ (b : to ≤ t). q .off (p .right + t) (λ s g. not-behind (p .right) from to s t b g) ∙ sym (out-side taps (part u n d) (part mean n d) n k kb t _ h (λ c. b)))
+          (λ (b : to ≤ t). q .off (p .right + t) (λ s g. not-behind (p .right) from to s t b g) ∙ sym (within-idle r t (T t) _ (λ c e. unreached t _ h c e (λ f. b))))
           (λ (b : t < to).
           let e = row-place (p .right) from t a in
-          let i = frame-in n (length taps / 2) k t a b in
-          ap (elem m) (sym e) ∙ q .on (t - from) (within t a b) ∙ rw (e, frame-place u (length taps / 2) k t a, frame-place mean (length taps / 2) k t a, part-elem u n (t + length taps / 2 - k) d i, part-elem mean n (t + length taps / 2 - k) d i)
-          (sym (in-side taps (part u n d) (part mean n d) n k kb t _ h nz a b)))
+          let k-in = from-right (r .from) (k - half-width) from t fb a in
+          let t-in = to-right (r .to) (n - (half-width - k)) to t tb b in
+          let i = frame-in n half-width k t k-in t-in in
+          ap (elem m) (sym e) ∙ q .on (t - from) (before from to t a b)
+          ∙ rw (e, frame-place u half-width k from t starts-late a, frame-place mean half-width k from t starts-late a, part-elem u n (t + half-width - k) d i, part-elem mean n (t + half-width - k) d i)
+          (sym (within-on r t (T t) _ (from-left (r .from) (k - half-width) from t fb a) (to-left (r .to) (n - (half-width - k)) to t tb b) ∙ in-side taps (part u n d) (part mean n d) n k kb t _ h nz k-in t-in)))
           (le-or-lt to t))
-          (λ (a : t < from). q .off (p .right + t) (λ s g. not-before (p .right) from s t a) ∙ sym (out-side taps (part u n d) (part mean n d) n k kb t _ h (λ c. absurd (not-le-of-lt a c))))
+          (λ (a : t < from). q .off (p .right + t) (λ s g. not-before (p .right) from s t a) ∙ sym (within-idle r t (T t) _ (λ c e. unreached t _ h c e (λ f. absurd (not-le-of-lt a f)))))
           (le-or-lt from t);
     }
       where
@@ -205,10 +253,7 @@ module _ (p : Places) (n w : ℕ) (taps : List Float) (k u : ℕ) (d : List Floa
         near : (t j s : ℕ) → t < n → j < w → p .rows + (t * w + j) ≢ p .right + from + s * 1
         near t j s h b e = omega (arith, sp .right-at, row-in w t n j h b)
 
-        within : (t : ℕ) → from ≤ t → t < to → t - from < to - from
-        within t a b = before from to t a b
-
-  module _ (j to : ℕ) (jb : k + j < length taps) (narrow : length taps ≤ w) (tb : to ≡ min (n - (length taps / 2 - k)) (n - j)) where
+  module _ (j end to : ℕ) (jb : k + j < length taps) (narrow : length taps ≤ w) (eb : end ≡ min (r .to) (n - (length taps / 2 - k))) (tb : to ≡ min end (n - j)) where
     abbrev C : ℕ → ℕ → Float → Float
     C = tapEntry taps (part u n d) (part u n d) n k
 
@@ -223,44 +268,55 @@ module _ (p : Places) (n w : ℕ) (taps : List Float) (k u : ℕ) (d : List Floa
     there t y = rw (eq-eqb j j refl)
 
     -- the column's own entry, or another
-    pub by-column : (P : ℕ → Type 0) (i : ℕ) → (i ≢ j → P i) → P j → P i
+    by-column : (P : ℕ → Type 0) (i : ℕ) → (i ≢ j → P i) → P j → P i
     by-column P i a b = ⊎-elim
         (λ (g : i ≤ j). ⊎-elim (λ (q : j ≤ i). let e : i ≡ j = omega arith in subst P (sym e) b) (λ (q : i < j). a (λ e. omega arith)) (le-or-lt j i))
         (λ (g : j < i). a (λ e. omega arith))
         (le-or-lt i j)
 
-    pub column-idle : ((t : ℕ) (y : Float) → t < n → C t j y ≡ y) → Moved p n w (inColumn j C) still d d
-    column-idle h = moved-none p n w (inColumn j C) still d
-        (λ t i y a b. by-column (λ (x : ℕ). inColumn j C t x y ≡ y) i (elsewhere t i y) (there t y ∙ h t y a)) (λ t y a. refl)
+    pub column-idle : ((t : ℕ) (y : Float) → t < n → r .from ≤ t → t < r .to → C t j y ≡ y) → Moved p n w r (inColumn j C) still d d
+    column-idle h = moved-none p n w r (inColumn j C) still d
+        (λ t i y a b c e. by-column (λ (x : ℕ). inColumn j C t x y ≡ y) i (elsewhere t i y) (there t y ∙ h t y a c e)) (λ t y a b c. refl)
 
-    pub column-none : to ≤ from → Moved p n w (inColumn j C) still d d
-    column-none h = column-idle (λ t y a. out-entry taps (part u n d) (part u n d) n k kb t y a j (λ b. rw (← tb) (omega (arith, h, b))))
+    -- a row of the span that the pass doesn't reach
+    missed : (t : ℕ) (y : Float) → t < n → r .from ≤ t → t < r .to → (from ≤ t → to ≤ t) → C t j y ≡ y
+    missed t y h a b o = out-entry taps (part u n d) (part u n d) n k kb t y h j (λ c. ⊎-elim
+        (λ (e : from ≤ t). not-least (r .to) (n - (half-width - k)) (n - j) end to t eb tb (o e) b)
+        (λ (e : t < from). absurd (not-le-of-lt (not-from (r .from) (k - half-width) from t fb e a) c))
+        (le-or-lt from t))
+
+    pub column-none : to ≤ from → Moved p n w r (inColumn j C) still d d
+    column-none h = column-idle (λ t y a b c. missed t y a b c (λ e. omega (arith, h, e)))
 
     module _ (dz : eq (elem taps (k + j)) nought ≡ false) (m : List Float)
         (q : Along (p .rows + (from * w + j)) w (to - from) (λ t y. add binary64 y (mul binary64 (mul binary64 (elem taps k) (elem d (u + first + t))) (elem taps (k + j)))) d m) where
       old : (t : ℕ) → ((s : ℕ) → s < to - from → t ≢ from + s) → elem m (p .rows + (t * w + j)) ≡ elem d (p .rows + (t * w + j))
       old t h = q .off (p .rows + (t * w + j)) (λ s a e. h s a (column-row (p .rows) w from s t j j j-in j-in e .0))
 
-      own-column : (t : ℕ) → t < n → elem m (p .rows + (t * w + j)) ≡ C t j (elem d (p .rows + (t * w + j)))
+      own-column : (t : ℕ) → t < n → elem m (p .rows + (t * w + j)) ≡ within r t (C t j) (elem d (p .rows + (t * w + j)))
       own-column t h = ⊎-elim
           (λ (a : from ≤ t). ⊎-elim
-          (λ (b : to ≤ t). old t (λ s g e. behind from to s t b g e) ∙ sym (out-entry taps (part u n d) (part u n d) n k kb t _ h j (λ c. rw (← tb) b)))
+          (λ (b : to ≤ t). old t (λ s g e. behind from to s t b g e) ∙ sym (within-idle r t (C t j) _ (λ c e. missed t _ h c e (λ f. b))))
           (λ (b : t < to).
           let e = column-place (p .rows) w from 0 t j j j-in j-in a in
-          let i = frame-in n (length taps / 2) k t a (least-left (n - (length taps / 2 - k)) (n - j) to t tb b) in
-          ap (elem m) (sym e) ∙ q .on (t - from) (before from to t a b) ∙ rw (e, frame-place u (length taps / 2) k t a, part-elem u n (t + length taps / 2 - k) d i)
-          (sym (in-entry taps (part u n d) (part u n d) n k kb t _ h nz a (least-left (n - (length taps / 2 - k)) (n - j) to t tb b) j (least-right (n - (length taps / 2 - k)) n j to t tb b) jb dz)))
+          let before-end = to-left end (n - j) to t tb b in
+          let k-in = from-right (r .from) (k - half-width) from t fb a in
+          let t-in = to-right (r .to) (n - (half-width - k)) end t eb before-end in
+          let i = frame-in n half-width k t k-in t-in in
+          ap (elem m) (sym e) ∙ q .on (t - from) (before from to t a b) ∙ rw (e, frame-place u half-width k from t starts-late a, part-elem u n (t + half-width - k) d i)
+          (sym (within-on r t (C t j) _ (from-left (r .from) (k - half-width) from t fb a) (to-left (r .to) (n - (half-width - k)) end t eb before-end)
+          ∙ in-entry taps (part u n d) (part u n d) n k kb t _ h nz k-in t-in j (column-of-row n j t (to-right end (n - j) to t tb b)) jb dz)))
           (le-or-lt to t))
-          (λ (a : t < from). old t (λ s g e. omega (arith, a, e)) ∙ sym (out-entry taps (part u n d) (part u n d) n k kb t _ h j (λ c. absurd (not-le-of-lt a c))))
+          (λ (a : t < from). old t (λ s g e. omega (arith, a, e)) ∙ sym (within-idle r t (C t j) _ (λ c e. missed t _ h c e (λ f. absurd (not-le-of-lt a f)))))
           (le-or-lt from t)
 
-      pub column-done : Moved p n w (inColumn j C) still d m
+      pub column-done : Moved p n w r (inColumn j C) still d m
       column-done = record {
         long = q .long;
         pairs = λ i h. q .off i (λ s a e. far i s h e);
-        entries = λ t i h b. by-column (λ (x : ℕ). elem m (p .rows + (t * w + x)) ≡ inColumn j C t x (elem d (p .rows + (t * w + x)))) i
-            (λ ne. q .off (p .rows + (t * w + i)) (λ s a e. ne (column-row (p .rows) w from s t i j b j-in e .1)) ∙ sym (elsewhere t i _ ne)) (own-column t h ∙ sym (there t _));
-        sides = λ t h. q .off (p .right + t) (λ s a e. near t s a e);
+        entries = λ t i h b. by-column (λ (x : ℕ). elem m (p .rows + (t * w + x)) ≡ within r t (inColumn j C t x) (elem d (p .rows + (t * w + x)))) i
+            (λ ne. q .off (p .rows + (t * w + i)) (λ s a e. ne (column-row (p .rows) w from s t i j b j-in e .1)) ∙ sym (within-idle r t (inColumn j C t i) _ (λ c e. elsewhere t i _ ne))) (own-column t h ∙ within-same r t (C t j) _ (inColumn j C t j) (sym (there t _)));
+        sides = λ t h. q .off (p .right + t) (λ s a e. near t s a e) ∙ sym (within-idle r t (still t) _ (λ b c. refl));
       }
         where
           far : (i s : ℕ) → i < p .rows → i ≢ p .rows + (from * w + j) + s * w
@@ -270,4 +326,4 @@ module _ (p : Places) (n w : ℕ) (taps : List Float) (k u : ℕ) (d : List Floa
           near t s a e = omega (arith, sp .right-at, add-mul from s w, row-in w (from + s) n j (inner s a) j-in)
             where
               inner : (s : ℕ) → s < to - from → from + s < n
-              inner s a = omega (arith, tb, a)
+              inner s a = below n (half-width - k) (suc (from + s)) (to-right (r .to) (n - (half-width - k)) end (from + s) eb (to-left end (n - j) to (from + s) tb (reached from to s a)))

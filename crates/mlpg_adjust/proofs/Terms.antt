@@ -16,7 +16,7 @@ use Rattle.lists.proofs.Numbers.{le-or-lt}
 use Rattle.mlpg_adjust.specs.Rows.{nought, elem, part}
 use Rattle.mlpg_adjust.specs.Paper.{W, added, term, rightTerm}
 use Rattle.mlpg_adjust.specs.Inner.{onRow}
-use Rattle.mlpg_adjust.proofs.Builds.{build-at, build-is, build-same, build-rest}
+use Rattle.lists.proofs.Builds.{build-at, build-is, build-same, build-rest}
 
 pub eq-nought : eq nought nought ≡ true
 unfolding eq ofBits

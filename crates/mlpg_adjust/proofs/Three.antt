@@ -1,18 +1,20 @@
--- Laws of rows of width 3, which are factored and put forward and backward without a loop. Assumes nothing.
+-- Laws of rows of width 3, which are factored, put forward and backward, and multiplied by values without a loop. Assumes nothing.
 use mathlib.Core.Path.{_≡_, refl, sym, ap, _∙_}
 use mathlib.Core.List.{List}
 use Prim.Native.Nat.{ℕ, suc, _+_, _-_, _*_, _<_, _≤_, min}
 use native.Mathlib.Nat.{add-zero}
 use native.Mathlib.Omega.{arith}
+use borrow.Author.Tests.{lt-ltb, le-leb}
 use lib.ListN.{length, set, drop, length-drop}
 use lib.Seq.{sets, getD-drop}
-use lib.Ieee.{Float, nan, binary64, sub, mul, div}
+use lib.Ieee.{Float, nan, binary64, add, sub, mul, div}
 use Rattle.lists.specs.Build.{build}
-use Rattle.mlpg_adjust.specs.Sums.{less}
+use Rattle.mlpg_adjust.specs.Sums.{over, less}
 use Rattle.mlpg_adjust.specs.Rows.{elem, part, entry}
 use Rattle.mlpg_adjust.specs.Solve.{reduced, factorTerm, factorAt, forwardTerm, forwardAt, backwardTerm, backwardAt}
+use Rattle.mlpg_adjust.specs.Gv.{ahead, behind, gradientAt}
 use Rattle.mlpg_adjust.proofs.Readings.{part-elem}
-use Rattle.mlpg_adjust.proofs.Regions.{cut-length}
+use Rattle.lists.proofs.Regions.{cut-length}
 
 -- ---- row t of the factors and the value at t, from the two rows and values before: row t of the matrix is at `row`, its right side at `side`
 
@@ -109,3 +111,36 @@ three-backward m factors values n t h l =
     let f₂ : elem m (factors + t * 3 + 2) ≡ entry 3 F t 2 = entry-is _ 2 (omega arith) (omega arith) in
     rw (part-elem values n t m (omega arith), f₀, f₁, f₂, behind 0 (omega arith), behind 1 (omega arith))
     (sym (ap (λ (k : ℕ). less (div binary64 (elem P t) (entry 3 F t 0)) (backwardTerm 3 F C t) k) e))
+
+-- ---- row t of the matrix times the values, two of which are to each side
+
+pub three-gradient : (m : List Float) (rows values n t : ℕ) → 2 ≤ t → t + 2 < n → values + n ≤ length m
+    → add binary64 (add binary64 (add binary64 (add binary64 (mul binary64 (elem m (rows + t * 3)) (elem m (values + t))) (mul binary64 (elem m (rows + t * 3 + 1)) (elem m (values + t + 1))))
+    (mul binary64 (elem m (rows + t * 3 - 2)) (elem m (values + t - 1)))) (mul binary64 (elem m (rows + t * 3 + 2)) (elem m (values + t + 2)))) (mul binary64 (elem m (rows + t * 3 - 4)) (elem m (values + t - 2)))
+    ≡ gradientAt 3 (part rows (n * 3) m) (part values n m) t
+unfolding gradientAt over ahead behind
+three-gradient m rows values n t b h l =
+    let A : List Float = part rows (n * 3) m in
+    let P : List Float = part values n m in
+    let long : length P ≡ n = cut-length values n m l in
+    let entry-is : (x r j : ℕ) → r < n → j < 3 → x ≡ rows + (r * 3 + j) → elem m x ≡ entry 3 A r j = λ x r j a c o.
+    ap (λ (i : ℕ). elem m i) o ∙ part-elem rows (n * 3) (r * 3 + j) m (omega arith) in
+    let value-is : (x r : ℕ) → r < n → x ≡ values + r → elem m x ≡ elem P r = λ x r a o.
+    ap (λ (i : ℕ). elem m i) o ∙ part-elem values n r m a in
+    rw (
+      entry-is (rows + t * 3) t 0 (omega arith) (omega arith) (omega arith),
+      entry-is (rows + t * 3 + 1) t 1 (omega arith) (omega arith) (omega arith),
+      entry-is (rows + t * 3 + 2) t 2 (omega arith) (omega arith) (omega arith),
+      entry-is (rows + t * 3 - 2) (t - 1) 1 (omega arith) (omega arith) (omega arith),
+      entry-is (rows + t * 3 - 4) (t - 2) 2 (omega arith) (omega arith) (omega arith),
+      value-is (values + t) t (omega arith) (omega arith),
+      value-is (values + t + 1) (t + 1) (omega arith) (omega arith),
+      value-is (values + t + 2) (t + 2) (omega arith) (omega arith),
+      value-is (values + t - 1) (t - 1) (omega arith) (omega arith),
+      value-is (values + t - 2) (t - 2) (omega arith) (omega arith),
+      long,
+      lt-ltb (t + 1) n (omega arith),
+      le-leb 1 t (omega arith),
+      lt-ltb (t + 2) n (omega arith),
+      le-leb 2 t (omega arith),
+    )

@@ -1,4 +1,4 @@
--- Laws of the global variance's passes over a region: gradient and objective, a step, a turn, five turns. Assumes nothing.
+-- Laws of the global variance's passes over a region: gradient, a step, a turn, five turns. Assumes nothing.
 use mathlib.Core.Path.{_≡_, refl, sym, ap, _∙_}
 use mathlib.Core.Bool.{Bool, false, cond}
 use mathlib.Core.List.{List}
@@ -16,94 +16,45 @@ use Rattle.lists.specs.Build.{build}
 use Rattle.lists.proofs.Fills.{build-length}
 use Rattle.lists.proofs.Rows.{row-in}
 use Rattle.mlpg_adjust.specs.Frames.{count}
-use Rattle.mlpg_adjust.specs.Sums.{over}
-use Rattle.mlpg_adjust.specs.Rows.{nought, elem, entry, part}
-use Rattle.mlpg_adjust.specs.Gv.{stepInit, meanOf, variOf, convGv, gradientAt, gradient, weightOf, hmmTerm, hmmObj, gvObj, sizeAfter}
+use Rattle.mlpg_adjust.specs.Rows.{elem, entry, part}
+use Rattle.mlpg_adjust.specs.Gv.{stepInit, meanOf, variOf, convGv, gradientAt, gradient, weightOf, hmmObj, gvObj, sizeAfter}
 use Rattle.mlpg_adjust.specs.Parmgen.{iterate, State, state, valuesOf, nextAt, nextStep, objective, turn, parmgen}
-use Rattle.mlpg_adjust.specs.GvInner.{Sized, Pulls, pulled, Turned}
+use Rattle.mlpg_adjust.specs.Region.{Spaced}
+use Rattle.mlpg_adjust.specs.GvInner.{Sized, Graded, Pulls, pulled, Turned}
 use Rattle.mlpg_adjust.specs.declared.solve.Places.{Places}
 use Rattle.mlpg_adjust.specs.declared.gv.MlpgGlobalVariance.{MlpgGlobalVariance}
 use Rattle.mlpg_adjust.specs.declared.gv.Pull.{Pull}
-use Rattle.mlpg_adjust.proofs.Orders.{over-step}
-use Rattle.mlpg_adjust.proofs.Builds.{build-at, build-same}
+use Rattle.lists.proofs.Builds.{build-same}
 use Rattle.mlpg_adjust.proofs.Readings.{part-elem, read-under, read-beyond}
-use Rattle.mlpg_adjust.proofs.Regions.{cut-length, returned, stored-behind, stored-before, stored-whole, stored-rule}
+use Rattle.lists.proofs.Regions.{cut-length, returned, stored-behind, stored-before, stored-whole, stored-rule}
 
--- ---- a region whose rows, right side, place for the gradient and values follow each other
+-- ---- the gradient: m is a region d with t rows of it
 
-module _ (n w rows right to values : ℕ) (M : List Float) (pos : 0 < w) (first : rows + n * w ≤ right) (second : right + n ≤ to) (third : to + n * w ≤ values) (fourth : values + n ≤ length M) where
-  abbrev A : List Float
-  A = part rows (n * w) M
+pub graded-next : (p : Places) (n w size : ℕ) → 0 < w → Spaced p n w size → (d m : List Float) (t : ℕ) (x : Float) → t < n
+    → x ≡ gradientAt w (part (p .rows) (n * w) m) (part (p .values) n m) t → Graded p n w d m t → Graded p n w d (set m (p .factors + t) x) (t + 1)
+graded-next p n w size pos s d m t x h o e =
+    let f = gradientAt w (part (p .rows) (n * w) d) (part (p .values) n d) in
+    let long : length (build f t) ≡ t = build-length f t in
+    let rows : part (p .rows) (n * w) m ≡ part (p .rows) (n * w) d = ap (λ (l : List Float). part (p .rows) (n * w) l) e ∙ stored-behind (build f t) d (p .rows) (n * w) (p .factors) (omega arith) in
+    let values : part (p .values) n m ≡ part (p .values) n d = ap (λ (l : List Float). part (p .values) n l) e ∙ stored-before (build f t) d (p .values) n (p .factors) (omega (arith, mul-le-mul-left n pos)) in
+    stored-rule f d m (p .factors) t x (o ∙ rw (rows, values)) e
 
-  abbrev R : List Float
-  R = part right n M
+gradient-is : (p : Places) (n w : ℕ) (d : List Float) → p .values + n ≤ length d
+    → gradient w (part (p .rows) (n * w) d) (part (p .values) n d) ≡ build (gradientAt w (part (p .rows) (n * w) d) (part (p .values) n d)) n
+unfolding gradient
+gradient-is p n w d h = rw (cut-length (p .values) n d h)
 
-  abbrev P : List Float
-  P = part values n M
+pub graded-all : (p : Places) (n w : ℕ) (d m : List Float) → p .values + n ≤ length d → Graded p n w d m n → m ≡ sets d (p .factors) (gradient w (part (p .rows) (n * w) d) (part (p .values) n d))
+graded-all p n w d m h e = e ∙ rw (gradient-is p n w d h)
 
-  abbrev G : List Float
-  G = gradient w A P
+-- ---- a frame's value after the step, in a region that has the gradient
 
-  narrow : n ≤ n * w
-  narrow = omega (arith, mul-le-mul-left n pos)
+abbrev pub moved : ℕ → ℕ → ℕ → ℕ → ℕ → List Bool → Pull → List Float → ℕ → Float
+moved w rows right gradient values on s m t = pulled s (elem m (rows + t * w)) (getD on t false) (elem m (gradient + t)) (elem m (right + t)) (elem m (values + t))
 
-  pub P-long : length P ≡ n
-  P-long = cut-length values n M fourth
+-- ---- a region M, its parts and its gradient
 
-  pub G-is : G ≡ build (gradientAt w A P) n
-  unfolding gradient
-  G-is = rw P-long
-
-  -- ---- `calc_hmmobj_derivative`, t frames done
-
-  abbrev objective-to : Float → ℕ → Float
-  objective-to weight t = over (λ t y. add binary64 y (hmmTerm weight (elem R t) (elem G t) (elem P t))) t nought
-
-  pub derivative-next : (m : List Float) (t : ℕ) (weight obj g x₁ x₂ y : Float) → t < n → m ≡ sets M to (build (gradientAt w A P) t) → obj ≡ objective-to weight t
-      → g ≡ gradientAt w (part rows (rows + n * w - rows) m) (part values (values + n - values) m) t
-      → x₁ ≡ elem (set m (to + t) g) (right + t) → x₂ ≡ elem (set m (to + t) g) (values + t) → y ≡ hmmTerm weight x₁ g x₂
-      → (set m (to + t) g ≡ sets M to (build (gradientAt w A P) (t + 1))) × (add binary64 obj y ≡ objective-to weight (t + 1)) × (x₂ ≡ elem P t)
-  derivative-next m t weight obj g x₁ x₂ y h e o eg e₁ e₂ ey =
-      let vs = build (gradientAt w A P) t in
-      let lv : length vs ≡ t = build-length (gradientAt w A P) t in
-      let a : part rows (n * w) m ≡ A = ap (λ (l : List Float). part rows (n * w) l) e ∙ stored-behind vs M rows (n * w) to (omega arith) in
-      let b : part values n m ≡ P = ap (λ (l : List Float). part values n l) e ∙ stored-before vs M values n to (omega (arith, narrow)) in
-      let g-is : g ≡ gradientAt w A P t = eg ∙ rw (add-sub-cancel-left rows (n * w), add-sub-cancel-left values n, a, b) in
-      let m-is : set m (to + t) g ≡ sets M to (build (gradientAt w A P) (t + 1)) = stored-rule (gradientAt w A P) M m to t g g-is e in
-      let vs′ = build (gradientAt w A P) (t + 1) in
-      let lv′ : length vs′ ≡ t + 1 = build-length (gradientAt w A P) (t + 1) in
-      let r₁ : x₁ ≡ elem R t = e₁ ∙ ap (λ (l : List Float). elem l (right + t)) m-is ∙ read-under vs′ M to (right + t) (omega arith) ∙ part-elem right n t M h in
-      let r₂ : x₂ ≡ elem P t = e₂ ∙ ap (λ (l : List Float). elem l (values + t)) m-is ∙ read-beyond vs′ M to (values + t) (omega (arith, narrow)) ∙ part-elem values n t M h in
-      let g-at : g ≡ elem G t = g-is ∙ sym (ap (λ (l : List Float). elem l t) G-is ∙ build-at (gradientAt w A P) n t nan h) in
-      (m-is, rw (o, ey, r₁, r₂, g-at) (over-step (λ t y. add binary64 y (hmmTerm weight (elem R t) (elem G t) (elem P t))) t nought), r₂)
-
-  pub derivative-done : (m : List Float) (t : ℕ) (weight obj : Float) → t ≡ n → m ≡ sets M to (build (gradientAt w A P) t) → obj ≡ objective-to weight t
-      → (m ≡ sets M to G) × (obj ≡ hmmObj weight R G P)
-  unfolding hmmObj
-  derivative-done m t weight obj z e o = (rw z at e ∙ rw G-is, rw z at o ∙ rw P-long)
-
-  -- ---- `next_step`, t frames done
-
-  abbrev moved : Pull → List Bool → ℕ → Float
-  moved s on t = pulled s (elem M (rows + t * w)) (getD on t false) (elem M (to + t)) (elem M (right + t)) (elem M (values + t))
-
-  pub step-next : (s : Pull) (on : List Bool) (m : List Float) (t : ℕ) (b : Bool) (x x₁ x₂ x₃ x₄ : Float) → t < n → m ≡ sets M values (build (moved s on) t) → b ≡ getD on t false
-      → x₁ ≡ elem m (rows + t * w) → x₂ ≡ elem m (to + t) → x₃ ≡ elem m (right + t) → x₄ ≡ elem m (values + t) → x ≡ pulled s x₁ b x₂ x₃ x₄
-      → (set m (values + t) x ≡ sets M values (build (moved s on) (t + 1))) × (x ≡ elem (build (moved s on) n) t)
-  step-next s on m t b x x₁ x₂ x₃ x₄ h e eb e₁ e₂ e₃ e₄ ex =
-      let vs = build (moved s on) t in
-      let lv : length vs ≡ t = build-length (moved s on) t in
-      let in-row : t * w + 0 < n * w = row-in w t n 0 h pos in
-      let r₁ : x₁ ≡ elem M (rows + t * w) = e₁ ∙ ap (λ (l : List Float). elem l (rows + t * w)) e ∙ read-under vs M values (rows + t * w) (omega arith) in
-      let r₂ : x₂ ≡ elem M (to + t) = e₂ ∙ ap (λ (l : List Float). elem l (to + t)) e ∙ read-under vs M values (to + t) (omega (arith, narrow)) in
-      let r₃ : x₃ ≡ elem M (right + t) = e₃ ∙ ap (λ (l : List Float). elem l (right + t)) e ∙ read-under vs M values (right + t) (omega arith) in
-      let r₄ : x₄ ≡ elem M (values + t) = e₄ ∙ ap (λ (l : List Float). elem l (values + t)) e ∙ read-beyond vs M values (values + t) (omega arith) in
-      let x-is : x ≡ moved s on t = ex ∙ rw (eb, r₁, r₂, r₃, r₄) in
-      (stored-rule (moved s on) M m values t x x-is e, x-is ∙ sym (build-at (moved s on) n t nan h))
-
--- ---- a turn: M is the region before it, m₁ that with the gradient, m₂ that with the next values
-
-module _ (g : MlpgGlobalVariance) (p : Places) (on : List Bool) (gvMean gvVari : Float) (M : List Float) (z : Sized g p (length M)) where
+module _ (g : MlpgGlobalVariance) (p : Places) (M : List Float) (z : Sized g p (length M)) where
   abbrev n : ℕ
   n = g .length
 
@@ -122,46 +73,72 @@ module _ (g : MlpgGlobalVariance) (p : Places) (on : List Bool) (gvMean gvVari :
   abbrev D : List Float
   D = gradient w B X
 
+  fit : n ≤ n * w
+  fit = omega (arith, mul-le-mul-left n (z .some))
+
+  pub X-long : length X ≡ n
+  X-long = cut-length (p .values) n M (z .spaced .room)
+
   D-is : D ≡ build (gradientAt w B X) n
-  D-is = G-is n w (p .rows) (p .right) (p .factors) (p .values) M (z .some) (z .spaced .right-at) (z .spaced .factors-at) (z .spaced .values-at) (z .spaced .room)
+  D-is = gradient-is p n w M (z .spaced .room)
 
   D-long : length D ≡ n
   D-long = rw (D-is, build-length)
 
-  X-long : length X ≡ n
-  X-long = cut-length (p .values) n M (z .spaced .room)
+  -- ---- a step, t frames done
 
-  fit : n ≤ n * w
-  fit = omega (arith, mul-le-mul-left n (z .some))
+  pub step-next : (on : List Bool) (s : Pull) (m : List Float) (t : ℕ) (b : Bool) (x x₁ x₂ x₃ x₄ : Float) → t < n → m ≡ sets M (p .values) (build (moved w (p .rows) (p .right) (p .factors) (p .values) on s M) t) → b ≡ getD on t false
+      → x₁ ≡ elem m (p .rows + t * w) → x₂ ≡ elem m (p .factors + t) → x₃ ≡ elem m (p .right + t) → x₄ ≡ elem m (p .values + t) → x ≡ pulled s x₁ b x₂ x₃ x₄
+      → set m (p .values + t) x ≡ sets M (p .values) (build (moved w (p .rows) (p .right) (p .factors) (p .values) on s M) (t + 1))
+  step-next on s m t b x x₁ x₂ x₃ x₄ h e eb e₁ e₂ e₃ e₄ ex =
+      let q = z .spaced in
+      let f = moved w (p .rows) (p .right) (p .factors) (p .values) on s M in
+      let vs = build f t in
+      let lv : length vs ≡ t = build-length f t in
+      let in-row : t * w + 0 < n * w = row-in w t n 0 h (z .some) in
+      let under : (i : ℕ) → i < p .values → elem m i ≡ elem M i = λ i b. ap (λ (l : List Float). elem l i) e ∙ read-under vs M (p .values) i b in
+      let r₁ : x₁ ≡ elem M (p .rows + t * w) = e₁ ∙ under (p .rows + t * w) (omega arith) in
+      let r₂ : x₂ ≡ elem M (p .factors + t) = e₂ ∙ under (p .factors + t) (omega (arith, fit)) in
+      let r₃ : x₃ ≡ elem M (p .right + t) = e₃ ∙ under (p .right + t) (omega arith) in
+      let r₄ : x₄ ≡ elem M (p .values + t) = e₄ ∙ ap (λ (l : List Float). elem l (p .values + t)) e ∙ read-beyond vs M (p .values) (p .values + t) (omega arith) in
+      stored-rule f M m (p .values) t x (ex ∙ rw (eb, r₁, r₂, r₃, r₄)) e
+
+  -- ---- m₁ is M with the gradient
 
   module _ (m₁ : List Float) (e₁ : m₁ ≡ sets M (p .factors) D) where
+    graded-rows : part (p .rows) (n * w) m₁ ≡ B
+    graded-rows = let s = z .spaced in ap (λ (l : List Float). part (p .rows) (n * w) l) e₁ ∙ stored-behind D M (p .rows) (n * w) (p .factors) (omega arith)
+
+    pub graded-right : part (p .right) n m₁ ≡ Q
+    graded-right = let s = z .spaced in ap (λ (l : List Float). part (p .right) n l) e₁ ∙ stored-behind D M (p .right) n (p .factors) (omega arith)
+
+    pub graded-gradient : part (p .factors) n m₁ ≡ D
+    graded-gradient = let s = z .spaced in ap (λ (l : List Float). part (p .factors) n l) e₁ ∙ stored-whole D M (p .factors) n D-long (omega (arith, fit))
+
+    pub graded-values : part (p .values) n m₁ ≡ X
+    graded-values = let s = z .spaced in ap (λ (l : List Float). part (p .values) n l) e₁ ∙ stored-before D M (p .values) n (p .factors) (omega (arith, D-long, fit))
+
     at-row : (t : ℕ) → t < n → elem m₁ (p .rows + t * w) ≡ entry w B t 0
     at-row t h =
-        let s = z .spaced in
-        let i : t * w + 0 < n * w = row-in w t n 0 h (z .some) in
         let c : p .rows + t * w ≡ p .rows + (t * w + 0) = omega arith in
-        ap (λ (l : List Float). elem l (p .rows + t * w)) e₁ ∙ read-under D M (p .factors) (p .rows + t * w) (omega arith) ∙ ap (λ (j : ℕ). elem M j) c ∙ part-elem (p .rows) (n * w) (t * w + 0) M i
-
-    at-gradient : (t : ℕ) → t < n → elem m₁ (p .factors + t) ≡ elem D t
-    at-gradient t h =
-        let s = z .spaced in
-        part-elem (p .factors) n t m₁ h ∙ ap (λ (l : List Float). elem l t) (ap (λ (l : List Float). part (p .factors) n l) e₁ ∙ stored-whole D M (p .factors) n D-long (omega (arith, fit)))
+        ap (λ (j : ℕ). elem m₁ j) c ∙ part-elem (p .rows) (n * w) (t * w + 0) m₁ (row-in w t n 0 h (z .some)) ∙ rw graded-rows
 
     at-right : (t : ℕ) → t < n → elem m₁ (p .right + t) ≡ elem Q t
-    at-right t h =
-        let s = z .spaced in
-        ap (λ (l : List Float). elem l (p .right + t)) e₁ ∙ read-under D M (p .factors) (p .right + t) (omega arith) ∙ part-elem (p .right) n t M h
+    at-right t h = part-elem (p .right) n t m₁ h ∙ rw graded-right
+
+    at-gradient : (t : ℕ) → t < n → elem m₁ (p .factors + t) ≡ elem D t
+    at-gradient t h = part-elem (p .factors) n t m₁ h ∙ rw graded-gradient
 
     at-value : (t : ℕ) → t < n → elem m₁ (p .values + t) ≡ elem X t
-    at-value t h =
-        let s = z .spaced in
-        ap (λ (l : List Float). elem l (p .values + t)) e₁ ∙ read-beyond D M (p .factors) (p .values + t) (omega (arith, D-long, fit)) ∙ part-elem (p .values) n t M h
+    at-value t h = part-elem (p .values) n t m₁ h ∙ rw graded-values
 
-    module _ (s : Pull) (mean vari size : Float) (k : Pulls s (g .windows) n gvMean gvVari mean vari size) where
+    -- ---- a turn: m₂ is m₁ with the next values
+
+    module _ (on : List Bool) (gvMean gvVari : Float) (s : Pull) (mean vari size : Float) (k : Pulls s (g .windows) n gvMean gvVari mean vari size) where
       abbrev step : ℕ → Float
-      step t = pulled s (elem m₁ (p .rows + t * w)) (getD on t false) (elem m₁ (p .factors + t)) (elem m₁ (p .right + t)) (elem m₁ (p .values + t))
+      step = moved w (p .rows) (p .right) (p .factors) (p .values) on s m₁
 
-      pub steps-are : build step n ≡ nextStep w B Q on (g .windows) gvMean gvVari D size mean vari X
+      steps-are : build step n ≡ nextStep w B Q on (g .windows) gvMean gvVari D size mean vari X
       unfolding nextStep nextAt
       steps-are = rw X-long (build-same step _ n
           (λ t h. rw (at-row t h, at-gradient t h, at-right t h, at-value t h, k .weight, k .dv, k .scale, k .spread, k .twice, k .mean, k .step, X-long)))
@@ -177,10 +154,8 @@ module _ (g : MlpgGlobalVariance) (p : Places) (on : List Bool) (gvMean gvVari :
           let v : part (p .values) n m₂ ≡ nextStep w B Q on (g .windows) gvMean gvVari D size mean vari X =
           ap (λ (l : List Float). part (p .values) n l) e₂ ∙ stored-whole (build step n) m₁ (p .values) n L (omega arith) ∙ steps-are in
           record {
-            rows = ap (λ (l : List Float). part (p .rows) (n * w) l) e₂ ∙ stored-behind (build step n) m₁ (p .rows) (n * w) (p .values) (omega (arith, fit))
-                ∙ ap (λ (l : List Float). part (p .rows) (n * w) l) e₁ ∙ stored-behind D M (p .rows) (n * w) (p .factors) (omega arith);
-            right = ap (λ (l : List Float). part (p .right) n l) e₂ ∙ stored-behind (build step n) m₁ (p .right) n (p .values) (omega (arith, fit))
-                ∙ ap (λ (l : List Float). part (p .right) n l) e₁ ∙ stored-behind D M (p .right) n (p .factors) (omega arith);
+            rows = ap (λ (l : List Float). part (p .rows) (n * w) l) e₂ ∙ stored-behind (build step n) m₁ (p .rows) (n * w) (p .values) (omega (arith, fit)) ∙ graded-rows;
+            right = ap (λ (l : List Float). part (p .right) n l) e₂ ∙ stored-behind (build step n) m₁ (p .right) n (p .values) (omega (arith, fit)) ∙ graded-right;
             values = rw (v, el, es, eo, eh, ev, em, X-long);
           }
 

@@ -20,7 +20,7 @@ use Rattle.mlpg_adjust.specs.Rows.{nought, part}
 use Rattle.mlpg_adjust.specs.Paper.{W, term, rightTerm, partOf, entrySum, rightSum, entryOf}
 use Rattle.mlpg_adjust.specs.Inner.{onRow, Fits}
 use Rattle.mlpg_adjust.proofs.Orders.{over-idle}
-use Rattle.mlpg_adjust.proofs.Builds.{build-same}
+use Rattle.lists.proofs.Builds.{build-same}
 use Rattle.mlpg_adjust.proofs.Terms.{eq-nought, on-row-idle, on-row-same, on-row-then, W-beyond, W-short, term-idle, right-idle}
 
 -- ---- one window, over the frames from `first` to `end`

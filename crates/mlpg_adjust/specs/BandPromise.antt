@@ -1,41 +1,27 @@
 -- What the call of the band rows promises. Assumes nothing.
 use mathlib.Core.Path.{_≡_}
 use mathlib.Core.Bool.{cond}
-use mathlib.Core.List.{List, [], _∷_, _++_}
+use mathlib.Core.List.{List, [], _∷_}
 use Prim.Native.Nat.{ℕ, zero, suc, _*_, _/_, _%_}
-use lib.ListN.{length, drop}
+use lib.ListN.{length}
 use lib.Dec.{ltb, eqb}
 use lib.Ieee.{Float}
 use Rattle.lists.specs.Refusals.{orElse}
+use Rattle.lists.specs.Answers.{Answer, answerOf, written}
 use Rattle.model.specs.Windows.{windowRefusal, bandWidth}
 use Rattle.mlpg_adjust.specs.Paper.{bandRows, rightSide}
 use Rattle.mlpg_adjust.specs.declared.band.Banded.{Banded}
 use Rattle.mlpg_adjust.specs.declared.band.Banded.the-variants.{Done, Refused}
 
--- 01's number of each answer, 0 for none
-abbrev pub bandNumber : Banded → ℕ
-bandNumber (Done n) = 0
-bandNumber (Refused k) = k
-
--- and its values: the frame count, of an accepted call alone
-abbrev pub bandValues : Banded → List ℕ
-bandValues (Done n) = n ∷ []
-bandValues (Refused k) = []
+-- 01's number and values of an answer: the frame count, of an accepted call alone
+abbrev pub banded : Banded → Answer
+banded (Done n) = record { number = 0; values = n ∷ [] }
+banded (Refused k) = record { number = k; values = [] }
 
 -- the answer of a number, with n frames where nothing is refused
-abbrev pub bandAnswer : ℕ → ℕ → Banded
-bandAnswer zero n = Done n
-bandAnswer (suc k) n = Refused (suc k)
-
--- what an accepted call gives, and a refused one doesn't
-abbrev pub unlessRefused : ℕ → List ℕ → List ℕ
-unlessRefused zero xs = xs
-unlessRefused (suc k) xs = []
-
--- a lent list at exit: new in front, and untouched by a refused call and beyond
-abbrev pub atExit : ℕ → List Float → List Float → List Float
-atExit zero new old = new ++ drop (length new) old
-atExit (suc k) new old = old
+abbrev pub bandedOf : ℕ → ℕ → Banded
+bandedOf zero n = Done n
+bandedOf (suc k) n = Refused (suc k)
 
 -- a number a window and frame: means / windows frames
 abbrev pub framesOf : List ℕ → ℕ → ℕ
@@ -57,7 +43,6 @@ bandRefusal widths coefs means ivars rows right =
 
 -- the frame count, the rows and the right side
 pub record BandSays (widths : List ℕ) (coefs means ivars rows right : List Float) (r : Banded) (rows′ right′ : List Float) : Type 0 where
-  pub number : bandNumber r ≡ bandRefusal widths coefs means ivars rows right
-  pub values : bandValues r ≡ unlessRefused (bandRefusal widths coefs means ivars rows right) (framesOf widths (length means) ∷ [])
-  pub matrix : rows′ ≡ atExit (bandRefusal widths coefs means ivars rows right) (bandRows widths coefs (framesOf widths (length means)) ivars (bandWidth widths)) rows
-  pub side : right′ ≡ atExit (bandRefusal widths coefs means ivars rows right) (rightSide widths coefs (framesOf widths (length means)) ivars means) right
+  pub answer : banded r ≡ answerOf (bandRefusal widths coefs means ivars rows right) (framesOf widths (length means) ∷ [])
+  pub matrix : rows′ ≡ written (bandRefusal widths coefs means ivars rows right) (bandRows widths coefs (framesOf widths (length means)) ivars (bandWidth widths)) rows
+  pub side : right′ ≡ written (bandRefusal widths coefs means ivars rows right) (rightSide widths coefs (framesOf widths (length means)) ivars means) right

@@ -1,7 +1,7 @@
 -- A state's items become its frames', and those of voiced frames are closed up and filled back. Assumes nothing.
 use mathlib.Core.Bool.{Bool, true, false}
 use mathlib.Core.List.{List, [], _∷_, _++_}
-use Prim.Native.Nat.{ℕ, suc, _+_}
+use Prim.Native.Nat.{ℕ, zero, suc, _+_}
 use lib.ListN.{replicate, set}
 
 module _ {A : Type 0} where
@@ -29,6 +29,12 @@ module _ {A : Type 0} where
   unfoldable pub setsBy : ℕ → ℕ → List A → List A → List A
   setsBy v p [] out = out
   setsBy v p (x ∷ xs) out = setsBy v (p + v) xs (set out p x)
+
+  -- and those of n components side by side: xs l from place p + l on, lane after lane
+  unfoldable pub setsLanes : ℕ → ℕ → (ℕ → List A) → ℕ → List A → List A
+  unfolding setsBy
+  setsLanes v p xs zero out = out
+  setsLanes v p xs (suc n) out = setsBy v (p + n) (xs n) (setsLanes v p xs n out)
 
 -- how many frames are voiced
 unfoldable pub count : List Bool → ℕ

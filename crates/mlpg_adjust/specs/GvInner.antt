@@ -4,10 +4,12 @@ use mathlib.Core.Path.{_≡_}
 use mathlib.Core.Bool.{Bool, true, false, cond}
 use mathlib.Core.List.{List, [], _∷_}
 use lib.ListN.{length, getD}
+use lib.Seq.{sets}
 use lib.Dec.{eqb}
 use lib.Ieee.{Float, binary64, add, sub, mul, div, neg}
+use Rattle.lists.specs.Build.{build}
 use Rattle.mlpg_adjust.specs.Frames.{count}
-use Rattle.mlpg_adjust.specs.Gv.{W1, W2, two, asFloat, weightOf, dvOf, nextG}
+use Rattle.mlpg_adjust.specs.Gv.{W1, W2, two, asFloat, gradientAt, weightOf, dvOf, nextG}
 use Rattle.mlpg_adjust.specs.Rows.{elem, part}
 use Rattle.mlpg_adjust.specs.Parmgen.{state, turn}
 use Rattle.mlpg_adjust.specs.Region.{Spaced}
@@ -42,6 +44,10 @@ pub record Sized (g : MlpgGlobalVariance) (p : Places) (size : ℕ) : Type 0 whe
   pub few : g .length ≤ 65536
   pub sets : g .windows ≤ 4
   pub spaced : Spaced p (g .length) (g .width) size
+
+-- a region m is d with the gradient's first t rows where the factors were
+abbrev pub Graded : Places → ℕ → ℕ → List Float → List Float → ℕ → Type 0
+Graded p n w d m t = m ≡ sets d (p .factors) (build (gradientAt w (part (p .rows) (n * w) d) (part (p .values) n d)) t)
 
 -- the numbers of a step that are the same for every frame
 pub record Pulls (s : Pull) (windows n : ℕ) (gvMean gvVari average vari size : Float) : Type 0 where

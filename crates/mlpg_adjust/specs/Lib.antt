@@ -3,6 +3,7 @@ pub mod Frames
 pub mod MaskVoicing
 pub mod MaskBoundaries
 pub mod MaskWindows
+pub mod MaskStates
 pub mod MaskPromise
 pub mod MaskCases
 pub mod Sums

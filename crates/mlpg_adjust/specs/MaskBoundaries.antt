@@ -37,10 +37,3 @@ closeUp before after l [] vs = []
 closeUp before after l (b ∷ bs) [] = []
 closeUp before after l (true ∷ bs) (v ∷ vs) = shut before after l (ahead bs) v ∷ closeUp before after (suc l) bs vs
 closeUp before after l (false ∷ bs) (v ∷ vs) = closeUp before after 0 bs vs
-
--- the same frame by frame, by the distances
-unfoldable pub shutAll : ℕ → ℕ → List ℕ → List ℕ → List Float → List Float
-shutAll before after [] rs vs = []
-shutAll before after (l ∷ ls) [] vs = []
-shutAll before after (l ∷ ls) (r ∷ rs) [] = []
-shutAll before after (l ∷ ls) (r ∷ rs) (v ∷ vs) = shut before after l r v ∷ shutAll before after ls rs vs

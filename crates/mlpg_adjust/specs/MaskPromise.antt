@@ -1,43 +1,29 @@
 -- What the calls of the mask promise. Assumes nothing.
 use mathlib.Core.Path.{_≡_}
 use mathlib.Core.Bool.{cond, not}
-use mathlib.Core.List.{List, [], _∷_, _++_, map}
+use mathlib.Core.List.{List, [], _∷_, map}
 use Prim.Native.Nat.{ℕ, zero, suc}
-use lib.ListN.{length, drop}
+use lib.ListN.{length}
 use lib.Dec.{ltb, eqb}
 use lib.Ieee.{Float}
 use Rattle.lists.specs.Totals.{total}
 use Rattle.lists.specs.Refusals.{orElse}
+use Rattle.lists.specs.Answers.{Answer, answerOf, written}
 use Rattle.model.specs.declared.voice.model.Weight.the-variants.{Given}
 use Rattle.mlpg_adjust.specs.MaskVoicing.{flag, isOn, maskOf}
 use Rattle.mlpg_adjust.specs.MaskBoundaries.{lefts, rights}
 use Rattle.mlpg_adjust.specs.declared.mask.Masked.{Masked}
 use Rattle.mlpg_adjust.specs.declared.mask.Masked.the-variants.{Done, Refused}
 
--- 01's number of each answer, 0 for none
-abbrev pub maskNumber : Masked → ℕ
-maskNumber (Done n) = 0
-maskNumber (Refused k) = k
-
--- and its values: the frame count, of an accepted call alone
-abbrev pub maskValues : Masked → List ℕ
-maskValues (Done n) = n ∷ []
-maskValues (Refused k) = []
+-- 01's number and values of an answer: the frame count, of an accepted call alone
+abbrev pub masked : Masked → Answer
+masked (Done n) = record { number = 0; values = n ∷ [] }
+masked (Refused k) = record { number = k; values = [] }
 
 -- the answer of a number, with n frames where nothing is refused
-abbrev pub answerOf : ℕ → ℕ → Masked
-answerOf zero n = Done n
-answerOf (suc k) n = Refused (suc k)
-
--- what an accepted call gives, and a refused one doesn't
-abbrev pub unless : ℕ → List ℕ → List ℕ
-unless zero xs = xs
-unless (suc k) xs = []
-
--- a lent list at exit: new in front, and untouched by a refused call and beyond
-abbrev pub leaves : ℕ → List ℕ → List ℕ → List ℕ
-leaves zero new old = new ++ drop (length new) old
-leaves (suc k) new old = old
+abbrev pub maskedOf : ℕ → ℕ → Masked
+maskedOf zero n = Done n
+maskedOf (suc k) n = Refused (suc k)
 
 -- 01, Refusal numbers: 5 for a total above 65,536
 abbrev pub tooMany : ℕ → ℕ
@@ -66,21 +52,18 @@ maskedDistancesRefusal ws ds voiced left right =
 
 -- `mask`: the frame count, and the flags
 pub record MaskSays (ws : List Float) (threshold : Float) (ds voiced : List ℕ) (r : Masked) (voiced′ : List ℕ) : Type 0 where
-  pub number : maskNumber r ≡ maskRefusal ws ds voiced
-  pub values : maskValues r ≡ unless (maskRefusal ws ds voiced) (total ds ∷ [])
-  pub flags : voiced′ ≡ leaves (maskRefusal ws ds voiced) (map flag (maskOf threshold (map Given ws) ds)) voiced
+  pub answer : masked r ≡ answerOf (maskRefusal ws ds voiced) (total ds ∷ [])
+  pub flags : voiced′ ≡ written (maskRefusal ws ds voiced) (map flag (maskOf threshold (map Given ws) ds)) voiced
 
 -- `boundary_distances`: the frame count, and the distances of any flags
 pub record DistancesSays (voiced left right : List ℕ) (r : Masked) (left′ right′ : List ℕ) : Type 0 where
-  pub number : maskNumber r ≡ distancesRefusal (length voiced) left right
-  pub values : maskValues r ≡ unless (distancesRefusal (length voiced) left right) (length voiced ∷ [])
-  pub before : left′ ≡ leaves (distancesRefusal (length voiced) left right) (lefts 0 (map isOn voiced)) left
-  pub after : right′ ≡ leaves (distancesRefusal (length voiced) left right) (rights (map isOn voiced)) right
+  pub answer : masked r ≡ answerOf (distancesRefusal (length voiced) left right) (length voiced ∷ [])
+  pub before : left′ ≡ written (distancesRefusal (length voiced) left right) (lefts 0 (map isOn voiced)) left
+  pub after : right′ ≡ written (distancesRefusal (length voiced) left right) (rights (map isOn voiced)) right
 
 -- `mask_with_distances`: the frame count, the flags and the mask's distances
 pub record MaskedDistancesSays (ws : List Float) (threshold : Float) (ds voiced left right : List ℕ) (r : Masked) (voiced′ left′ right′ : List ℕ) : Type 0 where
-  pub number : maskNumber r ≡ maskedDistancesRefusal ws ds voiced left right
-  pub values : maskValues r ≡ unless (maskedDistancesRefusal ws ds voiced left right) (total ds ∷ [])
-  pub flags : voiced′ ≡ leaves (maskedDistancesRefusal ws ds voiced left right) (map flag (maskOf threshold (map Given ws) ds)) voiced
-  pub before : left′ ≡ leaves (maskedDistancesRefusal ws ds voiced left right) (lefts 0 (maskOf threshold (map Given ws) ds)) left
-  pub after : right′ ≡ leaves (maskedDistancesRefusal ws ds voiced left right) (rights (maskOf threshold (map Given ws) ds)) right
+  pub answer : masked r ≡ answerOf (maskedDistancesRefusal ws ds voiced left right) (total ds ∷ [])
+  pub flags : voiced′ ≡ written (maskedDistancesRefusal ws ds voiced left right) (map flag (maskOf threshold (map Given ws) ds)) voiced
+  pub before : left′ ≡ written (maskedDistancesRefusal ws ds voiced left right) (lefts 0 (maskOf threshold (map Given ws) ds)) left
+  pub after : right′ ≡ written (maskedDistancesRefusal ws ds voiced left right) (rights (maskOf threshold (map Given ws) ds)) right

@@ -9,9 +9,10 @@ use lib.Dec.{ltb, leb, eqb}
 use lib.Ieee.{Float}
 use Rattle.model.specs.Windows.{windowOf}
 use Rattle.mlpg_adjust.specs.Sums.{over}
-use Rattle.mlpg_adjust.specs.Rows.{elem}
+use Rattle.mlpg_adjust.specs.Rows.{nought, elem, part}
 use Rattle.mlpg_adjust.specs.Paper.{term, rightTerm, partOf}
 use Rattle.mlpg_adjust.specs.declared.solve.Places.{Places}
+use Rattle.mlpg_adjust.specs.declared.passes.Span.{Span}
 
 -- f t done to the number at place at + t * step, for each t < count, and all others as they were
 pub record Along (at step count : ℕ) (f : ℕ → Float → Float) (d m : List Float) : Type 0 where
@@ -19,12 +20,16 @@ pub record Along (at step count : ℕ) (f : ℕ → Float → Float) (d m : List
   pub on : (t : ℕ) → t < count → elem m (at + t * step) ≡ f t (elem d (at + t * step))
   pub off : (i : ℕ) → ((t : ℕ) → t < count → i ≢ at + t * step) → elem m i ≡ elem d i
 
--- f t j done to entry j of each row t, and g t to the right side at t; what lies before the rows is as it was
-pub record Moved (p : Places) (n w : ℕ) (f : ℕ → ℕ → Float → Float) (g : ℕ → Float → Float) (d m : List Float) : Type 0 where
+-- h, if t is one of a span's rows
+abbrev pub within : Span → ℕ → (Float → Float) → Float → Float
+within r t h y = cond (leb (r .from) t) (cond (ltb t (r .to)) (h y) y) y
+
+-- f t j done to entry j of each row t of a span, and g t to the right side at t; the other rows, and what lies before all of them, are as they were
+pub record Moved (p : Places) (n w : ℕ) (r : Span) (f : ℕ → ℕ → Float → Float) (g : ℕ → Float → Float) (d m : List Float) : Type 0 where
   pub long : length m ≡ length d
   pub pairs : (i : ℕ) → i < p .rows → elem m i ≡ elem d i
-  pub entries : (t j : ℕ) → t < n → j < w → elem m (p .rows + (t * w + j)) ≡ f t j (elem d (p .rows + (t * w + j)))
-  pub sides : (t : ℕ) → t < n → elem m (p .right + t) ≡ g t (elem d (p .right + t))
+  pub entries : (t j : ℕ) → t < n → j < w → elem m (p .rows + (t * w + j)) ≡ within r t (f t j) (elem d (p .rows + (t * w + j)))
+  pub sides : (t : ℕ) → t < n → elem m (p .right + t) ≡ within r t (g t) (elem d (p .right + t))
 
 -- h of the frame that row t's tap k stands at, t + half - k, if there is such a frame
 abbrev pub atFrame : ℕ → ℕ → ℕ → ℕ → (ℕ → Float → Float) → Float → Float
@@ -62,6 +67,14 @@ module _ (widths : List ℕ) (coefs us ms : List Float) (n : ℕ) where
   unfoldable pub windowsSide : ℕ → ℕ → Float → Float
   unfolding rightTerm over
   windowsSide i t = over (λ i. over (rightTerm (windowOf widths coefs i) (partOf n us i) (partOf n ms i) t) n) i
+
+-- and with those of all windows over the pairs that a region holds, from nought
+module _ (widths : List ℕ) (coefs : List Float) (p : Places) (n : ℕ) (d : List Float) where
+  abbrev pub wholeEntry : ℕ → ℕ → Float → Float
+  wholeEntry t j y = windowsEntry widths coefs (part (p .ivars) (length widths * n) d) (part 0 (length widths * n) d) n (length widths) t j nought
+
+  abbrev pub wholeSide : ℕ → Float → Float
+  wholeSide t y = windowsSide widths coefs (part (p .ivars) (length widths * n) d) (part 0 (length widths * n) d) n (length widths) t nought
 
 -- the same number
 abbrev pub still : ℕ → Float → Float

@@ -1,13 +1,14 @@
 -- What the call for a trajectory promises. Assumes nothing.
 use mathlib.Core.Path.{_≡_}
 use mathlib.Core.Bool.{Bool, cond, not, _||_, _&&_}
-use mathlib.Core.List.{List, _++_}
-use Prim.Native.Nat.{ℕ, zero, suc, _+_, _*_}
-use lib.ListN.{length, drop, replicate}
+use mathlib.Core.List.{List}
+use Prim.Native.Nat.{ℕ, zero, suc, _*_}
+use lib.ListN.{length, replicate}
 use lib.Dec.{ltb, eqb}
 use lib.Ieee.{Float, binary64, ofBits}
 use Rattle.lists.specs.Totals.{total}
 use Rattle.lists.specs.Refusals.{orElse}
+use Rattle.lists.specs.Answers.{written}
 use Rattle.model.specs.Windows.{widthsFit, allFinite}
 use Rattle.mlpg_adjust.specs.Trajectory.{gvOn, sizeOf, numbersOf}
 use Rattle.mlpg_adjust.specs.declared.Stream.{Stream}
@@ -66,11 +67,6 @@ createRefusal s widths coefs records ds gv switches out work marks =
     (orElse (cond (disagree s widths (length coefs) records (length ds) gv switches) 4 0)
     (orElse (cond (ltb 65536 (total ds)) 5 0)
     (cond (short (s .v) (total ds) out work marks) 6 0)))))
-
--- a lent list at exit: new in front of an accepted call, and untouched by a refused one and beyond
-abbrev pub written : {A : Type 0} → ℕ → List A → List A → List A
-written zero new old = new ++ drop (length new) old
-written (suc k) new old = old
 
 -- `create`: the number, the trajectory, and the work space zeroed
 pub record CreateSays (s : Stream) (widths : List ℕ) (coefs records : List Float) (ds : List ℕ) (gv : List Float) (switches : List ℕ) (out work : List Float) (marks : List ℕ)

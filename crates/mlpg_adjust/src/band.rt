@@ -5,7 +5,7 @@ ghost use lib.ListN.{length};
 ghost use Rattle.lists.specs.Build.{build};
 ghost use Rattle.mlpg_adjust.specs.Paper.{rightSum, entryOf, bandRows, rightSide};
 ghost use Rattle.mlpg_adjust.specs.Inner.{Fits};
-ghost use Rattle.mlpg_adjust.specs.BandPromise.{bandAnswer, framesOf, setRefusal, BandSays};
+ghost use Rattle.mlpg_adjust.specs.BandPromise.{bandedOf, framesOf, setRefusal, BandSays};
 use super::mlpg::band_row;
 
 // How many frames there are, or 01's number of why not.
@@ -86,7 +86,7 @@ fn write_rows(
 
 // How many frames the lists have, or 01's number of why they are refused.
 fn frames_of(widths: &[u32], coefficients: &[f64], means: usize, ivars: usize) -> Banded
-    ensures { λ r. ⌜ r ≡ bandAnswer (setRefusal (now (widths .entry)) (now (coefficients .entry)) means ivars) (framesOf (now (widths .entry)) means) ⌝ }
+    ensures { λ r. ⌜ r ≡ bandedOf (setRefusal (now (widths .entry)) (now (coefficients .entry)) means ivars) (framesOf (now (widths .entry)) means) ⌝ }
 {
     let refused = model::voice::window::refusal(widths, coefficients);
     if refused != 0 {

@@ -1,24 +1,24 @@
-// Closing up and filling back, state by state: a state's frames are voiced or unvoiced together, so that its numbers are read, and its variances
-// inverted, once.
+// Closing up, state by state: a state's frames are voiced or unvoiced together, so that its numbers are read, and its variances inverted, once.
 ghost use mathlib.Core.Path.{_≡_};
-ghost use mathlib.Core.List.{map};
-ghost use Prim.Native.Nat.{_+_, _*_, _<_, _≤_};
+ghost use Prim.Native.Nat.{ℕ, _+_, _-_, _*_, _<_, _≤_};
 ghost use lib.ListN.{length, getD, replicate};
+ghost use lib.Seq.{sets};
 ghost use lib.Ieee.{nan};
 ghost use Rattle.lists.specs.Totals.{total};
 ghost use Rattle.model.specs.Pair.{ivarOf};
 ghost use Rattle.mlpg_adjust.specs.Frames.{expand, select, count};
-ghost use Rattle.mlpg_adjust.specs.MaskVoicing.{maskOf, weightsOf, column};
-ghost use Rattle.mlpg_adjust.specs.Rows.{rows};
-ghost use Rattle.mlpg_adjust.specs.MaskWindows.{reachBefore, reachAfter, meansIn, ivarsIn};
-ghost use Rattle.mlpg_adjust.specs.MaskBoundaries.{lefts, rights, shut, shutAll, closeUp};
+ghost use Rattle.mlpg_adjust.specs.MaskVoicing.{maskOf, weightsOf};
+ghost use Rattle.mlpg_adjust.specs.MaskWindows.{reachBefore, reachAfter};
+ghost use Rattle.mlpg_adjust.specs.MaskStates.{shutEnds, stateMeans, stateIvars, putPairs, StateFits};
+ghost use Rattle.mlpg_adjust.specs.Region.{regionOf};
+use super::component::Plan;
 use super::mask::Voicing;
 use super::mask::voiced_at;
 use model::mean_vari::MeanVari;
 use model::voice::window::left_width;
 use model::voice::window::right_width;
 
-fn wide(x: u32) -> usize
+pub(crate) fn wide(x: u32) -> usize
     ensures { λ r. ⌜ r ≡ x ⌝ }
 {
     x as usize
@@ -77,120 +77,6 @@ pub(crate) fn close_up_switches(
     }
 }
 
-// Number `place` of a state's record.
-fn number_at(records: &[f64], size: usize, place: usize, s: usize) -> f64
-    requires { ⌜ (place < size) × (s * size + size ≤ length (now records)) ⌝ }
-    ensures { λ r. ⌜ r ≡ getD (now (records .entry)) (s * size + place) nan ⌝ }
-{
-    records[s * size + place]
-}
-
-// The voiced frames' means, closed up: number `place` of their states' records.
-pub(crate) fn close_up_means(
-    records: &[f64],
-    u: Voicing,
-    place: usize,
-    durations: &[u32],
-    out: &mut [f64],
-)
-    requires { ⌜ (place < u .size) × (length (now durations) * u .size ≤ length (now records))
-        × (length (now out) ≡ count (maskOf (u .threshold) (weightsOf (u .size) (now records) (length (now durations))) (now durations))) ⌝ }
-    ensures { λ _. ⌜ now (out .exit) ≡ select (maskOf (u .threshold) (weightsOf (u .size) (now (records .entry)) (length (now (durations .entry)))) (now (durations .entry)))
-        (expand (now (durations .entry)) (column (u .size) (now (records .entry)) place (length (now (durations .entry))))) ⌝ }
-{
-    let size = u.size;
-    let mut s = 0;
-    let mut k = 0;
-    while s < durations.len() {
-        if voiced_at(records, u, s) {
-            let d = wide(durations[s]);
-            let e = k + d;
-            let x = number_at(records, size, place, s);
-            lists::fill_f64(&mut out[k..e], d, x);
-            k = e;
-            s += 1;
-        } else {
-            s += 1;
-        }
-    }
-}
-
-// The inverse of a variance that is number `place` of a state's record.
-fn ivar_at(records: &[f64], size: usize, place: usize, s: usize) -> f64
-    requires { ⌜ (place < size) × (s * size + size ≤ length (now records)) ⌝ }
-    ensures { λ r. ⌜ r ≡ ivarOf (getD (now (records .entry)) (s * size + place) nan) ⌝ }
-{
-    let p = MeanVari(0.0, number_at(records, size, place, s)).with_ivar();
-    p.1
-}
-
-// An inverse variance at a frame of these distances, for a window that reaches so far before and after a frame.
-fn shut_at(before: usize, after: usize, left: usize, right: usize, ivar: f64) -> f64
-    ensures { λ r. ⌜ r ≡ shut before after left right ivar ⌝ }
-{
-    if left < before {
-        return 0.0;
-    }
-    if right < after {
-        return 0.0;
-    }
-    ivar
-}
-
-// One state's inverse variance at each of its frames.
-fn shut_state(ivar: f64, before: usize, after: usize, left: &[u32], right: &[u32], out: &mut [f64])
-    requires { ⌜ (length (now left) ≡ length (now out)) × (length (now right) ≡ length (now out)) ⌝ }
-    ensures { λ _. ⌜ now (out .exit) ≡ shutAll before after (now (left .entry)) (now (right .entry)) (replicate (length (now (out .entry))) ivar) ⌝ }
-{
-    let mut j = 0;
-    while j < out.len() {
-        let x = shut_at(before, after, wide(left[j]), wide(right[j]), ivar);
-        out[j] = x;
-        j += 1;
-    }
-}
-
-// The voiced frames' inverse variances, closed up: of the variances that are number `place` of their states' records, for a window that reaches so far
-// before and after a frame. Left and right are the distances of all frames.
-pub(crate) fn close_up_ivars(
-    records: &[f64],
-    u: Voicing,
-    place: usize,
-    before: usize,
-    after: usize,
-    durations: &[u32],
-    left: &[u32],
-    right: &[u32],
-    out: &mut [f64],
-)
-    requires { ⌜ (place < u .size) × (length (now durations) * u .size ≤ length (now records)) × (total (now durations) ≤ 65536)
-        × (length (now out) ≡ count (maskOf (u .threshold) (weightsOf (u .size) (now records) (length (now durations))) (now durations)))
-        × (now left ≡ lefts 0 (maskOf (u .threshold) (weightsOf (u .size) (now records) (length (now durations))) (now durations)))
-        × (now right ≡ rights (maskOf (u .threshold) (weightsOf (u .size) (now records) (length (now durations))) (now durations))) ⌝ }
-    ensures { λ _. ⌜ now (out .exit) ≡ closeUp before after 0 (maskOf (u .threshold) (weightsOf (u .size) (now (records .entry)) (length (now (durations .entry)))) (now (durations .entry)))
-        (expand (now (durations .entry)) (map ivarOf (column (u .size) (now (records .entry)) place (length (now (durations .entry)))))) ⌝ }
-{
-    let size = u.size;
-    let mut s = 0;
-    let mut f = 0;
-    let mut k = 0;
-    while s < durations.len() {
-        let d = wide(durations[s]);
-        let g = f + d;
-        if voiced_at(records, u, s) {
-            let e = k + d;
-            let x = ivar_at(records, size, place, s);
-            shut_state(x, before, after, &left[f..g], &right[f..g], &mut out[k..e]);
-            k = e;
-            f = g;
-            s += 1;
-        } else {
-            f = g;
-            s += 1;
-        }
-    }
-}
-
 // How near to a run's begin and end the boundaries of a window reach.
 struct Reach {
     before: usize,
@@ -215,70 +101,133 @@ fn reach_of(widths: &[u32], i: usize) -> Reach
     }
 }
 
-// One component's means of the n voiced frames, window after window.
-pub(crate) fn close_up_all_means(
-    records: &[f64],
-    u: Voicing,
-    v: usize,
-    component: usize,
-    windows: usize,
-    durations: &[u32],
-    n: usize,
-    out: &mut [f64],
-)
-    requires { ⌜ (component < v) × (windows * v ≤ u .size) × (length (now durations) * u .size ≤ length (now records))
-        × (n ≡ count (maskOf (u .threshold) (weightsOf (u .size) (now records) (length (now durations))) (now durations))) × (length (now out) ≡ windows * n) ⌝ }
-    ensures { λ _. ⌜ now (out .exit) ≡ rows (meansIn (u .size) (now (records .entry)) v component
-        (maskOf (u .threshold) (weightsOf (u .size) (now (records .entry)) (length (now (durations .entry)))) (now (durations .entry))) (now (durations .entry))) windows ⌝ }
+// By how much a reach is longer than a distance, if it is.
+fn overreach(reach: usize, distance: usize) -> usize
+    ensures { λ r. ⌜ r ≡ reach - distance ⌝ }
 {
-    let mut i = 0;
-    let mut a = 0;
-    while i < windows {
-        let b = a + n;
-        close_up_means(records, u, v * i + component, durations, &mut out[a..b]);
-        a = b;
-        i += 1;
+    reach - lists::least(reach, distance)
+}
+
+// A state's inverse variance at each of its frames, but 0 at the first `before` and the last `after`.
+fn fill_ivars(ivar: f64, before: usize, after: usize, out: &mut [f64])
+    ensures { λ _. ⌜ now (out .exit) ≡ shutEnds before after (length (now (out .entry))) ivar ⌝ }
+{
+    let d = out.len();
+    lists::fill_f64(out, d, ivar);
+    let first = lists::least(before, d);
+    let last = lists::least(after, d);
+    if first + last == 0 {
+        return;
+    }
+    lists::fill_f64(out, first, 0.0);
+    let from = d - last;
+    lists::fill_f64(&mut out[from..], last, 0.0);
+}
+
+// A component's pair of a state and a window at the state's d frames: the mean from place `at` of the region on, and from place `ivars` on the inverse
+// variance, but 0 at the first `before` and the last `after` frames.
+fn put_pair(
+    pair: MeanVari,
+    d: usize,
+    before: usize,
+    after: usize,
+    at: usize,
+    ivars: usize,
+    region: &mut [f64],
+)
+    requires { ⌜ (at + d ≤ length (now region)) × (ivars + d ≤ length (now region)) ⌝ }
+    ensures { λ _. ⌜ now (region .exit) ≡ sets (sets (now (region .entry)) at (replicate d (pair .0))) ivars (shutEnds before after d (pair .1)) ⌝ }
+{
+    let means_end = at + d;
+    lists::fill_f64(&mut region[at..means_end], d, pair.0);
+    let ivars_end = ivars + d;
+    fill_ivars(pair.1, before, after, &mut region[ivars..ivars_end]);
+}
+
+// A state's pairs of one window, each component's in its region of so many floats: their means stand side by side in the records from `mean` on, and
+// their variances from `vari` on.
+fn close_window(
+    records: &[f64],
+    mean: usize,
+    vari: usize,
+    lanes: usize,
+    d: usize,
+    before: usize,
+    after: usize,
+    at: usize,
+    ivars: usize,
+    size: usize,
+    work: &mut [f64],
+)
+    requires { ⌜ (mean + lanes ≤ length (now records)) × (vari + lanes ≤ length (now records)) × (at + d ≤ size) × (ivars + d ≤ size) × (lanes * size ≤ length (now work)) ⌝ }
+    ensures { λ _. ⌜ ((l : ℕ) → l < lanes → regionOf size l (now (work .exit))
+        ≡ sets (sets (regionOf size l (now (work .entry))) at (replicate d (getD (now (records .entry)) (mean + l) nan))) ivars (shutEnds before after d (ivarOf (getD (now (records .entry)) (vari + l) nan)))) ⌝ }
+{
+    let mut l = 0;
+    let mut o = 0;
+    while l < lanes {
+        let e = o + size;
+        let pair = MeanVari(records[mean + l], records[vari + l]).with_ivar();
+        put_pair(pair, d, before, after, at, ivars, &mut work[o..e]);
+        o = e;
+        l += 1;
     }
 }
 
-// One component's inverse variances of the n voiced frames, window after window.
-pub(crate) fn close_up_all_ivars(
+// A voiced state's pairs, of so many components from `first` on: its d frames begin at frame f, and at place k of the closed-up ones.
+pub(crate) fn close_state(
     records: &[f64],
     u: Voicing,
-    v: usize,
-    component: usize,
+    g: Plan,
+    first: usize,
+    lanes: usize,
     widths: &[u32],
-    durations: &[u32],
     left: &[u32],
     right: &[u32],
-    n: usize,
-    out: &mut [f64],
+    s: usize,
+    f: usize,
+    d: usize,
+    k: usize,
+    work: &mut [f64],
 )
-    requires { ⌜ (component < v) × (length (now widths) * v + length (now widths) * v ≤ u .size) × (length (now durations) * u .size ≤ length (now records)) × (total (now durations) ≤ 65536)
-        × (n ≡ count (maskOf (u .threshold) (weightsOf (u .size) (now records) (length (now durations))) (now durations))) × (length (now out) ≡ length (now widths) * n)
-        × (now left ≡ lefts 0 (maskOf (u .threshold) (weightsOf (u .size) (now records) (length (now durations))) (now durations)))
-        × (now right ≡ rights (maskOf (u .threshold) (weightsOf (u .size) (now records) (length (now durations))) (now durations))) ⌝ }
-    ensures { λ _. ⌜ now (out .exit) ≡ rows (ivarsIn (u .size) (now (records .entry)) v component (now (widths .entry))
-        (maskOf (u .threshold) (weightsOf (u .size) (now (records .entry)) (length (now (durations .entry)))) (now (durations .entry))) (now (durations .entry))) (length (now (widths .entry))) ⌝ }
+    requires { ⌜ StateFits u g (length (now widths)) first lanes (length (now records)) (length (now left)) (length (now right)) (length (now work)) s f d k ⌝ }
+    ensures { λ _. ⌜ ((l : ℕ) → l < lanes → regionOf (g .size) l (now (work .exit))
+        ≡ putPairs (stateMeans (u .size) (now (records .entry)) (g .v) (first + l) s d)
+        (stateIvars (u .size) (now (records .entry)) (g .v) (first + l) s d (now (widths .entry)) (getD (now (left .entry)) f 0) (getD (now (right .entry)) (f + d - 1) 0))
+        (g .n) (g .places .ivars) k (length (now (widths .entry))) (regionOf (g .size) l (now (work .entry)))) ⌝ }
 {
+    if d == 0 {
+        return;
+    }
+    let n = g.n;
+    let v = g.v;
+    let size = g.size;
+    let ivars = g.places.ivars;
     let half = v * widths.len();
+    let from_begin = wide(left[f]);
+    let to_end = wide(right[f + d - 1]);
     let mut i = 0;
-    let mut a = 0;
+    let mut mean = s * u.size + first;
+    let mut at = k;
     while i < widths.len() {
-        let b = a + n;
         let reach = reach_of(widths, i);
-        close_up_ivars(
+        let before = overreach(reach.before, from_begin);
+        let after = overreach(reach.after, to_end);
+        close_window(
             records,
-            u,
-            half + (v * i + component),
-            reach.before,
-            reach.after,
-            durations,
-            left,
-            right,
-            &mut out[a..b],
+            mean,
+            mean + half,
+            lanes,
+            d,
+            before,
+            after,
+            at,
+            ivars + at,
+            size,
+            work,
         );
-        a = b;
+        mean += v;
+        at += n;
         i += 1;
     }
 }

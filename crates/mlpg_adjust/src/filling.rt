@@ -1,18 +1,9 @@
 // Filling back, state by state: the values of the voiced frames at their places of the trajectory, and the fill number at the others.
 ghost use mathlib.Core.Path.{_≡_};
 ghost use Prim.Native.Nat.{_+_, _*_, _<_, _≤_};
-ghost use lib.ListN.{length, replicate};
-ghost use Rattle.lists.specs.Totals.{total};
-ghost use Rattle.mlpg_adjust.specs.Frames.{fill, count, setsBy};
-ghost use Rattle.mlpg_adjust.specs.MaskVoicing.{maskOf, weightsOf};
-use super::mask::Voicing;
-use super::mask::voiced_at;
-
-fn wide(x: u32) -> usize
-    ensures { λ r. ⌜ r ≡ x ⌝ }
-{
-    x as usize
-}
+ghost use lib.ListN.{length, drop, replicate};
+ghost use Rattle.mlpg_adjust.specs.Frames.{fill, count, setsBy, setsLanes};
+ghost use Rattle.mlpg_adjust.specs.Rows.{part};
 
 // The same number; a NaN with the bits 0x7FF8000000000000, which are what the division gives.
 fn handed_out(x: f64) -> f64
@@ -53,39 +44,65 @@ fn spread_column(x: f64, d: usize, v: usize, p: usize, out: &mut [f64])
     }
 }
 
-// `Mask::fill`, for one component: the values of the voiced frames, `none` at the others.
-pub(crate) fn fill_back(
-    records: &[f64],
-    u: Voicing,
-    durations: &[u32],
-    values: &[f64],
-    none: f64,
+// d values of each lane, which stand in its region of `work` from place `from` on: those of lane l at the places p + l, p + l + v, and so on.
+fn put_lanes(
+    work: &[f64],
+    from: usize,
+    size: usize,
+    d: usize,
+    lanes: usize,
     v: usize,
-    component: usize,
+    p: usize,
     out: &mut [f64],
 )
-    requires { ⌜ (component < v) × (v ≤ 64) × (length (now durations) * u .size ≤ length (now records)) × (total (now durations) ≤ 65536)
-        × (length (now values) ≡ count (maskOf (u .threshold) (weightsOf (u .size) (now records) (length (now durations))) (now durations)))
-        × (total (now durations) * v ≤ length (now out)) ⌝ }
-    ensures { λ _. ⌜ now (out .exit) ≡ setsBy v component (fill none (maskOf (u .threshold) (weightsOf (u .size) (now (records .entry)) (length (now (durations .entry)))) (now (durations .entry)))
-        (now (values .entry))) (now (out .entry)) ⌝ }
+    requires { ⌜ (v ≤ 64) × (lanes ≤ v) × (from + d ≤ size) × (lanes * size ≤ length (now work)) × (p + d * v + lanes ≤ length (now out) + v) ⌝ }
+    ensures { λ _. ⌜ now (out .exit) ≡ setsLanes v p (λ l. part (from + l * size) d (now (work .entry))) lanes (now (out .entry)) ⌝ }
+{
+    let mut l = 0;
+    let mut o = from;
+    while l < lanes {
+        let e = o + d;
+        put_column(&work[o..e], v, p + l, out);
+        o += size;
+        l += 1;
+    }
+}
+
+// One number at d such places of each lane.
+fn spread_lanes(none: f64, d: usize, lanes: usize, v: usize, p: usize, out: &mut [f64])
+    requires { ⌜ (v ≤ 64) × (lanes ≤ v) × (p + d * v + lanes ≤ length (now out) + v) ⌝ }
+    ensures { λ _. ⌜ now (out .exit) ≡ setsLanes v p (λ l. replicate d none) lanes (now (out .entry)) ⌝ }
 {
     let x = handed_out(none);
-    let mut s = 0;
-    let mut p = component;
-    let mut k = 0;
-    while s < durations.len() {
-        let d = wide(durations[s]);
-        if voiced_at(records, u, s) {
-            let e = k + d;
-            put_column(&values[k..e], v, p, out);
-            k = e;
-            p += d * v;
-            s += 1;
-        } else {
-            spread_column(x, d, v, p, out);
-            p += d * v;
-            s += 1;
-        }
+    let mut l = 0;
+    while l < lanes {
+        spread_column(x, d, v, p + l, out);
+        l += 1;
     }
+}
+
+// `Mask::fill` at the d frames of one state, for several components: the next values of each lane where the state is voiced, `none` where it is not.
+// The result is where in a lane's region the values of the states after it begin.
+pub(crate) fn fill_state(
+    voiced: bool,
+    d: usize,
+    none: f64,
+    work: &[f64],
+    from: usize,
+    size: usize,
+    lanes: usize,
+    v: usize,
+    p: usize,
+    out: &mut [f64],
+) -> usize
+    requires { ⌜ (v ≤ 64) × (lanes ≤ v) × (from + count (replicate d voiced) ≤ size) × (lanes * size ≤ length (now work)) × (p + d * v + lanes ≤ length (now out) + v) ⌝ }
+    ensures { λ r. ⌜ (r ≡ from + count (replicate d voiced))
+        × (now (out .exit) ≡ setsLanes v p (λ l. fill none (replicate d voiced) (drop (from + l * size) (now (work .entry)))) lanes (now (out .entry))) ⌝ }
+{
+    if voiced {
+        put_lanes(work, from, size, d, lanes, v, p, out);
+        return from + d;
+    }
+    spread_lanes(none, d, lanes, v, p, out);
+    from
 }

@@ -14,11 +14,13 @@ ghost use Rattle.mlpg_adjust.specs.Trajectory.{gvOn, withGv, streamMask}
 ghost use Rattle.mlpg_adjust.specs.TrajectoryInner.{Framed, Planned, Distances, Paired, Holds, Columned, Varying, variedOf, columnOf};
 use super::GlobalVariance;
 use super::Stream;
+use super::closing::close_state;
+use super::closing::wide;
 use super::component::Plan;
-use super::component::close_up_pairs;
-use super::filling::fill_back;
+use super::filling::fill_state;
 use super::gv::MlpgGlobalVariance;
 use super::mask::Voicing;
+use super::mask::voiced_at;
 use super::solve::solve;
 
 // The components first, first + 1, and so on, so many.
@@ -27,7 +29,7 @@ pub(crate) struct Group {
     pub(crate) lanes: usize,
 }
 
-// The pairs of each component are closed up in its region.
+// The pairs of each component are closed up in its region, state by state: a state's record is read once a group.
 fn close_up_group(
     records: &[f64],
     u: Voicing,
@@ -44,26 +46,36 @@ fn close_up_group(
     ensures { λ _. ⌜ ((l : ℕ) → l < group .lanes
         → Paired (u .size) (now (records .entry)) (u .threshold) (now (durations .entry)) (g .v) (now (widths .entry)) (group .first + l) (g .places) (regionOf (g .size) l (now (work .exit)))) ⌝ }
 {
-    let size = g.size;
     let first = group.first;
     let lanes = group.lanes;
-    let mut l = 0;
-    let mut o = 0;
-    while l < lanes {
-        let e = o + size;
-        close_up_pairs(
-            records,
-            u,
-            g,
-            first + l,
-            widths,
-            durations,
-            left,
-            right,
-            &mut work[o..e],
-        );
-        o = e;
-        l += 1;
+    let mut s = 0;
+    let mut f = 0;
+    let mut k = 0;
+    while s < durations.len() {
+        let d = wide(durations[s]);
+        if voiced_at(records, u, s) {
+            close_state(
+                records,
+                u,
+                g,
+                first,
+                lanes,
+                widths,
+                left,
+                right,
+                s,
+                f,
+                d,
+                k,
+                work,
+            );
+            k += d;
+            f += d;
+            s += 1;
+        } else {
+            f += d;
+            s += 1;
+        }
     }
 }
 
@@ -148,7 +160,7 @@ fn vary(
     vary_group(s, g, group, on, gv, weight, work);
 }
 
-// The values of each component are filled back into the trajectory.
+// The values of each component are filled back into the trajectory, state by state, so that a frame's numbers are written together.
 fn fill_group(
     records: &[f64],
     u: Voicing,
@@ -166,19 +178,17 @@ fn fill_group(
         → Columned f (g .v) (group .first) (now (out .entry)) → Columned f (g .v) (group .first + group .lanes) (now (out .exit))) ⌝ }
 {
     let v = g.v;
-    let n = g.n;
     let size = g.size;
-    let values = g.places.values;
-    let first = group.first;
     let lanes = group.lanes;
-    let mut l = 0;
-    let mut o = 0;
-    while l < lanes {
-        let a = o + values;
-        let e = a + n;
-        fill_back(records, u, durations, &work[a..e], none, v, first + l, out);
-        o += size;
-        l += 1;
+    let mut s = 0;
+    let mut p = group.first;
+    let mut k = g.places.values;
+    while s < durations.len() {
+        let d = durations[s] as usize;
+        let voiced = voiced_at(records, u, s);
+        k = fill_state(voiced, d, none, work, k, size, lanes, v, p, out);
+        p += d * v;
+        s += 1;
     }
 }
 

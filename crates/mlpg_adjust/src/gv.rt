@@ -1,18 +1,19 @@
 // `MlpgGlobalVariance`: the solved values of one component are drawn towards its global variance, in its region of the work space.
 ghost use mathlib.Core.Path.{_≡_};
 ghost use mathlib.Core.Bool.{false};
-ghost use mathlib.Core.List.{map};
+ghost use mathlib.Core.List.{List, map};
 ghost use Prim.Native.Nat.{_+_, _-_, _*_, _<_, _≤_, _^_};
 ghost use lib.ListN.{length, getD};
 ghost use lib.Seq.{sets};
-ghost use lib.Ieee.{nan};
+ghost use lib.Ieee.{Float, nan};
 ghost use Rattle.lists.specs.Build.{build};
 ghost use Rattle.mlpg_adjust.specs.Frames.{select, count};
 ghost use Rattle.mlpg_adjust.specs.MaskVoicing.{isOn};
 ghost use Rattle.mlpg_adjust.specs.Rows.{part};
+ghost use Rattle.mlpg_adjust.specs.Region.{Spaced};
 ghost use Rattle.mlpg_adjust.specs.Gv.{stepInit, sumOf, meanOf, variOf, squared, convOf, convAt, convGv, ahead, behind, gradientAt, gradient, weightOf, hmmTerm, hmmObj, gvObj, sizeAfter};
 ghost use Rattle.mlpg_adjust.specs.Parmgen.{iterate, state, valuesOf, turn, parmgen};
-ghost use Rattle.mlpg_adjust.specs.GvInner.{firstOn, joined, Counted, Sized, Pulls, pulled, Turned};
+ghost use Rattle.mlpg_adjust.specs.GvInner.{firstOn, joined, Counted, Sized, Graded, Pulls, pulled, Turned};
 use super::mlpg::at;
 use super::mlpg::el;
 use super::solve::Places;
@@ -185,31 +186,65 @@ fn gradient_by_entries(wuw: &[f64], par: &[f64], w: usize, t: usize) -> f64
     g
 }
 
-// The same for rows of width 3, the usual one, where two values stand to each side.
-fn gradient_of_three(wuw: &[f64], par: &[f64], t: usize) -> f64
-    requires { ⌜ (2 ≤ t) × (t + 2 < length (now par)) × (length (now par) * 3 ≤ length (now wuw)) ⌝ }
-    ensures { λ x. ⌜ x ≡ gradientAt 3 (now (wuw .entry)) (now (par .entry)) t ⌝ }
+// The same for rows of width 3, the usual one, where two values stand to each side: nothing is tested, so that the compiler does several rows at once.
+fn gradient_of_three(m: &[f64], p: Places, n: usize, t: usize) -> f64
+    requires { ⌜ (2 ≤ t) × (t + 2 < n) × Spaced p n 3 (length (now m)) ⌝ }
+    ensures { λ x. ⌜ x ≡ gradientAt 3 (part (p .rows) (n * 3) (now (m .entry))) (part (p .values) n (now (m .entry))) t ⌝ }
 {
-    let mut g = at(wuw, 3, t, 0) * el(par, t);
-    g = g + at(wuw, 3, t, 1) * el(par, t + 1);
-    g = g + at(wuw, 3, t - 1, 1) * el(par, t - 1);
-    g = g + at(wuw, 3, t, 2) * el(par, t + 2);
-    g + at(wuw, 3, t - 2, 2) * el(par, t - 2)
+    let q = p.rows + t * 3;
+    let v = p.values + t;
+    m[q] * m[v]
+        + m[q + 1] * m[v + 1]
+        + m[q - 2] * m[v - 1]
+        + m[q + 2] * m[v + 2]
+        + m[q - 4] * m[v - 2]
 }
 
-// Row t of the matrix times the values.
-fn gradient_at(wuw: &[f64], par: &[f64], w: usize, t: usize) -> f64
-    requires { ⌜ (0 < w) × (t < length (now par)) × (length (now par) * w ≤ length (now wuw)) × (w < 2 ^ 32) ⌝ }
-    ensures { λ x. ⌜ x ≡ gradientAt w (now (wuw .entry)) (now (par .entry)) t ⌝ }
+// The gradient's rows from `from` to `end`, by their entries; they go where the factors were.
+fn rows_by_entries(m: &mut [f64], p: Places, n: usize, w: usize, from: usize, end: usize)
+    requires { ⌜ (0 < w) × (w < 2 ^ 32) × Spaced p n w (length (now m)) × (from ≤ end) × (end ≤ n) ⌝ }
+    ensures { λ _. ⌜ ((d : List Float) → Graded p n w d (now (m .entry)) from → Graded p n w d (now (m .exit)) end) ⌝ }
 {
-    if w == 3 {
-        if 2 <= t {
-            if t + 2 < par.len() {
-                return gradient_of_three(wuw, par, t);
-            }
-        }
+    let rows = p.rows;
+    let rows_end = rows + n * w;
+    let values = p.values;
+    let values_end = values + n;
+    let to = p.factors;
+    let mut t = from;
+    while t < end {
+        let g = gradient_by_entries(&m[rows..rows_end], &m[values..values_end], w, t);
+        m[to + t] = g;
+        t += 1;
     }
-    gradient_by_entries(wuw, par, w, t)
+}
+
+// The rows of width 3 between the first two and the last two.
+fn inner_rows_of_three(m: &mut [f64], p: Places, n: usize)
+    requires { ⌜ (4 ≤ n) × Spaced p n 3 (length (now m)) ⌝ }
+    ensures { λ _. ⌜ ((d : List Float) → Graded p n 3 d (now (m .entry)) 2 → Graded p n 3 d (now (m .exit)) (n - 2)) ⌝ }
+{
+    let end = n - 2;
+    let to = p.factors;
+    let mut t = 2;
+    while t < end {
+        let g = gradient_of_three(m, p, n, t);
+        m[to + t] = g;
+        t += 1;
+    }
+}
+
+// The matrix times the values, which goes where the factors were.
+fn calc_gradient(m: &mut [f64], p: Places, n: usize, w: usize)
+    requires { ⌜ (0 < w) × (w < 2 ^ 32) × Spaced p n w (length (now m)) ⌝ }
+    ensures { λ _. ⌜ now (m .exit) ≡ sets (now (m .entry)) (p .factors) (gradient w (part (p .rows) (n * w) (now (m .entry))) (part (p .values) n (now (m .entry)))) ⌝ }
+{
+    if w == 3 && 5 <= n {
+        rows_by_entries(m, p, n, w, 0, 2);
+        inner_rows_of_three(m, p, n);
+        rows_by_entries(m, p, n, w, n - 2, n);
+    } else {
+        rows_by_entries(m, p, n, w, 0, n);
+    }
 }
 
 fn hmm_term(weight: f64, m: f64, g: f64, p: f64) -> f64
@@ -357,31 +392,24 @@ impl MlpgGlobalVariance {
         rescale(par, on, self.first, m.mean, ratio)
     }
 
-    // The matrix times the values, which goes where the factors were, with a turn's sums: one pass, as each sum waits for itself alone.
-    fn calc_hmmobj_derivative(self, m: &mut [f64], p: Places, on: &[u32], mean: f64) -> TurnSums
+    // A turn's sums, in one pass, as each waits for itself alone; the gradient is where the factors were.
+    fn calc_sums(self, m: &[f64], p: Places, on: &[u32], mean: f64) -> TurnSums
         requires { ⌜ Sized self p (length (now m)) × Counted self (map isOn (now on)) × (0 < self .switched) ⌝ }
-        ensures { λ r. ⌜ (now (m .exit) ≡ sets (now (m .entry)) (p .factors) (gradient (self .width) (part (p .rows) (self .length * self .width) (now (m .entry))) (part (p .values) (self .length) (now (m .entry)))))
-            × (r .hmm ≡ hmmObj (weightOf (self .windows) (self .length)) (part (p .right) (self .length) (now (m .entry))) (gradient (self .width) (part (p .rows) (self .length * self .width) (now (m .entry))) (part (p .values) (self .length) (now (m .entry)))) (part (p .values) (self .length) (now (m .entry))))
+        ensures { λ r. ⌜ (r .hmm ≡ hmmObj (weightOf (self .windows) (self .length)) (part (p .right) (self .length) (now (m .entry))) (part (p .factors) (self .length) (now (m .entry))) (part (p .values) (self .length) (now (m .entry))))
             × (r .squares ≡ sumOf (squared mean) (select (map isOn (now (on .entry))) (part (p .values) (self .length) (now (m .entry))))) ⌝ }
     {
         let n = self.length;
-        let w = self.width;
         let first = self.first;
         let weight = weight_of(self.windows, n);
-        let rows = p.rows;
-        let rows_end = rows + n * w;
-        let values = p.values;
-        let values_end = values + n;
         let right = p.right;
-        let to = p.factors;
+        let gradient = p.factors;
+        let values = p.values;
         let mut hmm = 0.0;
         let mut squares = 0.0;
         let mut t = 0;
         while t < n {
-            let g = gradient_at(&m[rows..rows_end], &m[values..values_end], w, t);
-            m[to + t] = g;
             let x = el(m, values + t);
-            hmm = hmm + hmm_term(weight, el(m, right + t), g, x);
+            hmm = hmm + hmm_term(weight, el(m, right + t), el(m, gradient + t), x);
             squares = add_switched(squares, square(x, mean), on, first, t);
             t += 1;
         }
@@ -389,6 +417,17 @@ impl MlpgGlobalVariance {
             hmm: hmm,
             squares: squares,
         }
+    }
+
+    // The matrix times the values, which goes where the factors were, and a turn's sums: two passes, as beside a sum rows would be done one by one.
+    fn calc_hmmobj_derivative(self, m: &mut [f64], p: Places, on: &[u32], mean: f64) -> TurnSums
+        requires { ⌜ Sized self p (length (now m)) × Counted self (map isOn (now on)) × (0 < self .switched) ⌝ }
+        ensures { λ r. ⌜ (now (m .exit) ≡ sets (now (m .entry)) (p .factors) (gradient (self .width) (part (p .rows) (self .length * self .width) (now (m .entry))) (part (p .values) (self .length) (now (m .entry)))))
+            × (r .hmm ≡ hmmObj (weightOf (self .windows) (self .length)) (part (p .right) (self .length) (now (m .entry))) (gradient (self .width) (part (p .rows) (self .length * self .width) (now (m .entry))) (part (p .values) (self .length) (now (m .entry)))) (part (p .values) (self .length) (now (m .entry))))
+            × (r .squares ≡ sumOf (squared mean) (select (map isOn (now (on .entry))) (part (p .values) (self .length) (now (m .entry))))) ⌝ }
+    {
+        calc_gradient(m, p, self.length, self.width);
+        self.calc_sums(m, p, on, mean)
     }
 
     // What the next step is the same in for every frame.
@@ -413,21 +452,18 @@ impl MlpgGlobalVariance {
         }
     }
 
-    // Each value after the step, and the sum of the switched ones; the gradient is where the factors were.
-    fn next_step(self, m: &mut [f64], p: Places, on: &[u32], s: Pull) -> f64
-        requires { ⌜ Sized self p (length (now m)) × Counted self (map isOn (now on)) × (0 < self .switched) ⌝ }
-        ensures { λ r. ⌜ (now (m .exit) ≡ sets (now (m .entry)) (p .values) (build (λ t. pulled s (getD (now (m .entry)) (p .rows + t * self .width) nan) (getD (map isOn (now (on .entry))) t false)
-            (getD (now (m .entry)) (p .factors + t) nan) (getD (now (m .entry)) (p .right + t) nan) (getD (now (m .entry)) (p .values + t) nan)) (self .length)))
-            × (r ≡ sumOf (λ x. x) (select (map isOn (now (on .entry))) (part (p .values) (self .length) (now (m .exit))))) ⌝ }
+    // Each value after the step; the gradient is where the factors were.
+    fn step_values(self, m: &mut [f64], p: Places, on: &[u32], s: Pull)
+        requires { ⌜ Sized self p (length (now m)) × (length (now on) ≡ self .length) ⌝ }
+        ensures { λ _. ⌜ now (m .exit) ≡ sets (now (m .entry)) (p .values) (build (λ t. pulled s (getD (now (m .entry)) (p .rows + t * self .width) nan) (getD (map isOn (now (on .entry))) t false)
+            (getD (now (m .entry)) (p .factors + t) nan) (getD (now (m .entry)) (p .right + t) nan) (getD (now (m .entry)) (p .values + t) nan)) (self .length)) ⌝ }
     {
         let n = self.length;
         let w = self.width;
-        let first = self.first;
         let diagonals = p.rows;
         let values = p.values;
         let right = p.right;
         let gradient = p.factors;
-        let mut sum = 0.0;
         let mut t = 0;
         while t < n {
             let x = next_at(
@@ -439,10 +475,21 @@ impl MlpgGlobalVariance {
                 el(m, values + t),
             );
             m[values + t] = x;
-            sum = add_switched(sum, x, on, first, t);
             t += 1;
         }
-        sum
+    }
+
+    // Each value after the step, and the sum of the switched ones: two passes, as beside a sum values would be done one by one.
+    fn next_step(self, m: &mut [f64], p: Places, on: &[u32], s: Pull) -> f64
+        requires { ⌜ Sized self p (length (now m)) × Counted self (map isOn (now on)) × (0 < self .switched) ⌝ }
+        ensures { λ r. ⌜ (now (m .exit) ≡ sets (now (m .entry)) (p .values) (build (λ t. pulled s (getD (now (m .entry)) (p .rows + t * self .width) nan) (getD (map isOn (now (on .entry))) t false)
+            (getD (now (m .entry)) (p .factors + t) nan) (getD (now (m .entry)) (p .right + t) nan) (getD (now (m .entry)) (p .values + t) nan)) (self .length)))
+            × (r ≡ sumOf (λ x. x) (select (map isOn (now (on .entry))) (part (p .values) (self .length) (now (m .exit))))) ⌝ }
+    {
+        self.step_values(m, p, on, s);
+        let values = p.values;
+        let values_end = values + self.length;
+        switched_sum(&m[values..values_end], on, self.first)
     }
 
     // One turn of the loop: objective, size of the step, next values.

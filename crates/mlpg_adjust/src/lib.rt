@@ -3,8 +3,9 @@ ghost use mathlib.Core.Path.{_≡_};
 ghost use Prim.Native.Nat.{_≤_};
 ghost use lib.ListN.{length};
 ghost use Rattle.lists.specs.Totals.{total};
+ghost use Rattle.lists.specs.Answers.{written};
 ghost use Rattle.mlpg_adjust.specs.Trajectory.{recordSize, numbersOf};
-ghost use Rattle.mlpg_adjust.specs.TrajectoryPromise.{written, zeroFloats, zeroMarks, CreateSays};
+ghost use Rattle.mlpg_adjust.specs.TrajectoryPromise.{zeroFloats, zeroMarks, CreateSays};
 ghost use Rattle.mlpg_adjust.specs.TrajectoryInner.{Shaped, Room};
 
 pub mod band;

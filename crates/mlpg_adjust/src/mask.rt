@@ -8,7 +8,7 @@ ghost use Rattle.model.specs.declared.voice.model.Weight.the-variants.{Given};
 ghost use Rattle.model.specs.Weight.{voicedAt};
 ghost use Rattle.mlpg_adjust.specs.MaskVoicing.{flag, isOn, maskOf, weightAt, weightsOf};
 ghost use Rattle.mlpg_adjust.specs.MaskBoundaries.{lefts, rights};
-ghost use Rattle.mlpg_adjust.specs.MaskPromise.{answerOf, framesRefusal, MaskSays, DistancesSays, MaskedDistancesSays};
+ghost use Rattle.mlpg_adjust.specs.MaskPromise.{maskedOf, framesRefusal, MaskSays, DistancesSays, MaskedDistancesSays};
 use model::voice::model::msd;
 
 // How many frames there are, or 01's number of why not.
@@ -143,7 +143,7 @@ fn mark_and_measure(
 
 // How many frames the states have, as far as 3, 4 and 5 allow.
 fn frames_of(weights: usize, durations: &[u32]) -> Masked
-    ensures { λ r. ⌜ r ≡ answerOf (framesRefusal weights (now (durations .entry))) (total (now (durations .entry))) ⌝ }
+    ensures { λ r. ⌜ r ≡ maskedOf (framesRefusal weights (now (durations .entry))) (total (now (durations .entry))) ⌝ }
 {
     if 4096 < durations.len() {
         return Masked::Refused(3);

@@ -1,17 +1,20 @@
-// `calc_wuw_and_wum` over a region, tap by tap: each pass goes along all frames, so that what a tap needs is worked out once.
+// `calc_wuw_and_wum` over a region, a block of rows at a time and tap by tap: what a tap needs is worked out once for a block, whose rows stay in the cache from tap to tap.
 ghost use mathlib.Core.Path.{_≡_};
 ghost use mathlib.Core.Bool.{false};
-ghost use Prim.Native.Nat.{_+_, _-_, _*_, _/_, _<_, _≤_};
+ghost use Prim.Native.Nat.{_+_, _-_, _*_, _/_, _<_, _≤_, min, max};
 ghost use lib.ListN.{length, replicate};
 ghost use lib.Seq.{sets};
 ghost use lib.Ieee.{binary64, add, mul, eq};
 ghost use Rattle.mlpg_adjust.specs.Rows.{nought, elem, part};
 ghost use Rattle.mlpg_adjust.specs.Inner.{Taps};
 ghost use Rattle.mlpg_adjust.specs.Region.{Spaced, Laid, Rowed};
-ghost use Rattle.mlpg_adjust.specs.Passes.{Along, Moved, tapEntry, tapSide, windowEntry, windowSide, windowsEntry, windowsSide, still, inColumn};
+ghost use Rattle.mlpg_adjust.specs.Passes.{Along, Moved, tapEntry, tapSide, windowEntry, windowSide, windowsEntry, windowsSide, wholeEntry, wholeSide, still, inColumn};
 use super::mlpg::el;
 use super::mlpg::part_at;
 use super::solve::Places;
+
+// How many rows a block has: few enough to stay in the cache, enough for long passes.
+const BLOCK: usize = 256;
 
 fn wide(x: u32) -> usize
     ensures { λ r. ⌜ r ≡ x ⌝ }
@@ -53,18 +56,30 @@ struct Span {
     to: usize,
 }
 
-// The rows for which tap k of a window stands at a frame: t + half - k is one of the n frames.
-fn rows_of(width: usize, k: usize, n: usize) -> Span
-    ensures { λ r. ⌜ (r .from ≡ k - width / 2) × (r .to ≡ n - (width / 2 - k)) ⌝ }
+// The larger of two numbers.
+fn larger(a: usize, b: usize) -> usize
+    ensures { λ r. ⌜ r ≡ max a b ⌝ }
+{
+    if a < b {
+        return b;
+    }
+    a
+}
+
+// The rows of a block for which tap k of a window stands at a frame: t + half - k is one of the n frames.
+fn rows_of(width: usize, k: usize, n: usize, block: Span) -> Span
+    ensures { λ r. ⌜ (r .from ≡ max (block .from) (k - width / 2)) × (r .to ≡ min (block .to) (n - (width / 2 - k))) ⌝ }
 {
     let half = width / 2;
-    let from = k - lists::least(k, half);
+    let first = k - lists::least(k, half);
     let missing = half - lists::least(half, k);
-    let to = n - lists::least(n, missing);
+    let end = n - lists::least(n, missing);
+    let from = larger(block.from, first);
+    let to = lists::least(block.to, end);
     Span { from, to }
 }
 
-// The right side with tap k's terms added. u and mean are the places of the window's inverse variances and means.
+// A block's right side with tap k's terms added. u and mean are the places of the window's inverse variances and means.
 fn add_side(
     m: &mut [f64],
     taps: &[f64],
@@ -74,11 +89,12 @@ fn add_side(
     mean: usize,
     n: usize,
     w: usize,
+    block: Span,
 )
     requires { ⌜ (k < length (now taps)) × (eq (elem (now taps) k) nought ≡ false) × (u + n ≤ p .rows) × (mean + n ≤ p .rows) × (0 < w) × Spaced p n w (length (now m)) ⌝ }
-    ensures { λ _. ⌜ Moved p n w (λ t j y. y) (tapSide (now (taps .entry)) (part u n (now (m .entry))) (part mean n (now (m .entry))) n k) (now (m .entry)) (now (m .exit)) ⌝ }
+    ensures { λ _. ⌜ Moved p n w block (λ t j y. y) (tapSide (now (taps .entry)) (part u n (now (m .entry))) (part mean n (now (m .entry))) n k) (now (m .entry)) (now (m .exit)) ⌝ }
 {
-    let s = rows_of(taps.len(), k, n);
+    let s = rows_of(taps.len(), k, n, block);
     let from = s.from;
     let to = s.to;
     if to <= from {
@@ -88,7 +104,7 @@ fn add_side(
     add_products(m, p.right + from, u + f, mean + f, to - from, el(taps, k));
 }
 
-// Column j of the rows with tap k's terms added.
+// Column j of a block's rows with tap k's terms added.
 fn add_column(
     m: &mut [f64],
     taps: &[f64],
@@ -98,15 +114,16 @@ fn add_column(
     u: usize,
     n: usize,
     w: usize,
+    block: Span,
 )
     requires { ⌜ (k + j < length (now taps)) × (length (now taps) ≤ w) × (eq (elem (now taps) k) nought ≡ false) × (u + n ≤ p .rows) × Spaced p n w (length (now m)) ⌝ }
-    ensures { λ _. ⌜ Moved p n w (inColumn j (tapEntry (now (taps .entry)) (part u n (now (m .entry))) (part u n (now (m .entry))) n k)) still (now (m .entry)) (now (m .exit)) ⌝ }
+    ensures { λ _. ⌜ Moved p n w block (inColumn j (tapEntry (now (taps .entry)) (part u n (now (m .entry))) (part u n (now (m .entry))) n k)) still (now (m .entry)) (now (m .exit)) ⌝ }
 {
     let d = el(taps, k + j);
     if d == 0.0 {
         return;
     }
-    let s = rows_of(taps.len(), k, n);
+    let s = rows_of(taps.len(), k, n, block);
     let from = s.from;
     let to = lists::least(s.to, n - lists::least(n, j));
     if to <= from {
@@ -124,20 +141,29 @@ fn add_column(
     );
 }
 
-// The rows with tap k's terms added.
-fn add_columns(m: &mut [f64], taps: &[f64], k: usize, p: Places, u: usize, n: usize, w: usize)
+// A block's rows with tap k's terms added.
+fn add_columns(
+    m: &mut [f64],
+    taps: &[f64],
+    k: usize,
+    p: Places,
+    u: usize,
+    n: usize,
+    w: usize,
+    block: Span,
+)
     requires { ⌜ (k < length (now taps)) × (length (now taps) ≤ w) × (eq (elem (now taps) k) nought ≡ false) × (u + n ≤ p .rows) × Spaced p n w (length (now m)) ⌝ }
-    ensures { λ _. ⌜ Moved p n w (tapEntry (now (taps .entry)) (part u n (now (m .entry))) (part u n (now (m .entry))) n k) still (now (m .entry)) (now (m .exit)) ⌝ }
+    ensures { λ _. ⌜ Moved p n w block (tapEntry (now (taps .entry)) (part u n (now (m .entry))) (part u n (now (m .entry))) n k) still (now (m .entry)) (now (m .exit)) ⌝ }
 {
     let end = taps.len() - k;
     let mut j = 0;
     while j < end {
-        add_column(m, taps, k, j, p, u, n, w);
+        add_column(m, taps, k, j, p, u, n, w, block);
         j += 1;
     }
 }
 
-// Rows and right side with tap k's terms added.
+// A block's rows and right side with tap k's terms added.
 fn pass_tap(
     m: &mut [f64],
     taps: &[f64],
@@ -147,45 +173,70 @@ fn pass_tap(
     mean: usize,
     n: usize,
     w: usize,
+    block: Span,
 )
     requires { ⌜ (k < length (now taps)) × (length (now taps) ≤ w) × (u + n ≤ p .rows) × (mean + n ≤ p .rows) × Spaced p n w (length (now m)) ⌝ }
-    ensures { λ _. ⌜ Moved p n w (tapEntry (now (taps .entry)) (part u n (now (m .entry))) (part mean n (now (m .entry))) n k)
+    ensures { λ _. ⌜ Moved p n w block (tapEntry (now (taps .entry)) (part u n (now (m .entry))) (part mean n (now (m .entry))) n k)
         (tapSide (now (taps .entry)) (part u n (now (m .entry))) (part mean n (now (m .entry))) n k) (now (m .entry)) (now (m .exit)) ⌝ }
 {
     if el(taps, k) == 0.0 {
         return;
     }
-    add_side(m, taps, k, p, u, mean, n, w);
-    add_columns(m, taps, k, p, u, n, w);
+    add_side(m, taps, k, p, u, mean, n, w, block);
+    add_columns(m, taps, k, p, u, n, w, block);
 }
 
-// Rows and right side with one window's terms added: frames ascend where taps descend.
-fn pass_window(m: &mut [f64], taps: &[f64], p: Places, u: usize, mean: usize, n: usize, w: usize)
+// A block's rows and right side with one window's terms added: frames ascend where taps descend.
+fn pass_window(
+    m: &mut [f64],
+    taps: &[f64],
+    p: Places,
+    u: usize,
+    mean: usize,
+    n: usize,
+    w: usize,
+    block: Span,
+)
     requires { ⌜ (length (now taps) ≤ w) × (u + n ≤ p .rows) × (mean + n ≤ p .rows) × Spaced p n w (length (now m)) ⌝ }
-    ensures { λ _. ⌜ Moved p n w (windowEntry (now (taps .entry)) (part u n (now (m .entry))) (part mean n (now (m .entry))) n)
+    ensures { λ _. ⌜ Moved p n w block (windowEntry (now (taps .entry)) (part u n (now (m .entry))) (part mean n (now (m .entry))) n)
         (windowSide (now (taps .entry)) (part u n (now (m .entry))) (part mean n (now (m .entry))) n) (now (m .entry)) (now (m .exit)) ⌝ }
 {
     let mut k = taps.len();
     while 0 < k {
         k -= 1;
-        pass_tap(m, taps, k, p, u, mean, n, w);
+        pass_tap(m, taps, k, p, u, mean, n, w, block);
     }
 }
 
-// Rows and right side become zero.
-fn clear_rows(m: &mut [f64], p: Places, n: usize, w: usize)
-    requires { ⌜ Spaced p n w (length (now m)) ⌝ }
-    ensures { λ _. ⌜ now (m .exit) ≡ sets (now (m .entry)) (p .rows) (replicate (p .right + n - p .rows) nought) ⌝ }
+// The numbers from one place to another become zero.
+fn clear(m: &mut [f64], from: usize, to: usize)
+    requires { ⌜ (from ≤ to) × (to ≤ length (now m)) ⌝ }
+    ensures { λ _. ⌜ now (m .exit) ≡ sets (now (m .entry)) from (replicate (to - from) nought) ⌝ }
 {
-    let rows = p.rows;
-    let end = p.right + n;
-    lists::fill_f64(&mut m[rows..end], end - rows, 0.0);
+    lists::fill_f64(&mut m[from..to], to - from, 0.0);
 }
 
-// Rows and right side with all windows' terms added, windows in order.
-fn pass_windows(m: &mut [f64], widths: &[u32], coefficients: &[f64], p: Places, n: usize, w: usize)
+// A block's rows and right side become zero.
+fn clear_rows(m: &mut [f64], p: Places, n: usize, w: usize, block: Span)
+    requires { ⌜ (block .from ≤ block .to) × (block .to ≤ n) × Spaced p n w (length (now m)) ⌝ }
+    ensures { λ _. ⌜ Moved p n w block (λ t j y. nought) (λ t y. nought) (now (m .entry)) (now (m .exit)) ⌝ }
+{
+    clear(m, p.rows + block.from * w, p.rows + block.to * w);
+    clear(m, p.right + block.from, p.right + block.to);
+}
+
+// A block's rows and right side with all windows' terms added, windows in order.
+fn pass_windows(
+    m: &mut [f64],
+    widths: &[u32],
+    coefficients: &[f64],
+    p: Places,
+    n: usize,
+    w: usize,
+    block: Span,
+)
     requires { ⌜ Taps (now widths) (now coefficients) w × Laid p (length (now widths)) n w (length (now m)) ⌝ }
-    ensures { λ _. ⌜ Moved p n w (windowsEntry (now (widths .entry)) (now (coefficients .entry)) (part (p .ivars) (length (now (widths .entry)) * n) (now (m .entry))) (part 0 (length (now (widths .entry)) * n) (now (m .entry))) n (length (now (widths .entry))))
+    ensures { λ _. ⌜ Moved p n w block (windowsEntry (now (widths .entry)) (now (coefficients .entry)) (part (p .ivars) (length (now (widths .entry)) * n) (now (m .entry))) (part 0 (length (now (widths .entry)) * n) (now (m .entry))) n (length (now (widths .entry))))
         (windowsSide (now (widths .entry)) (now (coefficients .entry)) (part (p .ivars) (length (now (widths .entry)) * n) (now (m .entry))) (part 0 (length (now (widths .entry)) * n) (now (m .entry))) n (length (now (widths .entry))))
         (now (m .entry)) (now (m .exit)) ⌝ }
 {
@@ -194,11 +245,38 @@ fn pass_windows(m: &mut [f64], widths: &[u32], coefficients: &[f64], p: Places, 
     let mut b = 0;
     while i < widths.len() {
         let width = wide(widths[i]);
-        pass_window(m, part_at(coefficients, o, width), p, p.ivars + b, b, n, w);
+        pass_window(
+            m,
+            part_at(coefficients, o, width),
+            p,
+            p.ivars + b,
+            b,
+            n,
+            w,
+            block,
+        );
         o += width;
         b += n;
         i += 1;
     }
+}
+
+// A block's rows and right side, from the pairs that the region holds.
+fn pass_block(
+    m: &mut [f64],
+    widths: &[u32],
+    coefficients: &[f64],
+    p: Places,
+    n: usize,
+    w: usize,
+    block: Span,
+)
+    requires { ⌜ (block .from ≤ block .to) × (block .to ≤ n) × Taps (now widths) (now coefficients) w × Laid p (length (now widths)) n w (length (now m)) ⌝ }
+    ensures { λ _. ⌜ Moved p n w block (wholeEntry (now (widths .entry)) (now (coefficients .entry)) p n (now (m .entry)))
+        (wholeSide (now (widths .entry)) (now (coefficients .entry)) p n (now (m .entry))) (now (m .entry)) (now (m .exit)) ⌝ }
+{
+    clear_rows(m, p, n, w, block);
+    pass_windows(m, widths, coefficients, p, n, w, block);
 }
 
 // The rows of the band and the right side, from the pairs that the region holds.
@@ -213,6 +291,10 @@ pub(crate) fn calc_wuw_and_wum(
     requires { ⌜ Taps (now widths) (now coefficients) w × Laid p (length (now widths)) n w (length (now m)) ⌝ }
     ensures { λ _. ⌜ Rowed (now (widths .entry)) (now (coefficients .entry)) p n w (now (m .entry)) (now (m .exit)) ⌝ }
 {
-    clear_rows(m, p, n, w);
-    pass_windows(m, widths, coefficients, p, n, w);
+    let mut from = 0;
+    while from < n {
+        let to = from + lists::least(BLOCK, n - from);
+        pass_block(m, widths, coefficients, p, n, w, Span { from, to });
+        from = to;
+    }
 }

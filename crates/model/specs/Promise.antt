@@ -1,11 +1,12 @@
 -- What the calls that write a record promise.
 use mathlib.Core.Path.{_≡_}
-use mathlib.Core.List.{List, _++_}
+use mathlib.Core.List.{List}
 use mathlib.Core.Bool.{cond}
-use Prim.Native.Nat.{ℕ, zero, suc}
-use lib.ListN.{length, drop}
+use Prim.Native.Nat.{ℕ}
+use lib.ListN.{length}
 use lib.Dec.{ltb}
 use lib.Ieee.{Float}
+use Rattle.lists.specs.Answers.{written}
 use Rattle.model.specs.declared.voice.model.Written.{Written}
 use Rattle.model.specs.declared.voice.model.Written.the-variants.{Done, TooShort}
 use Rattle.model.specs.Record.{fromLinear, toLinear}
@@ -20,15 +21,10 @@ numberOf TooShort = 6
 abbrev pub mulRefusal : List Float → List Float → ℕ
 mulRefusal lin out = cond (ltb (length out) (length lin)) 6 0
 
--- 01, Refusal numbers: a refused call leaves the output "untouched"; an accepted one writes its first numbers, "and touches nothing beyond"
-abbrev pub afterwards : ℕ → List Float → List Float → List Float
-afterwards zero new out = new ++ drop (length new) out
-afterwards (suc n) new out = out
-
 -- the call `mul`
 pub record MulSays (lin : List Float) (weight : Float) (out : List Float) (r : Written) (out′ : List Float) : Type 0 where
   pub answer : numberOf r ≡ mulRefusal lin out
-  pub output : out′ ≡ afterwards (mulRefusal lin out) (toLinear (scaled (fromLinear lin) weight)) out
+  pub output : out′ ≡ written (mulRefusal lin out) (toLinear (scaled (fromLinear lin) weight)) out
 
 -- the call `mul_add_assign`; no refusal: the accumulator's own length says which record it is, so there is always room
 pub record MulAddSays (lhs : List Float) (weight : Float) (rhs lhs′ : List Float) : Type 0 where

@@ -9,8 +9,10 @@ use native.Mathlib.Omega.{arith}
 use lib.Dec.{lit<}
 use Rattle.lists.proofs.Numbers.{le-or-lt}
 use Rattle.lists.proofs.Rows.{row-in}
+use Rattle.lists.proofs.Answers.{accepted-is}
 use Rattle.spool.specs.Place.{placeOf}
-use Rattle.spool.specs.Promise.{PlaceSays}
+use Rattle.spool.specs.Refusal.{placeRefusal}
+use Rattle.spool.specs.Promise.{placed, PlaceSays}
 use Rattle.spool.specs.declared.Placed.the-variants.{At}
 use Rattle.spool.proofs.Refusals.{place-accepts}
 use Rattle.spool.proofs.Sums.{product-fits}
@@ -43,10 +45,13 @@ places-differ v frame component frame′ component′ w w′ e = ⊎-elim
 -- so two calls that give one place were asked for one frame and one component
 pub answers-differ : (v frame component frame′ component′ place : ℕ) → PlaceSays frame component v (At place) → PlaceSays frame′ component′ v (At place) → (frame ≡ frame′) × (component ≡ component′)
 answers-differ v frame component frame′ component′ place a b =
-    places-differ v frame component frame′ component′ (place-accepts component v (sym (a .numbered)) .1) (place-accepts component′ v (sym (b .numbered)) .1) (sym (given-place frame component a) ∙ given-place frame′ component′ b)
+    places-differ v frame component frame′ component′ (place-accepts component v (given-at frame component a .0) .1) (place-accepts component′ v (given-at frame′ component′ b .0) .1) (sym (given-place frame component a) ∙ given-place frame′ component′ b)
   where
+    given-at : (frame component : ℕ) → PlaceSays frame component v (At place) → (placeRefusal component v ≡ 0) × (place ∷ [] ≡ placeOf frame component v ∷ [])
+    given-at frame component s = accepted-is (placed (At place)) _ _ s refl
+
     given-place : (frame component : ℕ) → PlaceSays frame component v (At place) → place ≡ placeOf frame component v
-    given-place frame component s = let e : place ∷ [] ≡ placeOf frame component v ∷ [] = s .valued ∙ rw (← s .numbered) in cc e
+    given-place frame component s = let e : place ∷ [] ≡ placeOf frame component v ∷ [] = given-at frame component s .1 in cc e
 
 -- no frame of 32 bits has a place past that of frame 4,294,967,295, component 63 of 64
 pub place-most : (frame component v : ℕ) → frame < 2 ^ 32 → component < v → v ≤ 64 → placeOf frame component v ≤ placeOf 4294967295 63 64

@@ -3,14 +3,14 @@ use mathlib.Core.Path.{_≡_, refl}
 use mathlib.Core.Bool.{true, false, cond, _||_}
 use mathlib.Core.List.{List}
 use mathlib.Core.Logic.{⊎-elim}
-use Prim.Native.Nat.{ℕ, zero, suc, _*_, _<_, _≤_}
+use Prim.Native.Nat.{ℕ, suc, _*_, _<_, _≤_}
 use native.Mathlib.Omega.{arith}
 use borrow.Author.Tests.{ltb-false, lt-ltb, le-ltb, eqb-true, eqb-false, eq-eqb, ne-eqb}
 use lib.Dec.{ltb, eqb}
 use lib.ListN.{length}
 use Rattle.lists.specs.Totals.{total}
 use Rattle.lists.proofs.Numbers.{le-or-lt}
-use Rattle.lists.specs.Refusals.{orElse}
+use Rattle.lists.proofs.Refusals.{or-none}
 use Rattle.spool.specs.Refusal.{outside, placeRefusal, trajectoryRefusal, excerptRefusal}
 
 -- a v that is not out of range
@@ -21,11 +21,6 @@ in-range v =
       | true ↦ λ g h. let z : _≡_ {A = ℕ} 0 1 = cc in absurd (omega arith)
       | false ↦ λ g h. (ltb-false v 1 g, ltb-false 64 v h)
     ]) refl
-
--- no refusal by two tests is none by the first
-first-none : (a b : ℕ) → orElse a b ≡ 0 → a ≡ 0
-first-none zero b e = refl
-first-none (suc k) b e = absurd (omega arith)
 
 -- ---- a place
 
@@ -120,5 +115,5 @@ module _ (numbers : ℕ) (ds : List ℕ) (v : ℕ) where
     pub excerpt-accepts : excerptRefusal numbers ds v state ≡ 0 → Accepted numbers ds v × (state < length ds)
     unfolding excerptRefusal
     excerpt-accepts e =
-        let n : trajectoryRefusal numbers ds v ≡ 0 = first-none (trajectoryRefusal numbers ds v) (cond (ltb state (length ds)) 0 10) e in
+        let n : trajectoryRefusal numbers ds v ≡ 0 = or-none (trajectoryRefusal numbers ds v) (cond (ltb state (length ds)) 0 10) e .0 in
         ⊎-elim (λ (h : length ds ≤ state). absurd (omega (arith, excerpt-10 n h))) (λ (h : state < length ds). (accepts n, h)) (le-or-lt (length ds) state)

@@ -1,13 +1,14 @@
 -- What an answer of `excerpt_span` tells of the excerpt. Assumes nothing.
-use mathlib.Core.Path.{_≡_, sym, ap, _∙_}
+use mathlib.Core.Path.{_≡_, refl, sym, ap, _∙_}
 use mathlib.Core.List.{List, [], _∷_}
 use Prim.Native.Nat.{ℕ, _+_, _≤_}
 use native.Mathlib.Omega.{arith}
 use lib.Ieee.{Float}
 use lib.ListN.{length, take, drop}
+use Rattle.lists.proofs.Answers.{same, accepted-is}
 use Rattle.spool.specs.Excerpt.{startOf, countOf, excerptOf}
 use Rattle.spool.specs.Refusal.{excerptRefusal}
-use Rattle.spool.specs.Promise.{spanNumber, spanValues, SpanSays}
+use Rattle.spool.specs.Promise.{spanned, SpanSays}
 use Rattle.spool.specs.declared.Span.{Span}
 use Rattle.spool.specs.declared.Span.the-variants.{Numbers, Refused}
 use Rattle.spool.proofs.Refusals.{excerpt-accepts}
@@ -15,14 +16,14 @@ use Rattle.spool.proofs.Excerpts.{excerpt-fits}
 
 module _ (trajectory : List Float) (ds : List ℕ) (v state : ℕ) (r : Span) (says : SpanSays trajectory ds v state r) where
   pub span-refused : (k : ℕ) → r ≡ Refused k → k ≡ excerptRefusal (length trajectory) ds v state
-  span-refused k e = sym (ap spanNumber e) ∙ says .numbered
+  span-refused k e = same (sym (ap spanned e) ∙ says) .0
 
   module _ (first count : ℕ) (e : r ≡ Numbers first count) where
     pub span-none : excerptRefusal (length trajectory) ds v state ≡ 0
-    span-none = sym (says .numbered) ∙ ap spanNumber e
+    span-none = accepted-is (spanned (Numbers first count)) _ _ (sym (ap spanned e) ∙ says) refl .0
 
     span-is : first ∷ count ∷ [] ≡ startOf ds v state ∷ countOf ds v state ∷ []
-    span-is = sym (ap spanValues e) ∙ says .valued ∙ rw span-none
+    span-is = accepted-is (spanned (Numbers first count)) _ _ (sym (ap spanned e) ∙ says) refl .1
 
     pub span-first : first ≡ startOf ds v state
     span-first = cc span-is

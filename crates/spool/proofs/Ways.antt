@@ -1,37 +1,28 @@
 -- The ways out of the calls. Assumes nothing.
-use mathlib.Core.Path.{_≡_, refl, sym, ap, _∙_}
+use mathlib.Core.Path.{_≡_, sym, ap, _∙_}
 use mathlib.Core.List.{List, [], _∷_}
-use Prim.Native.Nat.{ℕ, zero, suc, _+_, _-_, _*_}
+use Prim.Native.Nat.{ℕ, _+_, _-_, _*_}
 use native.Mathlib.Nat.{add-comm, add-sub-cancel-left}
 use native.Mathlib.Omega.{arith}
 use denote.Ref.{RefT}
 use lib.Ieee.{Float}
 use lib.ListN.{length, take, drop, getD}
 use Rattle.lists.specs.Totals.{total}
+use Rattle.lists.specs.Answers.{given}
+use Rattle.lists.proofs.Answers.{given-none, refused-is}
 use Rattle.spool.specs.Place.{numberOf}
 use Rattle.spool.specs.Excerpt.{startOf, countOf, excerptOf}
 use Rattle.spool.specs.Refusal.{excerptRefusal}
-use Rattle.spool.specs.Promise.{given, spanValues, Says, SpanSays, ExcerptSays}
+use Rattle.spool.specs.Promise.{spanned, SpanSays, ExcerptSays}
 use Rattle.spool.specs.declared.Span.{Span}
 use Rattle.spool.specs.declared.Span.the-variants.{Numbers, Refused}
 use Rattle.spool.proofs.Spans.{span-none, span-first, span-part}
-
-pub refused : (k refusal : ℕ) (whole : List ℕ) → refusal ≡ suc k → Says (suc k) [] refusal whole
-refused k refusal whole e = rw e (record { numbered = refl; valued = refl })
-
-pub granted : (values whole : List ℕ) (refusal : ℕ) → refusal ≡ 0 → values ≡ whole → Says 0 values refusal whole
-granted values whole refusal e q = rw e (record { numbered = refl; valued = q })
 
 -- a state's first number and its count, from the frames summed before it
 pub span-values : (ds : List ℕ) (v state at first width start count : ℕ)
     → at ≡ state → first ≡ total (take at ds) → width ≡ v → start ≡ numberOf first 0 width → count ≡ getD ds at 0 * width
     → start ∷ count ∷ [] ≡ startOf ds v state ∷ countOf ds v state ∷ []
 span-values ds v state at first width start count s f w p q = rw (p, q, f, w, s)
-
--- a call that gives no values is refused
-none-given : (k x : ℕ) (xs : List ℕ) → [] ≡ given k (x ∷ xs) [] → {A : Type 0} (y z : A) → given k y z ≡ z
-none-given zero x xs e y z = let n : _≡_ {A = ℕ} 0 1 = cc in absurd (omega arith)
-none-given (suc k) x xs e y z = refl
 
 -- the part that `excerpt` cuts out, from what `excerpt_span` answers
 module _ (t : RefT (List Float)) (ds : List ℕ) (v state : ℕ) (r : Span) (says : SpanSays (t .now) ds v state r) where
@@ -47,7 +38,7 @@ module _ (t : RefT (List Float)) (ds : List ℕ) (v state : ℕ) (r : Span) (say
   -- and the empty one
   module _ (k : ℕ) (e : r ≡ Refused k) where
     none : {A : Type 0} (y z : A) → given (excerptRefusal (length (t .now)) ds v state) y z ≡ z
-    none = none-given (excerptRefusal (length (t .now)) ds v state) (startOf ds v state) (countOf ds v state ∷ []) (sym (ap spanValues e) ∙ says .valued)
+    none y z = given-none _ y z (refused-is k _ _ _ (sym (ap spanned e) ∙ says) .1)
 
     pub empty-says : (q : RefT (List Float)) → q .now ≡ [] → q .ptr ≡ t .ptr → ExcerptSays t ds v state q
     empty-says q n p =

@@ -11,14 +11,15 @@ use Rattle.lists.specs.Totals.{total}
 use Rattle.spool.specs.Refusal.{outside, trajectoryRefusal}
 use Rattle.spool.proofs.Refusals.{in-range, many-3, width-3, disagree-4, long-5, accepted-0, excerpt-refused, excerpt-10, excerpt-0}
 use Rattle.spool.proofs.Sums.{total-split, product-fits}
-use Rattle.spool.proofs.Ways.{refused, granted, span-values}
+use Rattle.lists.proofs.Answers.{refused-as, accepted}
+use Rattle.spool.proofs.Ways.{span-values}
 use Rattle.spool.proofs.excerpt_span.Statement.{statement}
 use Rattle.spool.proofs.excerpt_span.Tie as tie
 
 returns : tie.Need-returns
 returns c =
     let a = c .before .before .before .args in
-    refused 2 _ _ (excerpt-refused _ _ _ (a .state) 2 (many-3 (length (a .trajectory .now)) (a .durations .now) (a .v) (c .if1 .taken)))
+    refused-as 2 _ _ (excerpt-refused _ _ _ (a .state) 2 (many-3 (length (a .trajectory .now)) (a .durations .now) (a .v) (c .if1 .taken)))
 
 out-of-range-requires : tie.Need-out-of-range-requires
 out-of-range-requires c κs = search needs
@@ -26,7 +27,7 @@ out-of-range-requires c κs = search needs
 returns-2 : tie.Need-returns-2
 returns-2 c =
     let a = c .before .before .before .before .before .args in
-    refused 2 _ _
+    refused-as 2 _ _
     (excerpt-refused _ _ _ (a .state) 2
     (width-3 (length (a .trajectory .now)) (a .durations .now) (a .v) (c .before .before .if1 .left) (sym (c .before .out-of-range .ensures) ∙ c .if2 .taken)))
 
@@ -99,12 +100,12 @@ mul-if3 c =
 returns-3 : tie.Need-returns-3
 returns-3 c =
     let b = c .before in
-    refused 3 _ _ (excerpt-refused (count b) (ds b) (v b) (state b) 3 (disagree-4 (count b) (ds b) (v b) (few b) (width b) (λ e. c .if3 .taken (e ∙ sym (numbers b)))))
+    refused-as 3 _ _ (excerpt-refused (count b) (ds b) (v b) (state b) 3 (disagree-4 (count b) (ds b) (v b) (few b) (width b) (λ e. c .if3 .taken (e ∙ sym (numbers b)))))
 
 returns-4 : tie.Need-returns-4
 returns-4 c =
     let b = c .before .before in
-    refused 4 _ _
+    refused-as 4 _ _
     (excerpt-refused (count b) (ds b) (v b) (state b) 4
     (long-5 (count b) (ds b) (v b) (few b) (width b) (c .before .if3 .left ∙ numbers b) (omega (arith, frames b, c .if4 .taken))))
 
@@ -119,7 +120,7 @@ module _ (c : tie.Else4) where
 returns-5 : tie.Need-returns-5
 returns-5 c =
     let b = c .before .before .before in
-    refused 9 _ _ (excerpt-10 (count b) (ds b) (v b) (state b) (none (c .before)) (omega (arith, b .before .before .before .before .before .least .ensures, c .if5 .taken)))
+    refused-as 9 _ _ (excerpt-10 (count b) (ds b) (v b) (state b) (none (c .before)) (omega (arith, b .before .before .before .before .before .least .ensures, c .if5 .taken)))
 
 number-of-requires : tie.Need-number-of-requires
 number-of-requires c κs =
@@ -147,7 +148,7 @@ returns-6 c =
     let d = c .before .before .before in
     let b = d .before .before .before in
     let at = b .before .before .before .before .before .least in
-    granted _ _ _
+    accepted _ _ _
     (excerpt-0 (count b) (ds b) (v b) (state b) (none (d .before)) (omega (arith, at .ensures, d .if5 .left)))
     (span-values (ds b) (v b) (state b) (at .result) (b .before .before .before .frames-of .result) (b .wide .result) (c .before .before .number-of .result) (c .wide2 .result * b .wide .result)
     (omega (arith, at .ensures, d .if5 .left))

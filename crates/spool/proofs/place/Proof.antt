@@ -8,7 +8,7 @@ use Rattle.spool.specs.Place.{placeOf}
 use Rattle.spool.specs.Refusal.{outside}
 use Rattle.spool.proofs.Refusals.{in-range, place-3, place-10, place-0}
 use Rattle.spool.proofs.Places.{place-most}
-use Rattle.spool.proofs.Ways.{refused, granted}
+use Rattle.lists.proofs.Answers.{refused-as, accepted}
 use Rattle.spool.proofs.place.Statement.{statement}
 use Rattle.spool.proofs.place.Tie as tie
 
@@ -18,12 +18,12 @@ out-of-range-requires c κs = search needs
 returns : tie.Need-returns
 returns c =
     let a = c .before .before .args in
-    refused 2 _ _ (place-3 (a .component) (a .v) (sym (c .before .out-of-range .ensures) ∙ c .if1 .taken))
+    refused-as 2 _ _ (place-3 (a .component) (a .v) (sym (c .before .out-of-range .ensures) ∙ c .if1 .taken))
 
 returns-2 : tie.Need-returns-2
 returns-2 c =
     let a = c .before .before .before .args in
-    refused 9 _ _ (place-10 (a .component) (a .v) (sym (c .before .before .out-of-range .ensures) ∙ c .before .if1 .left) (c .if2 .taken))
+    refused-as 9 _ _ (place-10 (a .component) (a .v) (sym (c .before .before .out-of-range .ensures) ∙ c .before .if1 .left) (c .if2 .taken))
 
 wide-requires : tie.Need-wide-requires
 wide-requires c κs = search needs
@@ -56,7 +56,7 @@ returns-3 : tie.Need-returns-3
 returns-3 c =
     let b = c .before in
     let a = b .before .before .before .before .before .before .args in
-    granted _ _ _ (place-0 (a .component) (a .v) (width b) (b .before .before .before .if2 .left))
+    accepted _ _ _ (place-0 (a .component) (a .v) (width b) (b .before .before .before .if2 .left))
     (rw (c .number-of .ensures, b .before .before .wide .ensures, b .before .wide2 .ensures, b .wide3 .ensures))
 
 pub place-spec : {M : Type 1} → statement M

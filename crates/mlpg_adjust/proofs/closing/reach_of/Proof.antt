@@ -1,13 +1,13 @@
 -- `mlpg_adjust::closing::reach_of` meets its contract. Assumes nothing.
 use mathlib.Core.Path.{refl, ap, _∙_}
-use borrow.Author.Tests.{eq-eqb, ne-eqb}
+use borrow.Author.Tests.{ne-eqb}
 use Rattle.model.specs.Windows.{leftWidth, rightWidth}
 use borrow.Author.Needs.{needs}
 use Rattle.mlpg_adjust.proofs.closing.reach_of.Statement.{statement}
 use Rattle.mlpg_adjust.proofs.closing.reach_of.Tie as tie
 
 returns : tie.Need-returns
-returns c = rw (eq-eqb _ _ (c .if1 .taken)) (refl, refl)
+returns c = rw (c .if1 .taken) (refl, refl)
 
 mul-wide : tie.Need-mul-wide
 mul-wide c = search needs

@@ -1,77 +1,74 @@
--- `mlpg_adjust::group::close_up_group` meets its contract: l components have their pairs. Assumes nothing.
-use mathlib.Core.Path.{_≡_, refl, sym}
-use Prim.Native.Nat.{_+_, _-_, _*_, _≤_}
-use native.Mathlib.Nat.{suc-mul, zero-mul, add-sub-cancel-left}
-use native.Mathlib.Numerals.{add-one}
+-- `mlpg_adjust::group::close_up_group` meets its contract: the pairs of s states are closed up. Assumes nothing.
+use mathlib.Core.Path.{sym, _∙_}
+use Prim.Native.Nat.{_-_}
 use native.Mathlib.Omega.{arith}
-use borrow.Rule.Slice.PartMut.{mid-len}
 use lib.ListN.{length}
-use Rattle.mlpg_adjust.specs.TrajectoryInner.{Paired}
-use Rattle.mlpg_adjust.proofs.Lanes.{Stepped, stepped-none, stepped-lent, region-fits}
+use Rattle.lists.proofs.Rows.{row-fits}
+use Rattle.mlpg_adjust.proofs.MaskClosing.{counted-fits}
+use Rattle.mlpg_adjust.proofs.MaskGroups.{Gathering, gathering, gathering-fits, gathering-off, gathering-state, gathering-on, gathered}
 use borrow.Author.Needs.{needs}
 use Rattle.mlpg_adjust.proofs.group.close_up_group.Statement.{statement}
 use Rattle.mlpg_adjust.proofs.group.close_up_group.Tie as tie
 
 abbrev Inv-loop : tie.InvT-loop
-Inv-loop records u g widths durations left right work₀ size first lanes l₀ o₀ work l o =
-    (l ≤ lanes) × (o ≡ l * size) × Stepped (λ j b e. Paired (u .size) records (u .threshold) durations (g .v) widths (first + j) (g .places) e) size lanes l work₀ work
+Inv-loop records u g widths durations left right work₀ first lanes s₀ f₀ k₀ work s f k = Gathering u g widths records durations first lanes work₀ work s f k
 
 abbrev μ-loop : tie.MeasureT-loop
-μ-loop records u g widths durations left right work₀ size first lanes l₀ o₀ work l o = lanes - l
-
-module _ (c : tie.In-loop Inv-loop μ-loop) where
-  room : c .before .before .before .before .before .before .before .before .args .group .lanes * c .before .before .before .before .before .before .before .before .args .g .size ≤ length (c .before .loop .work)
-  room = omega (arith, c .before .before .before .before .before .before .before .before .pre .3, c .before .loop .inv .2 .long)
-
-  -- the region lies within the list
-  fits : c .before .loop .o + c .before .before .before .before .before .before .before .before .args .g .size ≤ length (c .before .loop .work)
-  fits = let s = c .before .before .before .before .before .before .before .before .args in omega (arith, c .before .loop .inv .1, region-fits (s .g .size) (s .group .lanes) (c .before .loop .l) (c .before .loop .work) (c .loop-test .taken) room)
+μ-loop records u g widths durations left right work₀ first lanes s₀ f₀ k₀ work s f k = length durations - s
 
 loop-holds : tie.Need-loop-holds Inv-loop μ-loop
-loop-holds c = (search needs, sym (zero-mul _), stepped-none _ _ _ _)
+loop-holds c = gathering _ _ _ _ _ _ _ _
 
-add-e : tie.Need-add-e Inv-loop μ-loop
-add-e c = omega (arith, c .before .before .before .before .before .before .before .before .good, c .before .loop .inv .2 .long, fits c)
+mul-wide : tie.Need-mul-wide Inv-loop μ-loop
+mul-wide c = search needs
 
-add-close-up-pairs : tie.Need-add-close-up-pairs Inv-loop μ-loop
-add-close-up-pairs c = omega (arith, c .before .before .before .before .before .before .before .before .pre .2, c .before .before .before .before .before .before .before .before .pre .0 .framed .most-v, c .loop-test .taken)
+shared-slice-read-wide : tie.Need-shared-slice-read-wide Inv-loop μ-loop
+shared-slice-read-wide c = search needs
 
-mul-close-up-pairs : tie.Need-mul-close-up-pairs Inv-loop μ-loop
-mul-close-up-pairs c = omega (arith, c .before .before .before .before .before .before .before .before .good, c .before .loop .inv .2 .long, fits c)
+wide-requires : tie.Need-wide-requires Inv-loop μ-loop
+wide-requires c κs = search needs
 
-sub-close-up-pairs : tie.Need-sub-close-up-pairs Inv-loop μ-loop
-sub-close-up-pairs c = search needs
+voiced-at-requires : tie.Need-voiced-at-requires Inv-loop μ-loop
+voiced-at-requires c κs =
+    let s = c .before .before .before .before .before .before .before .before .before .before in omega (arith, s .pre .0 .framed .recorded, row-fits (s .args .u .size) (c .before .before .before .loop .s) (length (s .args .durations .now)) (c .before .before .loop-test .taken))
 
-part-close-up-pairs-start : tie.Need-part-close-up-pairs-start Inv-loop μ-loop
-part-close-up-pairs-start c = search needs
+close-state-requires : tie.Need-close-state-requires Inv-loop μ-loop
+close-state-requires c κs = gathering-state _ _ _ _ _ _ _ _ _ _ _ _ (c .before .before .before .before .before .before .loop .inv) (c .before .before .before .before .before .loop-test .taken) _ _ (c .before .before .before .before .before .before .before .before .before .before .before .before .before .pre .0) (c .before .before .before .before .before .before .before .before .before .before .before .before .before .pre .1) (c .before .before .before .before .before .before .before .before .before .before .before .before .before .pre .2) (c .before .before .before .before .before .before .before .before .before .before .before .before .before .pre .3) _ (c .before .before .before .wide .ensures) (sym (c .before .before .voiced-at .ensures) ∙ c .before .if1 .taken)
 
-part-close-up-pairs-end : tie.Need-part-close-up-pairs-end Inv-loop μ-loop
-part-close-up-pairs-end c = fits c
+add-k : tie.Need-add-k Inv-loop μ-loop
+add-k c =
+    let s = c .before .before .before .before .before .before .before .before .before .before .before .before .before .before .before .before in
+    omega (arith, s .pre .0 .framed .frames, c .before .before .before .before .before .before .wide .ensures, counted-fits (s .args .u) (s .args .records .now) (s .args .durations .now) _ _ (c .before .before .before .before .before .before .before .before .before .loop .inv .voiced) (c .before .before .before .before .before .before .before .before .loop-test .taken) (sym (c .before .before .before .before .before .voiced-at .ensures) ∙ c .before .before .before .before .if1 .taken))
 
-close-up-pairs-requires : tie.Need-close-up-pairs-requires Inv-loop μ-loop
-close-up-pairs-requires c κs =
-    let s = c .before .before .before .before .before .before .before .before .before in
-    let o = c .before .before .loop .o in
-    (s .pre .0, s .pre .1, omega (arith, s .pre .2, c .before .loop-test .taken), rw (mid-len o (o + s .args .g .size) (c .before .before .loop .work) (fits (c .before)), add-sub-cancel-left o (s .args .g .size)) refl)
+add-f : tie.Need-add-f Inv-loop μ-loop
+add-f c = omega (arith, c .before .before .before .before .before .before .before .before .before .before .before .before .before .before .before .before .pre .0 .framed .frames, c .before .before .before .before .before .before .wide .ensures, gathering-fits _ _ _ _ _ _ _ _ _ _ _ _ (c .before .before .before .before .before .before .before .before .before .loop .inv) (c .before .before .before .before .before .before .before .before .loop-test .taken))
 
-add-l : tie.Need-add-l Inv-loop μ-loop
-add-l c = search needs
+add-s : tie.Need-add-s Inv-loop μ-loop
+add-s c = omega (arith, c .before .before .before .before .before .before .before .before .loop-test .taken, c .before .before .before .before .before .before .before .before .before .before .before .before .before .before .before .before .good)
 
 loop-less : tie.Need-loop-less Inv-loop μ-loop
 loop-less c = search needs
 
 loop-again : tie.Need-loop-again Inv-loop μ-loop
-loop-again c =
-    let s = c .before .before .before .before .before .before .before .before .before .before .before .before .args in
-    let l = c .before .before .before .before .before .loop in
-    let t = c .before .before .before .before .loop-test .taken in
-    (search needs, rw (add-one, suc-mul) (omega (arith, l .inv .1)), stepped-lent _ (s .g .size) (s .group .lanes) (s .work .now) (l .l) (l .o) (l .work) (c .before .before .close-up-pairs .last .1 .1 .1 .1 .1 .1 .1 .1 .0) t (room (c .before .before .before .before)) (l .inv .2) (l .inv .1) (c .before .before .close-up-pairs .kept .1 .1 .1 .1 .1 .1 .1 .1 .0) (c .before .before .close-up-pairs .ensures))
+loop-again c = gathering-on _ _ _ _ _ _ _ _ _ _ _ _ (c .before .before .before .before .before .before .before .before .before .loop .inv) (c .before .before .before .before .before .before .before .before .loop-test .taken) _ _ (c .before .before .before .before .before .before .before .before .before .before .before .before .before .before .before .before .pre .0) (c .before .before .before .before .before .before .before .before .before .before .before .before .before .before .before .before .pre .1) (c .before .before .before .before .before .before .before .before .before .before .before .before .before .before .before .before .pre .2) (c .before .before .before .before .before .before .before .before .before .before .before .before .before .before .before .before .pre .3) _ (c .before .before .before .before .before .before .wide .ensures) (sym (c .before .before .before .before .before .voiced-at .ensures) ∙ c .before .before .before .before .if1 .taken) _ (c .before .before .close-state .kept .1 .1 .1 .1 .1 .1 .1 .1 .1 .1 .1 .1 .0) (c .before .before .close-state .ensures)
+
+add-f-2 : tie.Need-add-f-2 Inv-loop μ-loop
+add-f-2 c = omega (arith, c .before .before .before .before .before .before .before .before .before .before .before .before .pre .0 .framed .frames, c .before .before .wide .ensures, gathering-fits _ _ _ _ _ _ _ _ _ _ _ _ (c .before .before .before .before .before .loop .inv) (c .before .before .before .before .loop-test .taken))
+
+add-s-2 : tie.Need-add-s-2 Inv-loop μ-loop
+add-s-2 c = search needs
+
+loop-less-2 : tie.Need-loop-less-2 Inv-loop μ-loop
+loop-less-2 c = search needs
+
+loop-again-2 : tie.Need-loop-again-2 Inv-loop μ-loop
+loop-again-2 c = gathering-off _ _ _ _ _ _ _ _ _ _ _ _ (c .before .before .before .before .before .loop .inv) (c .before .before .before .before .loop-test .taken) _ (c .before .before .wide .ensures) (sym (c .before .voiced-at .ensures) ∙ c .if1 .left)
 
 same-length : tie.Need-same-length Inv-loop μ-loop
-same-length c = c .before .loop .inv .2 .long
+same-length c = c .before .loop .inv .long
 
 returns : tie.Need-returns Inv-loop μ-loop
-returns c = λ j h. c .before .loop .inv .2 .done j (omega arith)
+returns c = gathered _ _ _ _ _ _ _ _ _ _ _ _ (c .before .loop .inv) (c .loop-test .left) (c .before .before .before .before .before .before .before .before .pre .0 .framed .voiced)
 
 pub close-up-group-spec : {M : Type 1} → statement M
 close-up-group-spec =
@@ -80,15 +77,19 @@ close-up-group-spec =
     Inv-loop
     μ-loop
     loop-holds
-    add-e
-    add-close-up-pairs
-    mul-close-up-pairs
-    sub-close-up-pairs
-    part-close-up-pairs-start
-    part-close-up-pairs-end
-    close-up-pairs-requires
-    add-l
+    mul-wide
+    shared-slice-read-wide
+    wide-requires
+    voiced-at-requires
+    close-state-requires
+    add-k
+    add-f
+    add-s
     loop-less
     loop-again
+    add-f-2
+    add-s-2
+    loop-less-2
+    loop-again-2
     same-length
     returns)

@@ -1,101 +1,140 @@
--- `mlpg_adjust::gv::gradient_of_three` meets its contract: both entries to each side are there. Assumes nothing.
-use Prim.Native.Nat.{_+_}
-use native.Mathlib.Omega.{arith}
-use borrow.Author.Tests.{lt-ltb, le-leb}
-use lib.ListN.{length}
-use Rattle.mlpg_adjust.specs.Sums.{over}
-use Rattle.mlpg_adjust.specs.Gv.{ahead, behind, gradientAt}
+-- `mlpg_adjust::gv::gradient_of_three` meets its contract. Assumes nothing.
+use Rattle.mlpg_adjust.proofs.Three.{three-gradient}
 use borrow.Author.Needs.{needs}
 use Rattle.mlpg_adjust.proofs.gv.gradient_of_three.Statement.{statement}
 use Rattle.mlpg_adjust.proofs.gv.gradient_of_three.Tie as tie
 
-at-requires : tie.Need-at-requires
-at-requires c κs = search needs
+mul-q : tie.Need-mul-q
+mul-q c = search needs
 
-el-requires : tie.Need-el-requires
-el-requires c κs = search needs
+add-q : tie.Need-add-q
+add-q c = search needs
 
-at-requires-2 : tie.Need-at-requires-2
-at-requires-2 c κs = search needs
+add-v : tie.Need-add-v
+add-v c = search needs
 
-add-el : tie.Need-add-el
-add-el c = search needs
+mul-result : tie.Need-mul-result
+mul-result c = search needs
 
-el-requires-2 : tie.Need-el-requires-2
-el-requires-2 c κs = search needs
+shared-slice-read-result : tie.Need-shared-slice-read-result
+shared-slice-read-result c = search needs
 
-sub-at : tie.Need-sub-at
-sub-at c = search needs
+mul-result-2 : tie.Need-mul-result-2
+mul-result-2 c = search needs
 
-at-requires-3 : tie.Need-at-requires-3
-at-requires-3 c κs = search needs
+shared-slice-read-result-2 : tie.Need-shared-slice-read-result-2
+shared-slice-read-result-2 c = search needs
 
-sub-el : tie.Need-sub-el
-sub-el c = search needs
+add-result : tie.Need-add-result
+add-result c = search needs
 
-el-requires-3 : tie.Need-el-requires-3
-el-requires-3 c κs = search needs
+mul-result-3 : tie.Need-mul-result-3
+mul-result-3 c = search needs
 
-at-requires-4 : tie.Need-at-requires-4
-at-requires-4 c κs = search needs
+shared-slice-read-result-3 : tie.Need-shared-slice-read-result-3
+shared-slice-read-result-3 c = search needs
 
-add-el-2 : tie.Need-add-el-2
-add-el-2 c = search needs
+add-result-2 : tie.Need-add-result-2
+add-result-2 c = search needs
 
-el-requires-4 : tie.Need-el-requires-4
-el-requires-4 c κs = search needs
+mul-result-4 : tie.Need-mul-result-4
+mul-result-4 c = search needs
 
-sub-at-2 : tie.Need-sub-at-2
-sub-at-2 c = search needs
+shared-slice-read-result-4 : tie.Need-shared-slice-read-result-4
+shared-slice-read-result-4 c = search needs
 
-at-requires-5 : tie.Need-at-requires-5
-at-requires-5 c κs = search needs
+sub-result : tie.Need-sub-result
+sub-result c = search needs
 
-sub-el-2 : tie.Need-sub-el-2
-sub-el-2 c = search needs
+mul-result-5 : tie.Need-mul-result-5
+mul-result-5 c = search needs
 
-el-requires-5 : tie.Need-el-requires-5
-el-requires-5 c κs = search needs
+shared-slice-read-result-5 : tie.Need-shared-slice-read-result-5
+shared-slice-read-result-5 c = search needs
+
+sub-result-2 : tie.Need-sub-result-2
+sub-result-2 c = search needs
+
+mul-result-6 : tie.Need-mul-result-6
+mul-result-6 c = search needs
+
+shared-slice-read-result-6 : tie.Need-shared-slice-read-result-6
+shared-slice-read-result-6 c = search needs
+
+add-result-3 : tie.Need-add-result-3
+add-result-3 c = search needs
+
+mul-result-7 : tie.Need-mul-result-7
+mul-result-7 c = search needs
+
+shared-slice-read-result-7 : tie.Need-shared-slice-read-result-7
+shared-slice-read-result-7 c = search needs
+
+add-result-4 : tie.Need-add-result-4
+add-result-4 c = search needs
+
+mul-result-8 : tie.Need-mul-result-8
+mul-result-8 c = search needs
+
+shared-slice-read-result-8 : tie.Need-shared-slice-read-result-8
+shared-slice-read-result-8 c = search needs
+
+sub-result-3 : tie.Need-sub-result-3
+sub-result-3 c = search needs
+
+mul-result-9 : tie.Need-mul-result-9
+mul-result-9 c = search needs
+
+shared-slice-read-result-9 : tie.Need-shared-slice-read-result-9
+shared-slice-read-result-9 c = search needs
+
+sub-result-4 : tie.Need-sub-result-4
+sub-result-4 c = search needs
+
+mul-result-10 : tie.Need-mul-result-10
+mul-result-10 c = search needs
+
+shared-slice-read-result-10 : tie.Need-shared-slice-read-result-10
+shared-slice-read-result-10 c = search needs
 
 returns : tie.Need-returns
-unfolding gradientAt over ahead behind
 returns c = let s = c .before .before .before .before .before .before .before .before .before .before .before .before .args in
-    let n = length (s .par .now) in
-    rw (
-      c .before .before .before .before .before .before .before .before .before .at .ensures,
-      c .before .before .before .before .before .before .before .before .el .ensures,
-      c .before .before .before .before .before .before .before .at2 .ensures,
-      c .before .before .before .before .before .before .el2 .ensures,
-      c .before .before .before .before .before .at3 .ensures,
-      c .before .before .before .before .el3 .ensures,
-      c .before .before .before .at4 .ensures,
-      c .before .before .el4 .ensures,
-      c .before .at5 .ensures,
-      c .el5 .ensures,
-      lt-ltb (s .t + 1) n (omega arith),
-      le-leb 1 (s .t) (omega arith),
-      lt-ltb (s .t + 2) n (omega arith),
-      le-leb 2 (s .t) (omega arith),
-    )
+    let q = c .before .before .before .before .before .before .before .before .before .before .before .before .pre in
+    three-gradient (s .m .now) (s .p .rows) (s .p .values) (s .n) (s .t) (q .0) (q .1) (q .2 .room)
 
 pub gradient-of-three-spec : {M : Type 1} → statement M
 gradient-of-three-spec =
     tie.close
     (tie.spec
-    at-requires
-    el-requires
-    at-requires-2
-    add-el
-    el-requires-2
-    sub-at
-    at-requires-3
-    sub-el
-    el-requires-3
-    at-requires-4
-    add-el-2
-    el-requires-4
-    sub-at-2
-    at-requires-5
-    sub-el-2
-    el-requires-5
+    mul-q
+    add-q
+    add-v
+    mul-result
+    shared-slice-read-result
+    mul-result-2
+    shared-slice-read-result-2
+    add-result
+    mul-result-3
+    shared-slice-read-result-3
+    add-result-2
+    mul-result-4
+    shared-slice-read-result-4
+    sub-result
+    mul-result-5
+    shared-slice-read-result-5
+    sub-result-2
+    mul-result-6
+    shared-slice-read-result-6
+    add-result-3
+    mul-result-7
+    shared-slice-read-result-7
+    add-result-4
+    mul-result-8
+    shared-slice-read-result-8
+    sub-result-3
+    mul-result-9
+    shared-slice-read-result-9
+    sub-result-4
+    mul-result-10
+    shared-slice-read-result-10
     returns)

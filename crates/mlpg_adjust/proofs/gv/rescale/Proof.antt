@@ -14,7 +14,7 @@ use Rattle.mlpg_adjust.specs.Rows.{nought}
 use Rattle.mlpg_adjust.specs.Gv.{sumOf, convAt}
 use Rattle.mlpg_adjust.specs.GvInner.{joinedAt}
 use Rattle.mlpg_adjust.proofs.Orders.{over-step}
-use Rattle.mlpg_adjust.proofs.Builds.{build-at}
+use Rattle.lists.proofs.Builds.{build-at}
 use Rattle.mlpg_adjust.proofs.Switches.{join-all}
 use borrow.Author.Needs.{needs}
 use Rattle.mlpg_adjust.proofs.gv.rescale.Statement.{statement}

@@ -1,12 +1,12 @@
 -- `mlpg_adjust::passes::add_column` meets its contract. Assumes nothing.
-use mathlib.Core.Path.{_≡_, refl, sym, _∙_}
-use Prim.Native.Nat.{_+_, _-_, _*_, _/_, _<_, _≤_, min}
+use mathlib.Core.Path.{_≡_, refl, sym, ap, _∙_}
+use Prim.Native.Nat.{ℕ, _+_, _-_, _*_, _/_, _<_, _≤_, min}
 use native.Mathlib.Omega.{arith}
 use lib.ListN.{length}
 use lib.Ieee.{nan}
 use Rattle.mlpg_adjust.specs.Rows.{nought}
 use Rattle.mlpg_adjust.proofs.Terms.{same-at}
-use Rattle.mlpg_adjust.proofs.Taps.{zero-column, less-min, frames-end, column-starts, column-ends, row-narrow, column-idle, column-none, column-done}
+use Rattle.mlpg_adjust.proofs.Taps.{zero-column, less-min, below, late, earlier, frames-end, column-starts, column-ends, row-narrow, column-idle, column-none, column-done}
 use borrow.Author.Needs.{needs}
 use Rattle.mlpg_adjust.proofs.passes.add_column.Statement.{statement}
 use Rattle.mlpg_adjust.proofs.passes.add_column.Tie as tie
@@ -20,8 +20,8 @@ el-requires c κs = search needs
 returns : tie.Need-returns
 returns c = let s = c .before .before .before .before in
     let z = same-at (s .args .taps .now) (s .args .k + s .args .j) nought nan (s .pre .0) ∙ sym (c .before .el .ensures) in
-    column-idle (s .args .p) (s .args .n) (s .args .w) (s .args .taps .now) (s .args .k) (s .args .u) (s .args .m .now) (omega (arith, s .pre .0)) (s .pre .2) (s .pre .3) (s .pre .4) (s .args .j) _ (s .pre .0) (s .pre .1) refl
-    (λ t y h. zero-column (s .args .taps .now) _ _ (s .args .n) (s .args .k) (omega (arith, s .pre .0)) t y h (s .args .j) (rw z (c .if1 .taken)))
+    column-idle (s .args .p) (s .args .n) (s .args .w) (s .args .block) (s .args .taps .now) (s .args .k) (s .args .u) (s .args .m .now) (omega (arith, s .pre .0)) (s .pre .2) (s .pre .3) (s .pre .4) _ refl (s .args .j) _ _ (s .pre .0) (s .pre .1) refl refl
+    (λ t y h a b. zero-column (s .args .taps .now) _ _ (s .args .n) (s .args .k) (omega (arith, s .pre .0)) t y h (s .args .j) (rw z (c .if1 .taken)))
 
 rows-of-requires : tie.Need-rows-of-requires
 rows-of-requires c κs = search needs
@@ -35,42 +35,78 @@ sub-least c = search needs
 least-requires-2 : tie.Need-least-requires-2
 least-requires-2 c κs = search needs
 
--- where the pass ends
-ends : (c : tie.After-least2) → c .least2 .result ≡ min (c .before .before .before .before .before .before .before .args .n - (length (c .before .before .before .before .before .before .before .args .taps .now) / 2 - c .before .before .before .before .before .before .before .args .k)) (c .before .before .before .before .before .before .before .args .n - c .before .before .before .before .before .before .before .args .j)
-ends c = c .least2 .ensures ∙ rw (c .before .before .rows-of .ensures .1, c .before .least .ensures, less-min)
+-- where the pass starts and ends
+module _ (c : tie.After-least2) where
+  abbrev here : tie.Start
+  here = c .before .before .before .before .before .before .before
+
+  abbrev half : ℕ
+  half = length (here .args .taps .now) / 2
+
+  abbrev from : ℕ
+  from = c .before .before .rows-of .result .from
+
+  abbrev to : ℕ
+  to = c .least2 .result
+
+  starts : here .args .k - half ≤ from
+  starts = late (here .args .block .from) (here .args .k - half) from (c .before .before .rows-of .ensures .0)
+
+  end : to ≡ min (c .before .before .rows-of .result .to) (here .args .n - here .args .j)
+  end = c .least2 .ensures ∙ ap (min (c .before .before .rows-of .result .to)) (ap (λ (x : ℕ). here .args .n - x) (c .before .least .ensures) ∙ less-min (here .args .n) (here .args .j))
+
+  ends : to ≤ here .args .n - (half - here .args .k)
+  ends = earlier (here .args .block .to) (here .args .n - (half - here .args .k)) (here .args .n - here .args .j) (c .before .before .rows-of .result .to) to (c .before .before .rows-of .ensures .1) end
+
+  j-in : here .args .j < here .args .w
+  j-in = omega (arith, here .pre .0, here .pre .1)
+
+  room : here .args .p .rows + here .args .n * here .args .w ≤ length (here .args .m .now)
+  room = omega (arith, here .pre .4 .right-at, here .pre .4 .factors-at, here .pre .4 .values-at, here .pre .4 .room)
+
+  within-n : to ≤ here .args .n
+  within-n = below (here .args .n) (half - here .args .k) to ends
+
+  module _ (l : from < to) where
+    -- the column lies within the rows, and its frames within the window's
+    column-at : here .args .p .rows + (from * here .args .w + here .args .j) < length (here .args .m .now)
+    column-at = column-starts (here .args .p .rows) from to (here .args .n) (here .args .w) (here .args .j) (length (here .args .m .now)) l within-n j-in room
+
+    frames : from + half - here .args .k + (to - from) ≤ here .args .n
+    frames = frames-end (here .args .n) half (here .args .k) from to starts ends l
+
+    asked : (0 < here .args .w) × (here .args .w ≤ length (here .args .m .now)) × (here .args .u + (from + half - here .args .k) + (to - from) ≤ here .args .p .rows + (from * here .args .w + here .args .j))
+        × (here .args .p .rows + (from * here .args .w + here .args .j) + (to - from) * here .args .w < length (here .args .m .now) + here .args .w)
+    asked = (
+      omega (arith, j-in),
+      row-narrow (here .args .p .rows) from to (here .args .n) (here .args .w) (here .args .j) (length (here .args .m .now)) l within-n j-in room,
+      omega (arith, here .pre .3, frames),
+      column-ends (here .args .p .rows) from to (here .args .n) (here .args .w) (here .args .j) (length (here .args .m .now)) l within-n j-in room,
+    )
 
 returns-2 : tie.Need-returns-2
 returns-2 c = let s = c .before .before .before .before .before .before .before .before in
-    column-none (s .args .p) (s .args .n) (s .args .w) (s .args .taps .now) (s .args .k) (s .args .u) (s .args .m .now) (omega (arith, s .pre .0)) (s .pre .2) (s .pre .3) (s .pre .4) (s .args .j) _ (s .pre .0) (s .pre .1) (ends (c .before)) (rw (c .before .before .before .rows-of .ensures .0) at (c .if2 .taken))
+    let r = c .before .before .before .rows-of in
+    column-none (s .args .p) (s .args .n) (s .args .w) (s .args .block) (s .args .taps .now) (s .args .k) (s .args .u) (s .args .m .now) (omega (arith, s .pre .0)) (s .pre .2) (s .pre .3) (s .pre .4) _ (r .ensures .0) (s .args .j) _ _ (s .pre .0) (s .pre .1) (r .ensures .1) (end (c .before)) (c .if2 .taken)
 
 add-f : tie.Need-add-f
-add-f c = search needs
+add-f c = omega (arith, within-n (c .before), c .if2 .left)
 
 sub-f : tie.Need-sub-f
-sub-f c = search needs
-
--- the column lies within the rows
-starts : (c : tie.After-add-scaled-arg) → c .before .before .before .before .before .before .before .before .before .args .p .rows + (c .before .before .before .before .rows-of .result .from * c .before .before .before .before .before .before .before .before .before .args .w + c .before .before .before .before .before .before .before .before .before .args .j) < length (c .before .before .before .before .before .before .before .before .before .args .m .now)
-starts c =
-    let s = c .before .before .before .before .before .before .before .before .before in
-    column-starts (s .args .p .rows) (c .before .before .before .before .rows-of .result .from) (c .before .before .least2 .result) (s .args .n) (s .args .w) (s .args .j) (length (s .args .m .now)) (c .before .if2 .left) (omega (arith, ends (c .before .before))) (omega (arith, s .pre .0, s .pre .1))
-    (omega (arith, s .pre .4 .right-at, s .pre .4 .factors-at, s .pre .4 .values-at, s .pre .4 .room))
+sub-f c = omega (arith, starts (c .before))
 
 mul-add-scaled : tie.Need-mul-add-scaled
-mul-add-scaled c = omega (arith, starts c)
+mul-add-scaled c = omega (arith, column-at (c .before .before) (c .before .if2 .left))
 
 add-add-scaled : tie.Need-add-add-scaled
-add-add-scaled c = omega (arith, starts c)
+add-add-scaled c = omega (arith, column-at (c .before .before) (c .before .if2 .left))
 
 add-add-scaled-2 : tie.Need-add-add-scaled-2
-add-add-scaled-2 c = omega (arith, starts (c .before))
+add-add-scaled-2 c = omega (arith, column-at (c .before .before .before) (c .before .before .if2 .left))
 
 add-add-scaled-3 : tie.Need-add-add-scaled-3
-add-add-scaled-3 c =
-    let s = c .before .before .before .before .before .before .before .before .before .before in
-    let r = c .before .before .before .before .before .rows-of in
-    let e = ends (c .before .before .before) in
-    omega (arith, starts (c .before), s .pre .3, frames-end (s .args .n) (length (s .args .taps .now) / 2) (s .args .k) (r .result .from) (c .before .before .before .least2 .result) (r .ensures .0) (omega (arith, e)) (c .before .before .if2 .left))
+add-add-scaled-3 c = let s = c .before .before .before .before .before .before .before .before .before .before in
+    omega (arith, column-at (c .before .before .before) (c .before .before .if2 .left), s .pre .3, frames (c .before .before .before) (c .before .before .if2 .left))
 
 sub-add-scaled : tie.Need-sub-add-scaled
 sub-add-scaled c = search needs
@@ -79,19 +115,7 @@ el-requires-2 : tie.Need-el-requires-2
 el-requires-2 c κs = search needs
 
 add-scaled-requires : tie.Need-add-scaled-requires
-add-scaled-requires c κs = let s = c .before .before .before .before .before .before .before .before .before .before .before in
-    let r = c .before .before .before .before .before .before .rows-of in
-    let to = c .before .before .before .before .least2 .result in
-    let l = c .before .before .before .if2 .left in
-    let e = ends (c .before .before .before .before) in
-    let most : to ≤ s .args .n - (length (s .args .taps .now) / 2 - s .args .k) = omega (arith, e) in
-    let j-in : s .args .j < s .args .w = omega (arith, s .pre .0, s .pre .1) in
-    let room : s .args .p .rows + s .args .n * s .args .w ≤ length (s .args .m .now) = omega (arith, s .pre .4 .right-at, s .pre .4 .factors-at, s .pre .4 .values-at, s .pre .4 .room) in (
-      omega (arith, j-in),
-      row-narrow (s .args .p .rows) (r .result .from) to (s .args .n) (s .args .w) (s .args .j) (length (s .args .m .now)) l (omega (arith, most)) j-in room,
-      omega (arith, s .pre .3, frames-end (s .args .n) (length (s .args .taps .now) / 2) (s .args .k) (r .result .from) to (r .ensures .0) most l),
-      column-ends (s .args .p .rows) (r .result .from) to (s .args .n) (s .args .w) (s .args .j) (length (s .args .m .now)) l (omega (arith, most)) j-in room,
-    )
+add-scaled-requires c κs = asked (c .before .before .before .before) (c .before .before .before .if2 .left)
 
 same-length : tie.Need-same-length
 same-length c = search needs
@@ -100,8 +124,8 @@ returns-3 : tie.Need-returns-3
 returns-3 c = let s = c .before .before .before .before .before .before .before .before .before .before .before .before .before .before in
     let r = c .before .before .before .before .before .before .before .before .before .rows-of in
     let dd = c .before .before .before .before .before .before .before .before .before .before .before .el .ensures in
-    column-done (s .args .p) (s .args .n) (s .args .w) (s .args .taps .now) (s .args .k) (s .args .u) (s .args .m .now) (omega (arith, s .pre .0)) (s .pre .2) (s .pre .3) (s .pre .4) (s .args .j) _ (s .pre .0) (s .pre .1) (ends (c .before .before .before .before .before .before .before)) (rw dd at (c .before .before .before .before .before .before .before .before .before .before .if1 .left)) _
-    (rw (r .ensures .0, dd, c .before .before .before .el2 .ensures) at (c .before .before .add-scaled .ensures))
+    column-done (s .args .p) (s .args .n) (s .args .w) (s .args .block) (s .args .taps .now) (s .args .k) (s .args .u) (s .args .m .now) (omega (arith, s .pre .0)) (s .pre .2) (s .pre .3) (s .pre .4) _ (r .ensures .0) (s .args .j) _ _ (s .pre .0) (s .pre .1) (r .ensures .1) (end (c .before .before .before .before .before .before .before)) (rw dd at (c .before .before .before .before .before .before .before .before .before .before .if1 .left)) _
+    (rw (dd, c .before .before .before .el2 .ensures) at (c .before .before .add-scaled .ensures))
 
 pub add-column-spec : {M : Type 1} → statement M
 add-column-spec =

@@ -14,17 +14,17 @@ use Rattle.mlpg_adjust.proofs.passes.add_columns.Statement.{statement}
 use Rattle.mlpg_adjust.proofs.passes.add_columns.Tie as tie
 
 abbrev Inv-loop : tie.InvT-loop
-Inv-loop m₀ taps k p u n w end j₀ m j =
-    (j ≤ end) × (end ≡ length taps - k) × (length m ≡ length m₀) × Moved p n w (λ t i y. cond (ltb i j) (tapEntry taps (part u n m₀) (part u n m₀) n k t i y) y) still m₀ m
+Inv-loop m₀ taps k p u n w block end j₀ m j =
+    (j ≤ end) × (end ≡ length taps - k) × (length m ≡ length m₀) × Moved p n w block (λ t i y. cond (ltb i j) (tapEntry taps (part u n m₀) (part u n m₀) n k t i y) y) still m₀ m
 
 abbrev μ-loop : tie.MeasureT-loop
-μ-loop m₀ taps k p u n w end j₀ m j = end - j
+μ-loop m₀ taps k p u n w block end j₀ m j = end - j
 
 sub-end : tie.Need-sub-end Inv-loop μ-loop
 sub-end c = search needs
 
 loop-holds : tie.Need-loop-holds Inv-loop μ-loop
-loop-holds c = let s = c .before .before in (search needs, refl, refl, columns-none (s .args .p) (s .args .n) (s .args .w) (s .args .taps .now) (s .args .u) (s .args .m .now) (s .pre .3) (omega (arith, s .pre .4 .right-at, s .pre .4 .factors-at, s .pre .4 .values-at, s .pre .4 .room)) (s .args .k) (s .pre .0))
+loop-holds c = let s = c .before .before in (search needs, refl, refl, columns-none (s .args .p) (s .args .n) (s .args .w) (s .args .block) (s .args .taps .now) (s .args .u) (s .args .m .now) (s .pre .3) (omega (arith, s .pre .4 .right-at, s .pre .4 .factors-at, s .pre .4 .values-at, s .pre .4 .room)) (s .args .k) (s .pre .0))
 
 add-column-requires : tie.Need-add-column-requires Inv-loop μ-loop
 add-column-requires c κs = let s = c .before .before .before .before .before in
@@ -39,13 +39,13 @@ loop-less c = search needs
 loop-again : tie.Need-loop-again Inv-loop μ-loop
 loop-again c = let s = c .before .before .before .before .before .before .before .before in
     let l = c .before .before .before .before .before .loop in
-    let k = columns-next (s .args .p) (s .args .n) (s .args .w) (s .args .taps .now) (s .args .u) (s .args .m .now) (s .pre .3) (omega (arith, s .pre .4 .right-at, s .pre .4 .factors-at, s .pre .4 .values-at, s .pre .4 .room)) (s .args .k) (s .pre .0) _ _ (l .j) (l .inv .3) (c .before .before .add-column .ensures) in (search needs, l .inv .1, k .long, k)
+    let k = columns-next (s .args .p) (s .args .n) (s .args .w) (s .args .block) (s .args .taps .now) (s .args .u) (s .args .m .now) (s .pre .3) (omega (arith, s .pre .4 .right-at, s .pre .4 .factors-at, s .pre .4 .values-at, s .pre .4 .room)) (s .args .k) (s .pre .0) _ _ (l .j) (l .inv .3) (c .before .before .add-column .ensures) in (search needs, l .inv .1, k .long, k)
 
 same-length : tie.Need-same-length Inv-loop μ-loop
 same-length c = search needs
 
 returns : tie.Need-returns Inv-loop μ-loop
-returns c = let s = c .before .before .before .before in columns-all (s .args .p) (s .args .n) (s .args .w) (s .args .taps .now) (s .args .u) (s .args .m .now) (s .pre .3) (omega (arith, s .pre .4 .right-at, s .pre .4 .factors-at, s .pre .4 .values-at, s .pre .4 .room)) (s .args .k) (s .pre .0) _ (c .before .loop .j) (omega (arith, c .loop-test .left, c .before .loop .inv .0, c .before .loop .inv .1)) (c .before .loop .inv .3)
+returns c = let s = c .before .before .before .before in columns-all (s .args .p) (s .args .n) (s .args .w) (s .args .block) (s .args .taps .now) (s .args .u) (s .args .m .now) (s .pre .3) (omega (arith, s .pre .4 .right-at, s .pre .4 .factors-at, s .pre .4 .values-at, s .pre .4 .room)) (s .args .k) (s .pre .0) _ (c .before .loop .j) (omega (arith, c .loop-test .left, c .before .loop .inv .0, c .before .loop .inv .1)) (c .before .loop .inv .3)
 
 pub add-columns-spec : {M : Type 1} → statement M
 add-columns-spec =

@@ -12,7 +12,7 @@ el-requires : tie.Need-el-requires
 el-requires c κs = search needs
 
 returns : tie.Need-returns
-returns c = let s = c .before .before .before .before in tap-zero (s .args .p) (s .args .n) (s .args .w) (s .args .taps .now) (s .args .u) (s .args .m .now) (s .pre .2) (omega (arith, s .pre .4 .right-at, s .pre .4 .factors-at, s .pre .4 .values-at, s .pre .4 .room)) (s .args .mean) (s .pre .3) (s .args .k) (s .pre .0) (rw (c .before .el .ensures) at (c .if1 .taken))
+returns c = let s = c .before .before .before .before in tap-zero (s .args .p) (s .args .n) (s .args .w) (s .args .block) (s .args .taps .now) (s .args .u) (s .args .m .now) (s .pre .2) (omega (arith, s .pre .4 .right-at, s .pre .4 .factors-at, s .pre .4 .values-at, s .pre .4 .room)) (s .args .mean) (s .pre .3) (s .args .k) (s .pre .0) (rw (c .before .el .ensures) at (c .if1 .taken))
 
 add-side-requires : tie.Need-add-side-requires
 add-side-requires c κs = let s = c .before .before .before .before .before in (s .pre .0, rw (c .before .before .el .ensures) at (c .before .if1 .left), s .pre .2, s .pre .3, omega (arith, s .pre .0, s .pre .1), s .pre .4)
@@ -25,7 +25,7 @@ same-length : tie.Need-same-length
 same-length c = search needs
 
 returns-2 : tie.Need-returns-2
-returns-2 c = let s = c .before .before .before .before .before .before .before .before .before .before .before .before in tap-done (s .args .p) (s .args .n) (s .args .w) (s .args .taps .now) (s .args .u) (s .args .m .now) (s .pre .2) (omega (arith, s .pre .4 .right-at, s .pre .4 .factors-at, s .pre .4 .values-at, s .pre .4 .room)) (s .args .mean) (s .pre .3) (s .args .k) (s .pre .0) _ _ (c .before .before .before .before .before .before .add-side .ensures) (c .before .before .add-columns .ensures)
+returns-2 c = let s = c .before .before .before .before .before .before .before .before .before .before .before .before in tap-done (s .args .p) (s .args .n) (s .args .w) (s .args .block) (s .args .taps .now) (s .args .u) (s .args .m .now) (s .pre .2) (omega (arith, s .pre .4 .right-at, s .pre .4 .factors-at, s .pre .4 .values-at, s .pre .4 .room)) (s .args .mean) (s .pre .3) (s .args .k) (s .pre .0) _ _ (c .before .before .before .before .before .before .add-side .ensures) (c .before .before .add-columns .ensures)
 
 pub pass-tap-spec : {M : Type 1} → statement M
 pass-tap-spec =

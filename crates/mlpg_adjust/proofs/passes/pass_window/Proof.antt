@@ -14,15 +14,15 @@ use Rattle.mlpg_adjust.proofs.passes.pass_window.Statement.{statement}
 use Rattle.mlpg_adjust.proofs.passes.pass_window.Tie as tie
 
 abbrev Inv-loop : tie.InvT-loop
-Inv-loop m₀ taps p u mean n w k₀ m k =
-    (k ≤ length taps) × (length m ≡ length m₀) × Moved p n w (λ t j. inside n t j (over (term taps (part u n m₀) t (t + j)) (min n (t + length taps / 2 + 1 - k))))
+Inv-loop m₀ taps p u mean n w block k₀ m k =
+    (k ≤ length taps) × (length m ≡ length m₀) × Moved p n w block (λ t j. inside n t j (over (term taps (part u n m₀) t (t + j)) (min n (t + length taps / 2 + 1 - k))))
     (λ t. over (rightTerm taps (part u n m₀) (part mean n m₀) t) (min n (t + length taps / 2 + 1 - k))) m₀ m
 
 abbrev μ-loop : tie.MeasureT-loop
-μ-loop m₀ taps p u mean n w k₀ m k = k
+μ-loop m₀ taps p u mean n w block k₀ m k = k
 
 loop-holds : tie.Need-loop-holds Inv-loop μ-loop
-loop-holds c = let s = c .before .before in (search needs, refl, taps-none (s .args .p) (s .args .n) (s .args .w) (s .args .taps .now) (s .args .u) (s .args .m .now) (s .pre .1) (omega (arith, s .pre .3 .right-at, s .pre .3 .factors-at, s .pre .3 .values-at, s .pre .3 .room)) (s .args .mean) (s .pre .2))
+loop-holds c = let s = c .before .before in (search needs, refl, taps-none (s .args .p) (s .args .n) (s .args .w) (s .args .block) (s .args .taps .now) (s .args .u) (s .args .m .now) (s .pre .1) (omega (arith, s .pre .3 .right-at, s .pre .3 .factors-at, s .pre .3 .values-at, s .pre .3 .room)) (s .args .mean) (s .pre .2))
 
 sub-k : tie.Need-sub-k Inv-loop μ-loop
 sub-k c = search needs
@@ -38,7 +38,7 @@ loop-again : tie.Need-loop-again Inv-loop μ-loop
 loop-again c = let s = c .before .before .before .before .before .before .before .before in
     let l = c .before .before .before .before .before .loop in
     let e : l .k ≡ l .k - 1 + 1 = omega (arith, c .before .before .before .before .loop-test .taken) in
-    let k = taps-next (s .args .p) (s .args .n) (s .args .w) (s .args .taps .now) (s .args .u) (s .args .m .now) (s .pre .1) (omega (arith, s .pre .3 .right-at, s .pre .3 .factors-at, s .pre .3 .values-at, s .pre .3 .room)) (s .args .mean) (s .pre .2) _ _ (l .k - 1) (subst (λ (x : ℕ). Moved (s .args .p) (s .args .n) (s .args .w) (λ t j. inside (s .args .n) t j (over (term (s .args .taps .now) (part (s .args .u) (s .args .n) (s .args .m .now)) t (t + j)) (min (s .args .n) (t + length (s .args .taps .now) / 2 + 1 - x))))
+    let k = taps-next (s .args .p) (s .args .n) (s .args .w) (s .args .block) (s .args .taps .now) (s .args .u) (s .args .m .now) (s .pre .1) (omega (arith, s .pre .3 .right-at, s .pre .3 .factors-at, s .pre .3 .values-at, s .pre .3 .room)) (s .args .mean) (s .pre .2) _ _ (l .k - 1) (subst (λ (x : ℕ). Moved (s .args .p) (s .args .n) (s .args .w) (s .args .block) (λ t j. inside (s .args .n) t j (over (term (s .args .taps .now) (part (s .args .u) (s .args .n) (s .args .m .now)) t (t + j)) (min (s .args .n) (t + length (s .args .taps .now) / 2 + 1 - x))))
     (λ t. over (rightTerm (s .args .taps .now) (part (s .args .u) (s .args .n) (s .args .m .now)) (part (s .args .mean) (s .args .n) (s .args .m .now)) t) (min (s .args .n) (t + length (s .args .taps .now) / 2 + 1 - x))) (s .args .m .now) (l .m)) e (l .inv .2)) (c .before .before .pass-tap .ensures) in (omega (arith, l .inv .0), k .long, k)
 
 same-length : tie.Need-same-length Inv-loop μ-loop
@@ -46,7 +46,7 @@ same-length c = search needs
 
 returns : tie.Need-returns Inv-loop μ-loop
 returns c = let s = c .before .before .before .before in
-    let e : c .before .loop .k ≡ 0 = omega (arith, c .loop-test .left) in taps-all (s .args .p) (s .args .n) (s .args .w) (s .args .taps .now) (s .args .u) (s .args .m .now) (s .pre .1) (omega (arith, s .pre .3 .right-at, s .pre .3 .factors-at, s .pre .3 .values-at, s .pre .3 .room)) (s .args .mean) (s .pre .2) _ (rw e at (c .before .loop .inv .2))
+    let e : c .before .loop .k ≡ 0 = omega (arith, c .loop-test .left) in taps-all (s .args .p) (s .args .n) (s .args .w) (s .args .block) (s .args .taps .now) (s .args .u) (s .args .m .now) (s .pre .1) (omega (arith, s .pre .3 .right-at, s .pre .3 .factors-at, s .pre .3 .values-at, s .pre .3 .room)) (s .args .mean) (s .pre .2) _ (rw e at (c .before .loop .inv .2))
 
 pub pass-window-spec : {M : Type 1} → statement M
 pass-window-spec =

@@ -17,16 +17,16 @@ use Rattle.mlpg_adjust.proofs.passes.pass_windows.Statement.{statement}
 use Rattle.mlpg_adjust.proofs.passes.pass_windows.Tie as tie
 
 abbrev Inv-loop : tie.InvT-loop
-Inv-loop m₀ widths coefficients p n w i₀ o₀ b₀ m i o b =
-    (i ≤ length widths) × (o ≡ total (take i widths)) × (b ≡ i * n) × (length m ≡ length m₀) × Moved p n w (windowsEntry widths coefficients (part (p .ivars) (length widths * n) m₀) (part 0 (length widths * n) m₀) n i)
+Inv-loop m₀ widths coefficients p n w block i₀ o₀ b₀ m i o b =
+    (i ≤ length widths) × (o ≡ total (take i widths)) × (b ≡ i * n) × (length m ≡ length m₀) × Moved p n w block (windowsEntry widths coefficients (part (p .ivars) (length widths * n) m₀) (part 0 (length widths * n) m₀) n i)
     (windowsSide widths coefficients (part (p .ivars) (length widths * n) m₀) (part 0 (length widths * n) m₀) n i) m₀ m
 
 abbrev μ-loop : tie.MeasureT-loop
-μ-loop m₀ widths coefficients p n w i₀ o₀ b₀ m i o b = length widths - i
+μ-loop m₀ widths coefficients p n w block i₀ o₀ b₀ m i o b = length widths - i
 
 loop-holds : tie.Need-loop-holds Inv-loop μ-loop
 unfolding total
-loop-holds c = let s = c .before .before .before in (search needs, refl, sym (zero-mul _), refl, windows-none (s .args .widths .now) (s .args .coefficients .now) (s .args .p) (s .args .n) (s .args .w) (s .args .m .now) (s .pre .1))
+loop-holds c = let s = c .before .before .before in (search needs, refl, sym (zero-mul _), refl, windows-none (s .args .widths .now) (s .args .coefficients .now) (s .args .p) (s .args .n) (s .args .w) (s .args .block) (s .args .m .now) (s .pre .1))
 
 mul-wide : tie.Need-mul-wide Inv-loop μ-loop
 mul-wide c = search needs
@@ -70,7 +70,7 @@ loop-again : tie.Need-loop-again Inv-loop μ-loop
 loop-again c = let s = c .before .before .before .before .before .before .before .before .before .before .before .before .before in
     let l = c .before .before .before .before .before .before .before .before .before .loop in
     let h = c .before .before .before .before .before .before .before .before .loop-test .taken in
-    let k = windows-next (s .args .widths .now) (s .args .coefficients .now) (s .args .p) (s .args .n) (s .args .w) (s .args .m .now) (s .pre .1) (l .m) _ _ (l .i) (l .b) h (l .inv .2) (c .before .before .before .before .part-at .ensures .0 ∙ rw (l .inv .1, c .before .before .before .before .before .before .wide .ensures)) (l .inv .4) (c .before .before .pass-window .ensures) in (
+    let k = windows-next (s .args .widths .now) (s .args .coefficients .now) (s .args .p) (s .args .n) (s .args .w) (s .args .block) (s .args .m .now) (s .pre .1) (l .m) _ _ (l .i) (l .b) h (l .inv .2) (c .before .before .before .before .part-at .ensures .0 ∙ rw (l .inv .1, c .before .before .before .before .before .before .wide .ensures)) (l .inv .4) (c .before .before .pass-window .ensures) in (
       search needs,
       omega (arith, total-more (s .args .widths .now) (l .i) h),
       rw add-one (omega (arith, l .inv .2, suc-mul (l .i) (s .args .n))),

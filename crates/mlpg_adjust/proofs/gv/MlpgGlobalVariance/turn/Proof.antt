@@ -46,7 +46,7 @@ unfolding meanOf variOf
 returns c = let s = c .before .before .before .before .before .before .before .before .before .before .before .before .before .before .before .before .before .args in
     let q = c .before .before .before .before .before .before .before .before .before .before .before .before .before .before .before .before .before .pre in
     let d = c .before .before .before .before .before .before .before .before .before .before .before .calc-hmmobj-derivative in (
-      turned (s .self) (s .p) (map isOn (s .on .now)) (s .gv-mean) (s .gv-vari) (s .m .now) (q .0) _ (d .ensures .0) _ _ _ _ (c .before .before .before .pull .ensures) _ _ _ (s .s .step) (s .s .prev) _ (c .before .before .next-step .ensures .0) (rw (q .3, q .1 .number)) (rw (d .ensures .2, q .3, q .1 .number))
+      turned (s .self) (s .p) (s .m .now) (q .0) _ (d .ensures .0) (map isOn (s .on .now)) (s .gv-mean) (s .gv-vari) _ _ _ _ (c .before .before .before .pull .ensures) _ _ _ (s .s .step) (s .s .prev) _ (c .before .before .next-step .ensures .0) (rw (q .3, q .1 .number)) (rw (d .ensures .2, q .3, q .1 .number))
           (d .ensures .1) (ap (λ (x : Float). neg (add binary64 (d .result .hmm) x)) (c .before .before .before .before .before .before .before .gv-obj .ensures)) (c .before .before .before .before .before .size-after .ensures) refl,
       c .before .before .next-step .ensures .1,
     )

@@ -1,15 +1,15 @@
--- Laws of parts of a list into which numbers are stored. Assumes nothing.
+-- Laws of parts of a list into which numbers are stored, as of a region of a work space. Assumes nothing.
 use mathlib.Core.Path.{_≡_, refl, sym, ap, _∙_}
 use mathlib.Core.List.{List, [], _∷_, _++_, append-assoc, append-nil}
-use Prim.Native.Nat.{ℕ, zero, suc, _+_, _-_, _<_, _≤_}
+use Prim.Native.Nat.{ℕ, suc, _+_, _-_, _<_, _≤_}
 use native.Mathlib.Numerals.{add-one}
 use native.Mathlib.Omega.{arith}
 use borrow.Rule.Slice.PartMut.{putMid, post-is}
 use lib.ListN.{length, set, take, drop, length-drop, length-set}
 use lib.Seq.{sets, sets-eq, drop-set-add, drop-set-lt, take-set-le, take-set-lt, take-suc-set, length-take-le, append-snoc}
 use Rattle.lists.specs.Build.{build}
 use Rattle.lists.proofs.Fills.{build-length}
 use Rattle.lists.proofs.Stores.{sets-append}
 
 module _ {A : Type 0} where
   abbrev cut : ℕ → ℕ → List A → List A
@@ -62,8 +62,3 @@ module _ {A : Type 0} where
   returned a e l x h g k =
       let z : a + length x ≡ e = omega arith in
       sym (sets-eq x l a (omega arith) ∙ rw (z, post-is a e l h, append-assoc))
-
-  pub build-first : (f : ℕ → A) (n : ℕ) → build f (suc n) ≡ f 0 ∷ build (λ i. f (suc i)) n
-  unfolding build
-  build-first f zero = refl
-  build-first f (suc n) = ap (λ (l : List A). l ++ (f (suc n) ∷ [])) (build-first f n)

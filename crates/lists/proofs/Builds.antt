@@ -39,3 +39,10 @@ module _ {A : Type 0} (f : ℕ → A) where
       ap (λ (i : ℕ). getD (build f m ++ drop m d) i z) e ∙ getD-append-add (build f m) (drop m d) (j - m) z ∙ getD-drop m d (j - m) z ∙ rw p (h j g b))
       (λ (g : j < m). List·getD-append (build f m) (drop m d) z j (omega arith) ∙ build-at m j z g)
       (le-or-lt m j))
+
+module _ {A : Type 0} where
+  -- the first element is the rule's first
+  pub build-first : (f : ℕ → A) (n : ℕ) → build f (suc n) ≡ f 0 ∷ build (λ i. f (suc i)) n
+  unfolding build
+  build-first f zero = refl
+  build-first f (suc n) = ap (λ (l : List A). l ++ (f (suc n) ∷ [])) (build-first f n)

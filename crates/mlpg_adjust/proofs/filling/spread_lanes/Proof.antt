@@ -1,0 +1,65 @@
+-- `mlpg_adjust::filling::spread_lanes` meets its contract. Assumes nothing.
+use mathlib.Core.Path.{_≡_, refl, _∙_}
+use Prim.Native.Nat.{_-_, _≤_}
+use lib.ListN.{length, replicate}
+use Rattle.mlpg_adjust.specs.Frames.{setsLanes}
+use Rattle.mlpg_adjust.proofs.MaskFilling.{lanes-next, lanes-done}
+use borrow.Author.Needs.{needs}
+use Rattle.mlpg_adjust.proofs.filling.spread_lanes.Statement.{statement}
+use Rattle.mlpg_adjust.proofs.filling.spread_lanes.Tie as tie
+
+abbrev Inv-loop : tie.InvT-loop
+Inv-loop none d lanes v p out₀ x l₀ out l = (l ≤ lanes) × (length out ≡ length out₀) × (out ≡ setsLanes v p (λ j. replicate d x) l out₀)
+
+abbrev μ-loop : tie.MeasureT-loop
+μ-loop none d lanes v p out₀ x l₀ out l = lanes - l
+
+handed-out-requires : tie.Need-handed-out-requires Inv-loop μ-loop
+handed-out-requires c κs = search needs
+
+loop-holds : tie.Need-loop-holds Inv-loop μ-loop
+unfolding setsLanes
+loop-holds c = (search needs, refl, refl)
+
+add-spread-column : tie.Need-add-spread-column Inv-loop μ-loop
+add-spread-column c = search needs
+
+spread-column-requires : tie.Need-spread-column-requires Inv-loop μ-loop
+spread-column-requires c κs = search needs
+
+add-l : tie.Need-add-l Inv-loop μ-loop
+add-l c = search needs
+
+loop-less : tie.Need-loop-less Inv-loop μ-loop
+loop-less c = search needs
+
+loop-again : tie.Need-loop-again Inv-loop μ-loop
+loop-again c =
+    let s = c .before .before .before .before .before .before .before .before .args in
+    let l = c .before .before .before .before .before .loop in (
+      search needs,
+      c .before .before .spread-column .kept .1 .1 .1 .1 .0 ∙ l .inv .1,
+      lanes-next (s .v) (s .p) (λ j. replicate (s .d) (c .before .before .before .before .before .before .handed-out .result)) (l .l) _ (l .out) _ (l .inv .2) (c .before .before .spread-column .ensures),
+    )
+
+same-length : tie.Need-same-length Inv-loop μ-loop
+same-length c = c .before .loop .inv .1
+
+returns : tie.Need-returns Inv-loop μ-loop
+returns c = rw (← c .before .before .handed-out .ensures) (lanes-done _ _ _ _ _ _ _ (c .before .loop .inv .0) (c .loop-test .left) (c .before .loop .inv .2))
+
+pub spread-lanes-spec : {M : Type 1} → statement M
+spread-lanes-spec =
+    tie.close
+    (tie.spec
+    Inv-loop
+    μ-loop
+    handed-out-requires
+    loop-holds
+    add-spread-column
+    spread-column-requires
+    add-l
+    loop-less
+    loop-again
+    same-length
+    returns)
