@@ -1,4 +1,4 @@
-"""The C calls compiled for this machine, for large runs where the x86-64 archive needs an emulator.
+"""The C calls compiled for this machine, for large runs and for timing where the x86-64 archive needs an emulator.
 
 `rt staticlib` hands one LLVM module to the kit's clang. A shadow of the kit, links all through but
 for a clang that keeps a copy of that module, gives us the very module that the archive is made of.
@@ -38,7 +38,8 @@ def shadow_kit(folder: Path, module: Path) -> None:
     clang.chmod(0o755)
 
 
-def build_subject(crate: str = "hejmirov") -> programs.Program:
+def compiled(crate: str = "hejmirov") -> Path:
+    """The archive's module as an object file for this machine."""
     folder, module = programs.BUILT / "kit", programs.BUILT / f"{crate}.bc"
     module.parent.mkdir(parents=True, exist_ok=True)
     module.unlink(missing_ok=True)
@@ -46,9 +47,13 @@ def build_subject(crate: str = "hejmirov") -> programs.Program:
     shadow = {**os.environ, "RATTLE_HOME": str(folder)}
     build = ["rt", "staticlib", crate]
     subprocess.run(build, check=True, cwd=programs.ROOT, env=shadow, stdout=subprocess.DEVNULL)
-    compiled = programs.BUILT / f"{crate}.o"
+    built = programs.BUILT / f"{crate}.o"
     target = f"--target={platform.machine()}-unknown-linux-gnu"
-    command = [programs.kit_tools() / "clang", target, "-O3", "-c", "-x", "ir", module, "-o", compiled]
+    command = [programs.kit_tools() / "clang", target, "-O3", "-c", "-x", "ir", module, "-o", built]
     subprocess.run(command, check=True)
-    built = programs.link(["gcc"], [str(compiled)], "host")
+    return built
+
+
+def build_subject() -> programs.Program:
+    built = programs.link(["gcc"], [str(compiled())], "host")
     return programs.Program("the C call, built for this machine", (built,))

@@ -56,7 +56,7 @@ def link(compiler: list[str], objects: list[str], name: str) -> str:
     BUILT.mkdir(parents=True, exist_ok=True)
     built = BUILT / name
     whole = ["-Wl,--whole-archive", *objects, "-Wl,--no-whole-archive"]
-    command = [*compiler, "-std=c11", "-O1", "-o", built, TOOLS / "subject.c", *whole, "-lm"]
+    command = [*compiler, "-std=c11", "-O1", "-o", built, TOOLS / "subject.c", *whole]
     subprocess.run(command, check=True)
     return str(built)
 

@@ -6,7 +6,7 @@ use Prim.Native.Nat.{ℕ}
 use lib.Ieee.{Float, binary64, ofBits, toBits}
 use Rattle.duration.specs.declared.Fitted.the-variants.{Done, Refused}
 use Rattle.duration.specs.declared.Aligned.the-variants.{Written}
-use Rattle.duration.specs.Estimate.{number}
+use Rattle.floats.specs.Numbers.{one, number}
 use Rattle.duration.specs.Fit.{startOf}
 use Rattle.duration.specs.Promise.{FitSays, SpeedSays, AlignSays}
 use Rattle.duration.proofs.Cases.{two-three, one-one, sevens, nines, cleared, half, unset}
@@ -24,9 +24,6 @@ abbrev pub threePointFour : Float
 threePointFour = bits 0x400b_3333_3333_3333
 
 -- case 10: a record is the means of its two windows, then their variances, all 1 but the first means 1, 2, 3
-abbrev pub one : Float
-one = bits 0x3ff0_0000_0000_0000
-
 abbrev pub records : List Float
 records = one ∷ one ∷ one ∷ one ∷ bits 0x4000_0000_0000_0000 ∷ one ∷ one ∷ one ∷ bits 0x4008_0000_0000_0000 ∷ one ∷ one ∷ one ∷ []
 

@@ -12,7 +12,8 @@ use Rattle.floats.specs.Order.{absOf, costBelow}
 use Rattle.model.specs.Pair.{pairsOf, sumOf}
 use Rattle.duration.specs.declared.Fitted.the-variants.{Done, Refused}
 use Rattle.duration.specs.declared.Aligned.the-variants.{Written, Denied}
-use Rattle.duration.specs.Estimate.{number, estimates}
+use Rattle.floats.specs.Numbers.{number}
+use Rattle.duration.specs.Estimate.{estimates}
 use Rattle.duration.specs.Steps.{keyOf, keys, leastOf, step, settle}
 use Rattle.duration.specs.Fit.{startOf, fitTo, refusalTo}
 use Rattle.duration.specs.Speed.{naturals, targetAt, fitAt, refusalAt}

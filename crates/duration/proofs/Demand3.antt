@@ -15,7 +15,7 @@ use Rattle.lists.specs.Totals.{total, gap}
 use Rattle.lists.specs.Refusals.{orElse}
 use Rattle.lists.proofs.Numbers.{le-or-lt}
 use Rattle.floats.specs.Rounding.{Integral, undefined, endless, whole, toIntegral, framesOf, roundedOf}
-use Rattle.model.specs.Pair.{nought, one}
+use Rattle.floats.specs.Numbers.{nought, one}
 use Rattle.duration.specs.declared.Fitted.{Fitted}
 use Rattle.duration.specs.declared.Fitted.the-variants.{Done, Refused}
 use Rattle.duration.specs.declared.Aligned.{Aligned}

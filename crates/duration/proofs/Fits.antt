@@ -11,7 +11,7 @@ use lib.Ieee.{Float, eq}
 use borrow.Author.Tests.{lt-ltb, le-ltb, le-leb, lt-leb, ne-eqb}
 use Rattle.lists.specs.Totals.{total}
 use Rattle.lists.proofs.Stores.{filled}
-use Rattle.model.specs.Pair.{one}
+use Rattle.floats.specs.Numbers.{one}
 use Rattle.duration.specs.declared.Fitted.{Fitted}
 use Rattle.duration.specs.declared.Fitted.the-variants.{Done, Refused}
 use Rattle.duration.specs.Estimate.{shortest, estimates}

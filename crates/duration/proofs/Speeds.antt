@@ -16,8 +16,8 @@ use lib.Ieee.Fits.{down-pos}
 use borrow.Author.Tests.{le-ltb, le-leb, ne-eqb, eqb-true}
 use Rattle.lists.specs.Totals.{total}
 use Rattle.floats.specs.Rounding.{whole, nearestHalf, toIntegral, framesOf, roundedOf}
-use Rattle.model.specs.Pair.{nought, one}
-use Rattle.duration.specs.Estimate.{number, shortest}
+use Rattle.floats.specs.Numbers.{nought, one, number}
+use Rattle.duration.specs.Estimate.{shortest}
 use Rattle.duration.specs.Steps.{unchanged}
 use Rattle.duration.specs.Fit.{mostFrames, fitTo, refusalTo}
 use Rattle.duration.specs.Speed.{naturals, targetAt, fitAt, refusalAt}

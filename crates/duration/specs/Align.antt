@@ -7,11 +7,10 @@ use lib.ListN.{take, drop}
 use lib.Ieee.{Float, binary64, sub, le}
 use Rattle.lists.specs.Totals.{total}
 use Rattle.floats.specs.Rounding.{roundedOf}
-use Rattle.model.specs.Pair.{nought}
+use Rattle.floats.specs.Numbers.{nought, number}
 use Rattle.duration.specs.declared.align.End.{End}
 use Rattle.duration.specs.declared.align.End.the-variants.{At, Open}
 use Rattle.duration.specs.declared.align.Label.{Label}
-use Rattle.duration.specs.Estimate.{number}
 use Rattle.duration.specs.Steps.{Outcome, unchanged}
 use Rattle.duration.specs.Fit.{mostFrames, fitTo, refusalTo}
 use Rattle.lists.specs.Refusals.{orElse}

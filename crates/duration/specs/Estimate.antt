@@ -1,13 +1,8 @@
 -- How long states are estimated to be. Assumes nothing.
 use mathlib.Core.List.{List, [], _∷_}
 use Prim.Native.Nat.{ℕ}
-use lib.IntN.{pos}
-use lib.Ieee.{Float, binary64, ofInt, add, mul}
+use lib.Ieee.{Float, binary64, add, mul}
 use Rattle.floats.specs.Rounding.{roundedOf}
-
--- a count of frames as a float
-abbrev pub number : ℕ → Float
-number n = ofInt binary64 (pos n)
 
 -- 01, Durations: "then at least 1", as `roundedOf` is
 abbrev pub shortest : ℕ

@@ -7,7 +7,8 @@ use lib.ListN.{length, replicate}
 use lib.Ieee.{Float, binary64, sub, div}
 use Rattle.lists.specs.Totals.{total}
 use Rattle.model.specs.Pair.{sumOf}
-use Rattle.duration.specs.Estimate.{number, shortest, estimates}
+use Rattle.floats.specs.Numbers.{number}
+use Rattle.duration.specs.Estimate.{shortest, estimates}
 use Rattle.duration.specs.Steps.{Outcome, unchanged, settle}
 
 -- 01, Sizes: "0 to 65,536 frames in an utterance"

@@ -6,8 +6,8 @@ use lib.Dec.{ltb}
 use lib.Ieee.{Float, binary64, div, eq}
 use Rattle.lists.specs.Totals.{total}
 use Rattle.floats.specs.Rounding.{roundedOf}
-use Rattle.model.specs.Pair.{nought, one}
-use Rattle.duration.specs.Estimate.{number, estimates}
+use Rattle.floats.specs.Numbers.{nought, one, number}
+use Rattle.duration.specs.Estimate.{estimates}
 use Rattle.duration.specs.Steps.{Outcome, unchanged}
 use Rattle.duration.specs.Fit.{mostFrames, fitTo, refusalTo}
 

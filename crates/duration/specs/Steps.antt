@@ -8,7 +8,8 @@ use lib.ListN.{getD, set}
 use lib.Ieee.{Float, binary64, sub, div}
 use Rattle.lists.specs.Totals.{total}
 use Rattle.floats.specs.Order.{absOf, costBelow}
-use Rattle.duration.specs.Estimate.{number, shortest}
+use Rattle.floats.specs.Numbers.{number}
+use Rattle.duration.specs.Estimate.{shortest}
 
 -- 01, Durations: "Cost is the absolute value of rho − (d − mean)/variance."
 abbrev pub costOf : Float → Float → Float → ℕ → Float

@@ -7,18 +7,18 @@ use crate::Aligned;
 use crate::Fitted;
 
 // A label's end: a time in frames, or open.
-pub enum End {
+pub(crate) enum End {
     At(f64),
     Open,
 }
 
-pub struct Label {
-    pub first: usize,
-    pub end: End,
+pub(crate) struct Label {
+    pub(crate) first: usize,
+    pub(crate) end: End,
 }
 
 impl Label {
-    pub fn new(first: usize, end: f64) -> Self
+    pub(crate) fn new(first: usize, end: f64) -> Self
         ensures { λ r. ⌜ r ≡ labelOf first end ⌝ }
     {
         if end >= 0.0 {
@@ -35,7 +35,7 @@ impl Label {
 }
 
 // A group's unit changes and frames, or its refusal.
-pub enum Closed {
+pub(crate) enum Closed {
     Grown(u32, u32),
     Barred(u8),
 }
@@ -90,7 +90,7 @@ fn close_group(
 }
 
 // Fits each group of labels to its end, in place in work, and counts the states of closed groups and the unit changes.
-pub fn fit_along(
+pub(crate) fn fit_along(
     means: &[f64],
     varis: &[f64],
     nstate: usize,

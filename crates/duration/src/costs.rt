@@ -8,9 +8,9 @@ ghost use Rattle.duration.specs.Fit.{mostFrames};
 ghost use Rattle.duration.specs.Scores.{mostStates, rank, score, soonerOf};
 
 // A state's place, and its key.
-pub struct Entry {
-    pub place: usize,
-    pub key: u64,
+pub(crate) struct Entry {
+    pub(crate) place: usize,
+    pub(crate) key: u64,
 }
 
 fn cost(rho: f64, mean: f64, vari: f64, d: u32) -> u64
@@ -20,7 +20,7 @@ fn cost(rho: f64, mean: f64, vari: f64, d: u32) -> u64
 }
 
 // The bits of the cost of a state's step, and all ones where it may take none.
-pub fn key_of(up: bool, rho: f64, mean: f64, vari: f64, d: u32) -> u64
+pub(crate) fn key_of(up: bool, rho: f64, mean: f64, vari: f64, d: u32) -> u64
     requires { ⌜ d ≤ mostFrames ⌝ }
     ensures { λ r. ⌜ r ≡ rank (keyOf up rho mean vari d) ⌝ }
 {
@@ -44,7 +44,7 @@ fn is_sooner(a: Entry, b: Entry) -> bool
 }
 
 // Of two states the one of the lesser key, and on a tie the first.
-pub fn sooner_of(a: Entry, b: Entry) -> Entry
+pub(crate) fn sooner_of(a: Entry, b: Entry) -> Entry
     requires { ⌜ (a .place < mostStates) × (b .place < mostStates) ⌝ }
     ensures { λ r. ⌜ r ≡ soonerOf a b ⌝ }
 {
@@ -55,7 +55,7 @@ pub fn sooner_of(a: Entry, b: Entry) -> Entry
 }
 
 // The same of two states in their order: one that may take no step is passed over at once.
-pub fn better_of(best: Entry, next: Entry) -> Entry
+pub(crate) fn better_of(best: Entry, next: Entry) -> Entry
     requires { ⌜ (best .place < next .place) × (next .place < mostStates) ⌝ }
     ensures { λ r. ⌜ r ≡ soonerOf best next ⌝ }
 {

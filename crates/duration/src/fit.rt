@@ -12,7 +12,7 @@ fn estimate(rho: f64, mean: f64, vari: f64) -> u32
 }
 
 // The states' estimates, into work.
-pub fn estimate_duration(means: &[f64], varis: &[f64], rho: f64, work: &mut [u32])
+pub(crate) fn estimate_duration(means: &[f64], varis: &[f64], rho: f64, work: &mut [u32])
     requires { ⌜ Agree (now means) (now varis) (now work) ⌝ }
     ensures { λ _. ⌜ now (work .exit) ≡ estimates rho (now (means .entry)) (now (varis .entry)) ⌝ }
 {
@@ -31,7 +31,7 @@ fn rho_of(means: &[f64], varis: &[f64], target: u32) -> f64
 }
 
 // The fit to a target, in place in work.
-pub fn fit(means: &[f64], varis: &[f64], target: u32, work: &mut [u32]) -> Fitted
+pub(crate) fn fit(means: &[f64], varis: &[f64], target: u32, work: &mut [u32]) -> Fitted
     requires { ⌜ Agree (now means) (now varis) (now work) ⌝ }
     ensures { λ r. ⌜ InPlace (refusalTo (now (means .entry)) (now (varis .entry)) target) (fitTo (now (means .entry)) (now (varis .entry)) target) r (now (work .exit)) ⌝ }
 {

@@ -7,7 +7,7 @@ ghost use Rattle.duration.specs.Tree.{node};
 ghost use Rattle.duration.specs.Pack.{width, lows, highs};
 ghost use Rattle.duration.specs.Inner.{PutsPlace, PutsDuration};
 
-pub fn duration_at(work: &[u32], p: usize) -> u32
+pub(crate) fn duration_at(work: &[u32], p: usize) -> u32
     requires { ⌜ p < length (now work) ⌝ }
     ensures { λ r. ⌜ r ≡ getD (lows (now (work .entry))) p 0 ⌝ }
 {
@@ -15,7 +15,7 @@ pub fn duration_at(work: &[u32], p: usize) -> u32
 }
 
 // The place at a node, inner or leaf.
-pub fn place_at(work: &[u32], i: usize) -> usize
+pub(crate) fn place_at(work: &[u32], i: usize) -> usize
     ensures { λ r. ⌜ r ≡ node (highs (now (work .entry))) i ⌝ }
 {
     if i < work.len() {
@@ -24,14 +24,14 @@ pub fn place_at(work: &[u32], i: usize) -> usize
     i - work.len()
 }
 
-pub fn put_duration(work: &mut [u32], p: usize, d: u32)
+pub(crate) fn put_duration(work: &mut [u32], p: usize, d: u32)
     requires { ⌜ (p < length (now work)) × (d < width) ⌝ }
     ensures { λ _. ⌜ PutsDuration (now (work .entry)) p d (now (work .exit)) ⌝ }
 {
     work[p] = work[p] / 131_072 * 131_072 + d;
 }
 
-pub fn put_place(work: &mut [u32], i: usize, p: usize)
+pub(crate) fn put_place(work: &mut [u32], i: usize, p: usize)
     requires { ⌜ (i < length (now work)) × (p < mostStates) ⌝ }
     ensures { λ _. ⌜ PutsPlace (now (work .entry)) i p (now (work .exit)) ⌝ }
 {
@@ -39,7 +39,7 @@ pub fn put_place(work: &mut [u32], i: usize, p: usize)
 }
 
 // Leaves the durations alone.
-pub fn unpack(work: &mut [u32])
+pub(crate) fn unpack(work: &mut [u32])
     ensures { λ _. ⌜ now (work .exit) ≡ lows (now (work .entry)) ⌝ }
 {
     let mut i = 0;

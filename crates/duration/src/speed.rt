@@ -4,7 +4,7 @@ ghost use Rattle.duration.specs.Inner.{Agree, InPlace};
 use crate::Fitted;
 
 // The durations at a speed, in place in work.
-pub fn fit_at(means: &[f64], varis: &[f64], speed: f64, work: &mut [u32]) -> Fitted
+pub(crate) fn fit_at(means: &[f64], varis: &[f64], speed: f64, work: &mut [u32]) -> Fitted
     requires { ⌜ Agree (now means) (now varis) (now work) ⌝ }
     ensures { λ r. ⌜ InPlace (refusalAt (now (means .entry)) (now (varis .entry)) speed) (fitAt (now (means .entry)) (now (varis .entry)) speed) r (now (work .exit)) ⌝ }
 {

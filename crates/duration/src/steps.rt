@@ -7,7 +7,7 @@ ghost use Rattle.duration.specs.Steps.{moved, settle};
 ghost use Rattle.duration.specs.Fit.{mostFrames};
 ghost use Rattle.duration.specs.Inner.{Ready, MayMove, Aim, Lone};
 
-pub fn moved_one(up: bool, d: u32) -> u32
+pub(crate) fn moved_one(up: bool, d: u32) -> u32
     requires { ⌜ MayMove up d ⌝ }
     ensures { λ r. ⌜ r ≡ moved up d ⌝ }
 {
@@ -57,7 +57,7 @@ fn is_short(steps: u32, states: usize) -> bool {
 }
 
 // Steps until the total is the target, and how many.
-pub fn settle(
+pub(crate) fn settle(
     sum: u32,
     target: u32,
     rho: f64,

@@ -71,7 +71,7 @@ fn step_once(up: bool, rho: f64, means: &[f64], varis: &[f64], work: &mut [u32])
 }
 
 // Steps until the total is the target, and how many.
-pub fn settle(
+pub(crate) fn settle(
     sum: u32,
     target: u32,
     rho: f64,

@@ -7,8 +7,7 @@ use Rattle.lists.specs.Answers.{Answer}
 use Rattle.lists.proofs.Answers.{same}
 use Rattle.duration.specs.Promise.{fitted, aligned}
 use Rattle.duration.proofs.Calls.{fit-says-one, speed-says-one, align-says-one}
-use Rattle.mlpg_adjust.specs.MaskPromise.{masked}
-use Rattle.mlpg_adjust.specs.BandPromise.{banded}
+use Rattle.mlpg_adjust.specs.Ends.{filled}
 use Rattle.mlpg_adjust.specs.TrajectoryPromise.{createdNumber}
 use Rattle.mlpg_adjust.proofs.MaskWays.{masked-one}
 use Rattle.mlpg_adjust.proofs.BandWays.{band-one}
@@ -66,14 +65,14 @@ pub mask-call-one : (ws : List Float) (threshold : Float) (ds voiced left right 
     → MaskCallSays ws threshold ds voiced left right frames r v₁ l₁ r₁ x → MaskCallSays ws threshold ds voiced left right frames s v₂ l₂ r₂ y → (r ≡ s) × (v₁ ≡ v₂) × (l₁ ≡ l₂) × (r₁ ≡ r₂) × (x ≡ y)
 mask-call-one ws threshold ds voiced left right frames r s v₁ l₁ r₁ v₂ l₂ r₂ x y f g =
     let t = masked-one ws threshold ds voiced left right (f .answer) (g .answer) v₁ l₁ r₁ v₂ l₂ r₂ (f .says) (g .says) in
-    let h = hands-one (masked (f .answer)) (masked (g .answer)) frames r s x y (ap masked (t .0)) (f .gives) (g .gives) in
+    let h = hands-one (filled (f .answer)) (filled (g .answer)) frames r s x y (ap filled (t .0)) (f .gives) (g .gives) in
     (h .0, t .1, t .2, t .3, h .1)
 
 pub band-call-one : (widths : List ℕ) (coefs means ivars rows right : List Float) (r s : ℕ) (A₁ R₁ A₂ R₂ : List Float)
     → BandCallSays widths coefs means ivars rows right r A₁ R₁ → BandCallSays widths coefs means ivars rows right s A₂ R₂ → (r ≡ s) × (A₁ ≡ A₂) × (R₁ ≡ R₂)
 band-call-one widths coefs means ivars rows right r s A₁ R₁ A₂ R₂ f g =
     let t = band-one widths coefs means ivars rows right (f .answer) (g .answer) A₁ R₁ A₂ R₂ (f .says) (g .says) in
-    (f .gives ∙ ap (λ b. banded b .number) (t .0) ∙ sym (g .gives), t .1, t .2)
+    (f .gives ∙ ap (λ b. filled b .number) (t .0) ∙ sym (g .gives), t .1, t .2)
 
 pub trajectory-call-one : (v masked : ℕ) (threshold none : Float) (gvOn : ℕ) (weight : Float) (widths : List ℕ) (coefs records : List Float) (ds : List ℕ) (gv : List Float) (switches : List ℕ)
     (out work : List Float) (marks : List ℕ) (r s : ℕ) (o₁ w₁ : List Float) (m₁ : List ℕ) (o₂ w₂ : List Float) (m₂ : List ℕ)

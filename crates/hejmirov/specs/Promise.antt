@@ -10,15 +10,15 @@ use Rattle.lists.specs.Answers.{Answer}
 use Rattle.duration.specs.Promise.{fitted, aligned, FitSays, SpeedSays, AlignSays}
 use Rattle.duration.specs.declared.Fitted.{Fitted}
 use Rattle.duration.specs.declared.Aligned.{Aligned}
-use Rattle.mlpg_adjust.specs.MaskPromise.{masked, MaskedDistancesSays}
-use Rattle.mlpg_adjust.specs.BandPromise.{banded, BandSays}
+use Rattle.mlpg_adjust.specs.Ends.{filled}
+use Rattle.mlpg_adjust.specs.MaskPromise.{MaskedDistancesSays}
+use Rattle.mlpg_adjust.specs.BandPromise.{BandSays}
 use Rattle.mlpg_adjust.specs.TrajectoryPromise.{createdNumber, CreateSays}
 use Rattle.mlpg_adjust.specs.declared.Stream.{Stream}
 use Rattle.mlpg_adjust.specs.declared.GlobalVariance.{GlobalVariance}
 use Rattle.mlpg_adjust.specs.declared.GlobalVariance.the-variants.{Off, On}
 use Rattle.mlpg_adjust.specs.declared.Created.{Created}
-use Rattle.mlpg_adjust.specs.declared.mask.Masked.{Masked}
-use Rattle.mlpg_adjust.specs.declared.band.Banded.{Banded}
+use Rattle.mlpg_adjust.specs.declared.Filled.{Filled}
 use Rattle.job.specs.Promise.{answered, JobSays}
 use Rattle.job.specs.declared.Answered.{Answered}
 use Rattle.spool.specs.Promise.{placed, spanned, PlaceSays, SpanSays}
@@ -67,15 +67,15 @@ pub record AlignCallSays (ms vs : List Float) (nstate : ℕ) (ends : List Float)
 
 -- `hejmirov_mask`
 pub record MaskCallSays (ws : List Float) (threshold : Float) (ds voiced left right : List ℕ) (frames r : ℕ) (voiced′ left′ right′ : List ℕ) (frames′ : ℕ) : Type 0 where
-  pub answer : Masked
+  pub answer : Filled
   pub says : MaskedDistancesSays ws threshold ds voiced left right answer voiced′ left′ right′
-  pub gives : HandsOne (masked answer) frames r frames′
+  pub gives : HandsOne (filled answer) frames r frames′
 
 -- `hejmirov_band_rows`: the frame count is the caller's own, and is not handed out
 pub record BandCallSays (widths : List ℕ) (coefs means ivars rows right : List Float) (r : ℕ) (rows′ right′ : List Float) : Type 0 where
-  pub answer : Banded
+  pub answer : Filled
   pub says : BandSays widths coefs means ivars rows right answer rows′ right′
-  pub gives : r ≡ banded answer .number
+  pub gives : r ≡ filled answer .number
 
 -- GV is on where any bit is set
 abbrev pub varianceOf : ℕ → Float → GlobalVariance

@@ -2,8 +2,7 @@
 // A list is a pointer and a length.
 ghost use mathlib.Core.Path.{_≡_};
 ghost use Rattle.duration.specs.Promise.{fitted, aligned};
-ghost use Rattle.mlpg_adjust.specs.MaskPromise.{masked};
-ghost use Rattle.mlpg_adjust.specs.BandPromise.{banded};
+ghost use Rattle.mlpg_adjust.specs.Ends.{filled};
 ghost use Rattle.mlpg_adjust.specs.TrajectoryPromise.{createdNumber};
 ghost use Rattle.spool.specs.Promise.{placed, spanned};
 ghost use Rattle.job.specs.Promise.{answered};
@@ -12,10 +11,9 @@ use duration::Aligned;
 use duration::Fitted;
 use job::Answered;
 use mlpg_adjust::Created;
+use mlpg_adjust::Filled;
 use mlpg_adjust::GlobalVariance;
 use mlpg_adjust::Stream;
-use mlpg_adjust::band::Banded;
-use mlpg_adjust::mask::Masked;
 use spool::Placed;
 use spool::Span;
 
@@ -125,15 +123,15 @@ pub extern "C" fn hejmirov_mask(
     hand_out_mask(answer, frames)
 }
 
-fn hand_out_mask(answer: Masked, frames: &mut u32) -> u32
-    ensures { λ r. ⌜ HandsOne (masked answer) (now (frames .entry)) r (now (frames .exit)) ⌝ }
+fn hand_out_mask(answer: Filled, frames: &mut u32) -> u32
+    ensures { λ r. ⌜ HandsOne (filled answer) (now (frames .entry)) r (now (frames .exit)) ⌝ }
 {
     match answer {
-        Masked::Done(count) => {
+        Filled::Done(count) => {
             *frames = count;
             0
         }
-        Masked::Refused(number) => number as u32,
+        Filled::Refused(number) => number as u32,
     }
 }
 
@@ -153,12 +151,12 @@ pub extern "C" fn hejmirov_band_rows(
     number_of_rows(answer)
 }
 
-fn number_of_rows(answer: Banded) -> u32
-    ensures { λ r. ⌜ r ≡ banded answer .number ⌝ }
+fn number_of_rows(answer: Filled) -> u32
+    ensures { λ r. ⌜ r ≡ filled answer .number ⌝ }
 {
     match answer {
-        Banded::Done(_) => 0,
-        Banded::Refused(number) => number as u32,
+        Filled::Done(_) => 0,
+        Filled::Refused(number) => number as u32,
     }
 }
 

@@ -10,7 +10,8 @@ use Rattle.lists.specs.Totals.{total}
 use Rattle.floats.specs.Rounding.{roundedOf}
 use Rattle.floats.specs.Order.{absOf, costBelow}
 use Rattle.model.specs.Pair.{pairsOf, sumOf}
-use Rattle.duration.specs.Estimate.{number, estimates}
+use Rattle.floats.specs.Numbers.{number}
+use Rattle.duration.specs.Estimate.{estimates}
 use Rattle.duration.specs.Steps.{keyOf, keys, leastOf, step, settle}
 use Rattle.duration.specs.Fit.{startOf, fitTo, refusalTo}
 use Rattle.duration.specs.Speed.{naturals, targetAt, fitAt, refusalAt}

@@ -9,7 +9,7 @@ use lib.ListN.{length, replicate, length-replicate}
 use lib.Ieee.{Float, eq}
 use borrow.Author.Tests.{eqb-false, leb-false, ltb-false}
 use Rattle.lists.specs.Totals.{total}
-use Rattle.model.specs.Pair.{nought, one}
+use Rattle.floats.specs.Numbers.{nought, one}
 use Rattle.duration.specs.Estimate.{shortest}
 use Rattle.duration.specs.Steps.{Outcome, unchanged}
 use Rattle.duration.specs.Fit.{mostFrames, startOf, plain, fitTo, refusalTo}

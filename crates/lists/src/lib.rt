@@ -1,6 +1,6 @@
 // Total functions on lent lists: whatever the places and counts, they do what the list has room for.
 ghost use mathlib.Core.Path.{_≡_};
-ghost use Prim.Native.Nat.{_^_, min};
+ghost use Prim.Native.Nat.{_^_, min, max};
 ghost use lib.ListN.{take, drop, replicate};
 ghost use lib.Seq.{sets};
 ghost use Rattle.lists.specs.Totals.{total};
@@ -62,6 +62,16 @@ pub fn least(a: usize, b: usize) -> usize
         return a;
     }
     b
+}
+
+// The larger of two numbers.
+pub fn larger(a: usize, b: usize) -> usize
+    ensures { λ r. ⌜ r ≡ max a b ⌝ }
+{
+    if a < b {
+        return b;
+    }
+    a
 }
 
 // The sum of the first 2 ^ 32 numbers, which can't pass 64 bits. No list of this library's callers is longer.

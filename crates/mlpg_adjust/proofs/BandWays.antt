@@ -14,15 +14,17 @@ use lib.Seq.{sets, length-sets}
 use lib.Ieee.{Float}
 use Rattle.lists.specs.Build.{foldFrom}
 use Rattle.lists.specs.Refusals.{orElse}
-use Rattle.lists.proofs.Answers.{Same, same, refused-as, accepted}
+use Rattle.lists.proofs.Answers.{same, refused-as, accepted}
 use Rattle.model.specs.Windows.{windowRefusal, longest, bandWidth}
 use Rattle.model.proofs.Accepted.{accepted-whole, width-some, width-few}
 use Rattle.mlpg_adjust.specs.Rows.{rows}
 use Rattle.mlpg_adjust.specs.Paper.{bandRows, rightSide}
 use Rattle.mlpg_adjust.specs.Inner.{Taps}
-use Rattle.mlpg_adjust.specs.BandPromise.{banded, bandedOf, framesOf, setRefusal, bandRefusal, BandSays}
-use Rattle.mlpg_adjust.specs.declared.band.Banded.{Banded}
-use Rattle.mlpg_adjust.specs.declared.band.Banded.the-variants.{Done, Refused}
+use Rattle.mlpg_adjust.specs.BandPromise.{framesOf, setRefusal, bandRefusal, BandSays}
+use Rattle.mlpg_adjust.specs.Ends.{filledOf}
+use Rattle.mlpg_adjust.specs.declared.Filled.{Filled}
+use Rattle.mlpg_adjust.specs.declared.Filled.the-variants.{Done, Refused}
+use Rattle.mlpg_adjust.proofs.Ends.{filled-one}
 use Rattle.lists.proofs.Regions.{returned, stored-at}
 use Rattle.mlpg_adjust.proofs.Standings.{matrix-length, side-length}
 
@@ -70,33 +72,29 @@ module _ (ws : List ℕ) (cs : List Float) (ok : windowRefusal ws cs ≡ 0) wher
 -- ---- how many frames there are
 
 module _ (ws : List ℕ) (cs : List Float) (m i : ℕ) where
-  pub frames-windows : (k : ℕ) → k ≡ windowRefusal ws cs → (k ≡ 0 → ⊥) → Refused k ≡ bandedOf (setRefusal ws cs m i) (framesOf ws m)
+  pub frames-windows : (k : ℕ) → k ≡ windowRefusal ws cs → (k ≡ 0 → ⊥) → Refused k ≡ filledOf (setRefusal ws cs m i) (framesOf ws m)
   unfolding setRefusal
   frames-windows zero e h = absurd (h refl)
   frames-windows (suc k) e h = rw (← e)
 
   module _ (z : windowRefusal ws cs ≡ 0) where
-    pub frames-rest : (m % length ws ≡ 0 → ⊥) → Refused 4 ≡ bandedOf (setRefusal ws cs m i) (framesOf ws m)
+    pub frames-rest : (m % length ws ≡ 0 → ⊥) → Refused 4 ≡ filledOf (setRefusal ws cs m i) (framesOf ws m)
     unfolding setRefusal
     frames-rest h = rw (z, ne-eqb (m % length ws) 0 h)
 
     module _ (q : m % length ws ≡ 0) where
-      pub frames-other : (i ≡ m → ⊥) → Refused 4 ≡ bandedOf (setRefusal ws cs m i) (framesOf ws m)
+      pub frames-other : (i ≡ m → ⊥) → Refused 4 ≡ filledOf (setRefusal ws cs m i) (framesOf ws m)
       unfolding setRefusal
       frames-other h = rw (z, eq-eqb (m % length ws) 0 q, ne-eqb i m h)
 
       module _ (e : i ≡ m) where
-        pub frames-many : 65536 < m / length ws → Refused 5 ≡ bandedOf (setRefusal ws cs m i) (framesOf ws m)
+        pub frames-many : 65536 < m / length ws → Refused 5 ≡ filledOf (setRefusal ws cs m i) (framesOf ws m)
         unfolding setRefusal
         frames-many h = rw (z, eq-eqb (m % length ws) 0 q, eq-eqb i m e, lt-ltb 65536 (m / length ws) h)
 
-        pub frames-few : m / length ws ≤ 65536 → Done (m / length ws) ≡ bandedOf (setRefusal ws cs m i) (framesOf ws m)
+        pub frames-few : m / length ws ≤ 65536 → Done (m / length ws) ≡ filledOf (setRefusal ws cs m i) (framesOf ws m)
         unfolding setRefusal
         frames-few h = rw (z, eq-eqb (m % length ws) 0 q, eq-eqb i m e, le-ltb 65536 (m / length ws) h)
-
-pub passed : (k n m : ℕ) → bandedOf k n ≡ Done m → (k ≡ 0) × (n ≡ m)
-passed zero n m e = (refl, cc)
-passed (suc k) n m e = let z : _≡_ {A = ℕ} 0 1 = cc in absurd (omega arith)
 
 -- what an accepted set of lists has
 pub record Agree (ws : List ℕ) (cs : List Float) (m i : ℕ) : Type 0 where
@@ -136,7 +134,7 @@ module _ (ws : List ℕ) (cs ms us A R : List Float) where
   refuses : (k : ℕ) → refusal ≡ suc k → BandSays ws cs ms us A R (Refused (suc k)) A R
   refuses k e = record { answer = refused-as k _ _ e; matrix = rw e; side = rw e }
 
-  pub band-stops : (K j : ℕ) (r : Banded) → setRefusal ws cs (length ms) (length us) ≡ K → r ≡ bandedOf K n → r ≡ Refused j → BandSays ws cs ms us A R r A R
+  pub band-stops : (K j : ℕ) (r : Filled) → setRefusal ws cs (length ms) (length us) ≡ K → r ≡ filledOf K n → r ≡ Refused j → BandSays ws cs ms us A R r A R
   unfolding bandRefusal
   band-stops zero j r e a b = let z : _≡_ {A = ℕ} 0 1 = cc in absurd (omega arith)
   band-stops (suc k) j r e a b = rw a (refuses k (rw e))
@@ -163,19 +161,13 @@ module _ (ws : List ℕ) (cs ms us A R : List Float) where
         side = rw (none g, o, side-length ws cs n us ms (bandWidth ws));
       }
 
-    pub band-finished : (N W : ℕ) (r : Banded) (X Y : List Float) → N ≡ n → W ≡ bandWidth ws → N * W ≤ length A → N ≤ length R → r ≡ Done N
+    pub band-finished : (N W : ℕ) (r : Filled) (X Y : List Float) → N ≡ n → W ≡ bandWidth ws → N * W ≤ length A → N ≤ length R → r ≡ Done N
         → X ≡ bandRows ws cs N us W → Y ≡ rightSide ws cs N us ms → BandSays ws cs ms us A R r (X ++ drop (N * W) A) (Y ++ drop N R)
     band-finished N W r X Y eN eW h g o e f = rw (o, eN, eW) (band-done (rw (eN, eW) at h) (rw eN at g) X Y (rw (eN, eW) at e) (rw eN at f))
 
 -- ---- one outcome
 
-pub banded-one : (x y : Banded) → Same (banded x) (banded y) → x ≡ y
-banded-one (Done m) (Done n) e = let v = e .1 in cc
-banded-one (Done m) (Refused k) e = let v = e .1 in let z : _≡_ {A = ℕ} 0 1 = cc in absurd (omega arith)
-banded-one (Refused j) (Done n) e = let v = e .1 in let z : _≡_ {A = ℕ} 0 1 = cc in absurd (omega arith)
-banded-one (Refused j) (Refused k) e = ap Refused (e .0)
-
-pub band-one : (ws : List ℕ) (cs ms us A R : List Float) (x y : Banded) (A₁ R₁ A₂ R₂ : List Float)
+pub band-one : (ws : List ℕ) (cs ms us A R : List Float) (x y : Filled) (A₁ R₁ A₂ R₂ : List Float)
     → BandSays ws cs ms us A R x A₁ R₁ → BandSays ws cs ms us A R y A₂ R₂ → (x ≡ y) × (A₁ ≡ A₂) × (R₁ ≡ R₂)
 band-one ws cs ms us A R x y A₁ R₁ A₂ R₂ a b =
-    (banded-one x y (same (a .answer ∙ sym (b .answer))), a .matrix ∙ sym (b .matrix), a .side ∙ sym (b .side))
+    (filled-one x y (same (a .answer ∙ sym (b .answer))), a .matrix ∙ sym (b .matrix), a .side ∙ sym (b .side))

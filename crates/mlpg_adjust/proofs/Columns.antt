@@ -12,11 +12,11 @@ use lib.Ieee.{Float, nan}
 use Rattle.lists.specs.Totals.{total}
 use Rattle.lists.specs.Build.{build}
 use Rattle.lists.proofs.Numbers.{le-or-lt}
-use Rattle.mlpg_adjust.specs.Frames.{fill, count, setsBy, setsLanes}
+use Rattle.mlpg_adjust.specs.Frames.{fill, count}
 use Rattle.mlpg_adjust.specs.Rows.{elem, part}
 use Rattle.mlpg_adjust.specs.Region.{regionOf}
 use Rattle.mlpg_adjust.specs.Trajectory.{streamMask}
-use Rattle.mlpg_adjust.specs.TrajectoryInner.{Columned}
+use Rattle.mlpg_adjust.specs.TrajectoryInner.{Columned, setsBy, setsLanes}
 use Rattle.mlpg_adjust.specs.declared.mask.Voicing.{Voicing}
 use Rattle.lists.proofs.Builds.{build-is}
 use Rattle.mlpg_adjust.proofs.Readings.{part-part}

@@ -1,8 +1,10 @@
 -- Laws that belong to no one function.
+pub mod Counts
 pub mod MaskLaws
 pub mod MaskTheory
 pub mod MaskClosing
 pub mod MaskFilling
+pub mod Ends
 pub mod MaskWays
 pub mod Orders
 pub mod Terms

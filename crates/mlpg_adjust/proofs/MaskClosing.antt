@@ -20,6 +20,7 @@ use Rattle.mlpg_adjust.specs.Frames.{expand, select, count}
 use Rattle.mlpg_adjust.specs.MaskVoicing.{maskOf, weightAt, weightsOf, column}
 use Rattle.mlpg_adjust.specs.MaskBoundaries.{ahead, lefts, rights, shut, closeUp}
 use Rattle.lists.proofs.Builds.{build-at}
+use Rattle.mlpg_adjust.proofs.Counts.{count-append, count-all, count-none, count-most}
 use Rattle.mlpg_adjust.proofs.MaskLaws.{expand-next, part-put, part-length, part-filled}
 use Rattle.mlpg_adjust.proofs.MaskTheory.{expand-length, lefts-length, rights-length, weights-length, weights-at}
 
@@ -51,7 +52,7 @@ module _ {A : Type 0} where
       → drop (frame ds s) (expand ds xs) ≡ replicate (getD ds s 0) (getD xs s z) ++ drop (frame ds (s + 1)) (expand ds xs)
   expand-at ds xs s z e h = expand-drop ds xs s e ∙ expand-next ds xs s z h (omega arith) ∙ rw (expand-drop ds xs (s + 1) e)
 
-  pub items-at : (ds : List ℕ) (xs : List A) (s d : ℕ) (x z : A) → length xs ≡ length ds → s < length ds → d ≡ getD ds s 0 → x ≡ getD xs s z → replicate d x ≡ take d (drop (frame ds s) (expand ds xs))
+  items-at : (ds : List ℕ) (xs : List A) (s d : ℕ) (x z : A) → length xs ≡ length ds → s < length ds → d ≡ getD ds s 0 → x ≡ getD xs s z → replicate d x ≡ take d (drop (frame ds s) (expand ds xs))
   items-at ds xs s d x z e h o q = rw (expand-at ds xs s z e h, o, q) (sym (take-at (replicate (getD ds s 0) (getD xs s z)) _ (getD ds s 0) (length-replicate (getD ds s 0) (getD xs s z))))
 
   -- ---- frames that are voiced or unvoiced together
@@ -68,21 +69,10 @@ module _ {A : Type 0} where
   select-on (suc d) bs [] h = absurd (omega arith)
   select-on (suc d) bs (x ∷ xs) h = ap (λ (l : List A). x ∷ l) (select-on d bs xs (omega arith))
 
-pub count-off : (d : ℕ) (bs : List Bool) → count (replicate d false ++ bs) ≡ count bs
-unfolding count
-count-off zero bs = refl
-count-off (suc d) bs = count-off d bs
-
-pub count-on : (d : ℕ) (bs : List Bool) → count (replicate d true ++ bs) ≡ d + count bs
-unfolding count
-count-on zero bs = omega arith
-count-on (suc d) bs = omega (arith, count-on d bs)
-
-pub count-most : (bs : List Bool) → count bs ≤ length bs
-unfolding count
-count-most [] = omega arith
-count-most (true ∷ bs) = omega (arith, count-most bs)
-count-most (false ∷ bs) = omega (arith, count-most bs)
+-- of frames that are voiced or unvoiced together, all or none are taken
+select-run : {A : Type 0} (b : Bool) (d : ℕ) (bs : List Bool) (xs : List A) → d ≤ length xs → select (replicate d b ++ bs) xs ≡ take (count (replicate d b)) xs ++ select bs (drop d xs)
+select-run true d bs xs h = select-on d bs xs h ∙ rw (count-all d)
+select-run false d bs xs h = select-off d bs xs h ∙ rw (count-none d)
 
 -- ---- the voiced frames of the first s states are closed up: bs is the mask and ys the frames' items
 
@@ -93,8 +83,8 @@ module _ {A : Type 0} (ds : List ℕ) (ys : List A) (s : ℕ) (t : s < length ds
   state-far : getD ds s 0 ≤ length (drop (frame ds s) ys)
   state-far = rw length-drop (omega (arith, frame-next ds s t, total-most ds (s + 1)))
 
-  state-length : (d : ℕ) → d ≡ getD ds s 0 → length (take d (drop (frame ds s) ys)) ≡ d
-  state-length d e = length-take-le d (drop (frame ds s) ys) (rw e state-far)
+  state-length : (b : Bool) (c : ℕ) → c ≡ count (replicate (getD ds s 0) b) → length (take c (drop (frame ds s) ys)) ≡ c
+  state-length b c e = length-take-le c (drop (frame ds s) ys) (omega (arith, e, state-far, count-most (replicate (getD ds s 0) b), length-replicate (getD ds s 0) b))
 
 module _ {A : Type 0} (bs : List Bool) (ds : List ℕ) (ys done : List A) (s : ℕ) where
   -- what is done, with what is to come, is the whole
@@ -111,13 +101,10 @@ module _ {A : Type 0} (bs : List Bool) (ds : List ℕ) (ys done : List A) (s : �
         sym (append-nil done) ∙ rw b at i
 
     module _ (t : s < length ds) (y : length ys ≡ total ds) where
-      pub closed-off : drop (frame ds s) bs ≡ replicate (getD ds s 0) false ++ drop (frame ds (s + 1)) bs → done ++ select (drop (frame ds (s + 1)) bs) (drop (frame ds (s + 1)) ys) ≡ select bs ys
-      closed-off b = rw (← state-rest ds ys s t y, ← select-off (getD ds s 0) (drop (frame ds (s + 1)) bs) (drop (frame ds s) ys) (state-far ds ys s t y), ← b) i
-
-      pub closed-on : (d : ℕ) (w : List A) → drop (frame ds s) bs ≡ replicate (getD ds s 0) true ++ drop (frame ds (s + 1)) bs → d ≡ getD ds s 0 → w ≡ take d (drop (frame ds s) ys)
-          → (done ++ w) ++ select (drop (frame ds (s + 1)) bs) (drop (frame ds (s + 1)) ys) ≡ select bs ys
-      closed-on d w b e o =
-          rw (append-assoc, o, e, ← state-rest ds ys s t y, ← select-on (getD ds s 0) (drop (frame ds (s + 1)) bs) (drop (frame ds s) ys) (state-far ds ys s t y), ← b) i
+      pub closed-next : (b : Bool) (c : ℕ) (w : List A) → drop (frame ds s) bs ≡ replicate (getD ds s 0) b ++ drop (frame ds (s + 1)) bs → c ≡ count (replicate (getD ds s 0) b)
+          → w ≡ take c (drop (frame ds s) ys) → (done ++ w) ++ select (drop (frame ds (s + 1)) bs) (drop (frame ds (s + 1)) ys) ≡ select bs ys
+      closed-next b c w r e o =
+          rw (append-assoc, o, e, ← state-rest ds ys s t y, ← select-run b (getD ds s 0) (drop (frame ds (s + 1)) bs) (drop (frame ds s) ys) (state-far ds ys s t y), ← r) i
 
 -- the same in front of a list, k of them
 module _ {A : Type 0} where
@@ -140,39 +127,37 @@ module _ {A : Type 0} where
         let c : count (drop (frame ds s) bs) ≡ 0 = rw (drop-of-length-le bs l) in
         sym (take-all k out (omega (arith, i .room, i .long))) ∙ closed-all bs ds ys (take k out) s (i .done) e h
 
-    module _ (t : s < length ds) (y : length ys ≡ total ds) where
-      pub closing-off : drop (frame ds s) bs ≡ replicate (getD ds s 0) false ++ drop (frame ds (s + 1)) bs → Closing bs ds ys old out (s + 1) k
-      closing-off b =
+    module _ (t : s < length ds) (y : length ys ≡ total ds) (b : Bool) (r : drop (frame ds s) bs ≡ replicate (getD ds s 0) b ++ drop (frame ds (s + 1)) bs) where
+      run-count : count (drop (frame ds s) bs) ≡ count (replicate (getD ds s 0) b) + count (drop (frame ds (s + 1)) bs)
+      run-count = ap count r ∙ count-append (replicate (getD ds s 0) b) (drop (frame ds (s + 1)) bs)
+
+      pub closing-room : k + count (replicate (getD ds s 0) b) ≤ length out
+      closing-room = omega (arith, i .room, i .long, run-count)
+
+      closing-next : (c : ℕ) (w : List A) → c ≡ count (replicate (getD ds s 0) b) → w ≡ take c (drop (frame ds s) ys) → Closing bs ds ys old (putMid k (k + c - k) out w) (s + 1) (k + c)
+      closing-next c w e o =
+          let m = closing-room in
+          let a : length w ≡ c = ap length o ∙ state-length ds ys s t y b c e in
           record {
             within = omega arith;
-            long = i .long;
-            room = omega (arith, i .room, ap count b, count-off (getD ds s 0) (drop (frame ds (s + 1)) bs));
-            done = closed-off bs ds ys (take k out) s (i .done) t y b;
+            long = same-len-mid k (k + c - k) out w (a ∙ sym (part-length out k c (omega arith))) ∙ i .long;
+            room = omega (arith, i .room, run-count);
+            done = part-put out w k c _ _ (omega arith) a (rw append-assoc at (closed-next bs ds ys (take k out) s (i .done) t y b c w r e o));
           }
 
-      module _ (b : drop (frame ds s) bs ≡ replicate (getD ds s 0) true ++ drop (frame ds (s + 1)) bs) where
-        pub closing-room : k + getD ds s 0 ≤ length out
-        closing-room = omega (arith, i .room, i .long, ap count b, count-on (getD ds s 0) (drop (frame ds (s + 1)) bs))
+  -- a state's item at all of its frames, or at none
+  pub items-run : (ds : List ℕ) (xs : List A) (s : ℕ) (x z : A) → length xs ≡ length ds → s < length ds → x ≡ getD xs s z → (b : Bool) (c : ℕ) → c ≡ count (replicate (getD ds s 0) b)
+      → replicate c x ≡ take c (drop (frame ds s) (expand ds xs))
+  items-run ds xs s x z e t q true c h = items-at ds xs s c x z e t (h ∙ count-all (getD ds s 0)) q
+  items-run ds xs s x z e t q false c h = let n : c ≡ 0 = h ∙ count-none (getD ds s 0) in rw n
 
-        closing-on : (d : ℕ) (w : List A) → d ≡ getD ds s 0 → w ≡ take d (drop (frame ds s) ys) → Closing bs ds ys old (putMid k (k + d - k) out w) (s + 1) (k + d)
-        closing-on d w e o =
-            let r = closing-room in
-            let a : length w ≡ d = ap length o ∙ state-length ds ys s t y d e in
-            record {
-              within = omega arith;
-              long = same-len-mid k (k + d - k) out w (a ∙ sym (part-length out k d (omega arith))) ∙ i .long;
-              room = omega (arith, i .room, ap count b, count-on (getD ds s 0) (drop (frame ds (s + 1)) bs));
-              done = part-put out w k d _ _ (omega arith) a (rw append-assoc at (closed-on bs ds ys (take k out) s (i .done) t y d w b e o));
-            }
-
-  -- a state's item at its frames
   pub closing-filled : (bs : List Bool) (ds : List ℕ) (xs old out : List A) (s k : ℕ) → Closing bs ds (expand ds xs) old out s k → s < length ds → length xs ≡ length ds
-      → drop (frame ds s) bs ≡ replicate (getD ds s 0) true ++ drop (frame ds (s + 1)) bs → (d : ℕ) (x z : A) (w : List A) → d ≡ getD ds s 0 → x ≡ getD xs s z
-      → w ≡ sets (midOf k (k + d - k) out) 0 (replicate d x) → Closing bs ds (expand ds xs) old (putMid k (k + d - k) out w) (s + 1) (k + d)
-  closing-filled bs ds xs old out s k i t e b d x z w o q r =
+      → (b : Bool) → drop (frame ds s) bs ≡ replicate (getD ds s 0) b ++ drop (frame ds (s + 1)) bs → (c : ℕ) (x z : A) (w : List A) → c ≡ count (replicate (getD ds s 0) b) → x ≡ getD xs s z
+      → w ≡ sets (midOf k (k + c - k) out) 0 (replicate c x) → Closing bs ds (expand ds xs) old (putMid k (k + c - k) out w) (s + 1) (k + c)
+  closing-filled bs ds xs old out s k i t e b r c x z w o q v =
       let y = expand-length ds xs e in
-      let room : k + d ≤ length out = omega (arith, closing-room bs ds (expand ds xs) old out s k i t y b) in
-      closing-on bs ds (expand ds xs) old out s k i t y b d w o (part-filled out w k d x room r ∙ items-at ds xs s d x z e t o q)
+      let room : k + c ≤ length out = omega (arith, closing-room bs ds (expand ds xs) old out s k i t y b r) in
+      closing-next bs ds (expand ds xs) old out s k i t y b r c w o (part-filled out w k c x room v ∙ items-run ds xs s x z e t q b c o)
 
 -- ---- the mask of a stream
 
@@ -222,16 +207,19 @@ module _ (u : Voicing) (records : List Float) (ds : List ℕ) where
         let c : count (drop (frame ds s) maskBy) ≡ 0 = rw b in
         omega (arith, k .left)
 
-    module _ (t : s < length ds) where
-      pub counted-off : voicedAt (u .threshold) (weightAt (u .size) records s) ≡ false → Counted (s + 1) n
-      counted-off e = record { within = omega arith; left = omega (arith, k .left, ap count (mask-state s false t e), count-off (getD ds s 0) (drop (frame ds (s + 1)) maskBy)) }
+    -- a state's frames are all voiced, or none of them is
+    module _ (t : s < length ds) (b : Bool) (e : voicedAt (u .threshold) (weightAt (u .size) records s) ≡ b) where
+      state-count : count (drop (frame ds s) maskBy) ≡ count (replicate (getD ds s 0) b) + count (drop (frame ds (s + 1)) maskBy)
+      state-count = ap count (mask-state s b t e) ∙ count-append (replicate (getD ds s 0) b) (drop (frame ds (s + 1)) maskBy)
 
-      module _ (e : voicedAt (u .threshold) (weightAt (u .size) records s) ≡ true) where
-        pub counted-on : (d : ℕ) → d ≡ getD ds s 0 → Counted (s + 1) (n + d)
-        counted-on d o = record { within = omega arith; left = omega (arith, k .left, ap count (mask-state s true t e), count-on (getD ds s 0) (drop (frame ds (s + 1)) maskBy)) }
+      pub counted-next : (c : ℕ) → c ≡ count (replicate (getD ds s 0) b) → Counted (s + 1) (n + c)
+      counted-next c z = record { within = omega arith; left = omega (arith, k .left, state-count) }
 
-        pub counted-fits : n + getD ds s 0 ≤ total ds
-        counted-fits = omega (arith, k .left, ap count (mask-state s true t e), count-on (getD ds s 0) (drop (frame ds (s + 1)) maskBy), count-most maskBy, mask-long)
+      pub counted-room : n + count (replicate (getD ds s 0) b) ≤ count maskBy
+      counted-room = omega (arith, k .left, state-count)
+
+      pub counted-fits : n + count (replicate (getD ds s 0) b) ≤ total ds
+      counted-fits = omega (arith, k .left, state-count, count-most maskBy, mask-long)
 
 -- ---- columns
 

@@ -2,7 +2,7 @@
 use mathlib.Core.Path.{_≡_, refl, sym, ap, _∙_}
 use mathlib.Core.Bool.{Bool, true, false}
 use mathlib.Core.Logic.{_≢_}
-use mathlib.Core.List.{List, [], _∷_, _++_, append-nil}
+use mathlib.Core.List.{List, [], _∷_, _++_}
 use Prim.Native.Nat.{ℕ, zero, suc, _+_, _-_, _*_, _%_, _<_, _≤_}
 use native.Mathlib.Nat.{zero-mul, suc-mul, mul-le-mul-right, add-mul, mod-eq-of-lt, add-mul-mod-self-right}
 use native.Mathlib.Numerals.{add-one}
@@ -11,8 +11,10 @@ use lib.ListN.{length, take, drop, getD, set, replicate, length-set, length-drop
 use lib.Seq.{drop-cons, drop-drop, drop-nil, take-all, set-comm}
 use Rattle.lists.specs.Totals.{total}
 use Rattle.lists.proofs.Rows.{row-fits}
-use Rattle.mlpg_adjust.specs.Frames.{fill, count, setsBy, setsLanes}
-use Rattle.mlpg_adjust.proofs.MaskClosing.{frame, frame-next, total-most, count-on, count-off}
+use Rattle.mlpg_adjust.specs.Frames.{fill, count}
+use Rattle.mlpg_adjust.specs.TrajectoryInner.{setsBy, setsLanes}
+use Rattle.mlpg_adjust.proofs.Counts.{count-append, count-all, count-none}
+use Rattle.mlpg_adjust.proofs.MaskClosing.{frame, frame-next, total-most}
 
 -- ---- the places of a column: j of d are done, and q is the next
 
@@ -154,20 +156,6 @@ module _ {A : Type 0} where
   fill-append none (false ∷ cs) bs xs = ap (λ (l : List A). none ∷ l) (fill-append none cs bs xs)
   fill-append none (true ∷ cs) bs [] = ap (λ (l : List A). none ∷ l) (fill-append none cs bs [] ∙ rw (drop-nil (count cs)))
   fill-append none (true ∷ cs) bs (x ∷ xs) = ap (λ (l : List A). x ∷ l) (fill-append none cs bs xs)
-
-count-append : (cs bs : List Bool) → count (cs ++ bs) ≡ count cs + count bs
-unfolding count
-count-append [] bs = omega arith
-count-append (true ∷ cs) bs = omega (arith, count-append cs bs)
-count-append (false ∷ cs) bs = count-append cs bs
-
-count-all : (d : ℕ) → count (replicate d true) ≡ d
-unfolding count
-count-all d = omega (arith, ap count (append-nil (replicate d true)), count-on d [])
-
-count-none : (d : ℕ) → count (replicate d false) ≡ 0
-unfolding count
-count-none d = ap count (sym (append-nil (replicate d false))) ∙ count-off d []
 
 -- ---- the frames of a state that is voiced, and of one that is not
 

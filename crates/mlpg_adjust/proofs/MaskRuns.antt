@@ -18,7 +18,8 @@ use Rattle.lists.proofs.Fills.{build-length}
 use Rattle.lists.proofs.Numbers.{le-or-lt}
 use Rattle.lists.proofs.Stores.{filled}
 use Rattle.mlpg_adjust.specs.Frames.{expand}
-use Rattle.mlpg_adjust.specs.Rows.{nought, elem}
+use Rattle.floats.specs.Numbers.{nought}
+use Rattle.mlpg_adjust.specs.Rows.{elem}
 use Rattle.mlpg_adjust.specs.MaskBoundaries.{ahead, lefts, rights, shut}
 use Rattle.mlpg_adjust.specs.MaskStates.{shutEnds}
 use Rattle.lists.proofs.Builds.{build-is}

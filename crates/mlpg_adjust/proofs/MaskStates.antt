@@ -15,7 +15,7 @@ use Rattle.model.specs.Pair.{ivarOf}
 use Rattle.mlpg_adjust.specs.Rows.{part, rows}
 use Rattle.mlpg_adjust.specs.MaskWindows.{reachBefore, reachAfter}
 use Rattle.mlpg_adjust.specs.MaskStates.{shutEnds, stateMeans, stateIvars, putPairs, StateFits}
-use Rattle.mlpg_adjust.specs.declared.component.Plan.{Plan}
+use Rattle.mlpg_adjust.specs.declared.solve.Plan.{Plan}
 use Rattle.mlpg_adjust.specs.declared.mask.Voicing.{Voicing}
 use Rattle.lists.proofs.Regions.{stored-at, stored-behind, stored-before}
 use Rattle.mlpg_adjust.proofs.MaskRuns.{ends-nothing}

@@ -2,7 +2,7 @@
 use mathlib.Core.Path.{_≡_, refl, sym, ap, _∙_}
 use mathlib.Core.Bool.{true, false}
 use mathlib.Core.List.{List, [], _∷_, _++_, map}
-use Prim.Native.Nat.{ℕ, zero, suc, _<_, _≤_}
+use Prim.Native.Nat.{ℕ, _<_, _≤_}
 use native.Mathlib.Omega.{arith}
 use borrow.Author.Tests.{ltb-false, lt-ltb, le-ltb, eqb-true, eq-eqb, ne-eqb}
 use lib.ListN.{length, drop, length-map}
@@ -10,32 +10,16 @@ use lib.Dec.{ltb, eqb}
 use lib.Ieee.{Float}
 use Rattle.lists.specs.Totals.{total}
 use Rattle.lists.specs.Refusals.{orElse}
-use Rattle.lists.proofs.Answers.{refusing, Same, same, refused, untouched, accepted, in-front}
+use Rattle.lists.proofs.Answers.{refusing, same, refused, untouched, accepted, in-front}
 use Rattle.model.specs.declared.voice.model.Weight.the-variants.{Given}
 use Rattle.mlpg_adjust.specs.MaskVoicing.{flag, isOn, maskOf}
 use Rattle.mlpg_adjust.specs.MaskBoundaries.{lefts, rights}
-use Rattle.mlpg_adjust.specs.MaskPromise.{masked, maskedOf, tooShort, framesRefusal, maskRefusal, distancesRefusal, maskedDistancesRefusal, MaskSays, DistancesSays, MaskedDistancesSays}
-use Rattle.mlpg_adjust.specs.declared.mask.Masked.{Masked}
-use Rattle.mlpg_adjust.specs.declared.mask.Masked.the-variants.{Done, Refused}
+use Rattle.mlpg_adjust.specs.MaskPromise.{tooShort, framesRefusal, maskRefusal, distancesRefusal, maskedDistancesRefusal, MaskSays, DistancesSays, MaskedDistancesSays}
+use Rattle.mlpg_adjust.specs.Ends.{filledOf}
+use Rattle.mlpg_adjust.specs.declared.Filled.{Filled}
+use Rattle.mlpg_adjust.specs.declared.Filled.the-variants.{Done, Refused}
+use Rattle.mlpg_adjust.proofs.Ends.{stopped, filled-one}
 use Rattle.mlpg_adjust.proofs.MaskTheory.{mask-length, lefts-length, rights-length}
-
--- ---- answers
-
--- an answer of number k that is a refusal: the number is given, whatever comes after
-pub stopped : (k n j : ℕ) → maskedOf k n ≡ Refused j → (0 < j) × ((rest : ℕ) → orElse k rest ≡ j)
-stopped zero n j e = let z : _≡_ {A = ℕ} 0 1 = cc in absurd (omega arith)
-stopped (suc k) n j e = let z : suc k ≡ j = cc in (omega arith, λ rest. z)
-
-pub passed : (k n m : ℕ) → maskedOf k n ≡ Done m → (k ≡ 0) × (n ≡ m)
-passed zero n m e = (refl, cc)
-passed (suc k) n m e = let z : _≡_ {A = ℕ} 0 1 = cc in absurd (omega arith)
-
--- number and values say which answer it is
-pub answer-one : (x y : Masked) → Same (masked x) (masked y) → x ≡ y
-answer-one (Done m) (Done n) e = let v = e .1 in cc
-answer-one (Done m) (Refused k) e = let v = e .1 in let z : _≡_ {A = ℕ} 0 1 = cc in absurd (omega arith)
-answer-one (Refused j) (Done n) e = let v = e .1 in let z : _≡_ {A = ℕ} 0 1 = cc in absurd (omega arith)
-answer-one (Refused j) (Refused k) e = ap Refused (e .0)
 
 -- ---- 3, 4 and 5
 
@@ -85,7 +69,7 @@ module _ (ws : List Float) (threshold : Float) (ds v : List ℕ) where
       let p : maskRefusal ws ds v ≡ 0 → ⊥ = λ z. omega arith in
       record { answer = ap refusing (sym e) ∙ refused _ _ p; flags = untouched _ _ _ p }
 
-  pub mask-stops : (x : Masked) (k : ℕ) → x ≡ maskedOf (framesRefusal (length ws) ds) (total ds) → x ≡ Refused k → MaskSays ws threshold ds v x v
+  pub mask-stops : (x : Filled) (k : ℕ) → x ≡ filledOf (framesRefusal (length ws) ds) (total ds) → x ≡ Refused k → MaskSays ws threshold ds v x v
   mask-stops x k e o = let s = stopped (framesRefusal (length ws) ds) (total ds) k (sym e ∙ o) in rw o (mask-refuses k (s .0) (s .1 (tooShort (total ds) v)))
 
   module _ (z : framesRefusal (length ws) ds ≡ 0) where
@@ -100,8 +84,8 @@ module _ (ws : List Float) (threshold : Float) (ds v : List ℕ) where
         let q : maskRefusal ws ds v ≡ 0 = rw (z, le-ltb (length v) (total ds) (omega arith)) in
         record { answer = accepted _ _ _ q (ap (λ (x : ℕ). x ∷ []) (sym e)); flags = in-front _ n _ w v q o (flags-length ∙ e ∙ sym t) }
 
-pub mask-one : (ws : List Float) (threshold : Float) (ds v : List ℕ) (x y : Masked) (v₁ v₂ : List ℕ) → MaskSays ws threshold ds v x v₁ → MaskSays ws threshold ds v y v₂ → (x ≡ y) × (v₁ ≡ v₂)
-mask-one ws threshold ds v x y v₁ v₂ a b = (answer-one x y (same (a .answer ∙ sym (b .answer))), a .flags ∙ sym (b .flags))
+pub mask-one : (ws : List Float) (threshold : Float) (ds v : List ℕ) (x y : Filled) (v₁ v₂ : List ℕ) → MaskSays ws threshold ds v x v₁ → MaskSays ws threshold ds v y v₂ → (x ≡ y) × (v₁ ≡ v₂)
+mask-one ws threshold ds v x y v₁ v₂ a b = (filled-one x y (same (a .answer ∙ sym (b .answer))), a .flags ∙ sym (b .flags))
 
 -- ---- `boundary_distances`
 
@@ -133,9 +117,9 @@ module _ (v l r : List ℕ) where
             after = in-front _ _ _ r′ r q p (rights-length (map isOn v) ∙ n);
           }
 
-pub distances-one : (v l r : List ℕ) (x y : Masked) (l₁ r₁ l₂ r₂ : List ℕ) → DistancesSays v l r x l₁ r₁ → DistancesSays v l r y l₂ r₂ → (x ≡ y) × (l₁ ≡ l₂) × (r₁ ≡ r₂)
+pub distances-one : (v l r : List ℕ) (x y : Filled) (l₁ r₁ l₂ r₂ : List ℕ) → DistancesSays v l r x l₁ r₁ → DistancesSays v l r y l₂ r₂ → (x ≡ y) × (l₁ ≡ l₂) × (r₁ ≡ r₂)
 distances-one v l r x y l₁ r₁ l₂ r₂ a b =
-    (answer-one x y (same (a .answer ∙ sym (b .answer))), a .before ∙ sym (b .before), a .after ∙ sym (b .after))
+    (filled-one x y (same (a .answer ∙ sym (b .answer))), a .before ∙ sym (b .before), a .after ∙ sym (b .after))
 
 -- ---- `mask_with_distances`
 
@@ -145,7 +129,7 @@ module _ (ws : List Float) (threshold : Float) (ds v l r : List ℕ) where
       let p : maskedDistancesRefusal ws ds v l r ≡ 0 → ⊥ = λ z. omega arith in
       record { answer = ap refusing (sym e) ∙ refused _ _ p; flags = untouched _ _ _ p; before = untouched _ _ _ p; after = untouched _ _ _ p }
 
-  pub masked-stops : (x : Masked) (k : ℕ) → x ≡ maskedOf (framesRefusal (length ws) ds) (total ds) → x ≡ Refused k → MaskedDistancesSays ws threshold ds v l r x v l r
+  pub masked-stops : (x : Filled) (k : ℕ) → x ≡ filledOf (framesRefusal (length ws) ds) (total ds) → x ≡ Refused k → MaskedDistancesSays ws threshold ds v l r x v l r
   masked-stops x k e o = let s = stopped (framesRefusal (length ws) ds) (total ds) k (sym e ∙ o) in rw o (masked-refuses k (s .0) (s .1 (orElse (tooShort (total ds) v) (orElse (tooShort (total ds) l) (tooShort (total ds) r)))))
 
   module _ (z : framesRefusal (length ws) ds ≡ 0) where
@@ -172,7 +156,7 @@ module _ (ws : List Float) (threshold : Float) (ds v l r : List ℕ) where
               after = in-front _ n _ r′ r q t (rights-length (maskOf threshold (map Given ws) ds) ∙ y);
             }
 
-pub masked-one : (ws : List Float) (threshold : Float) (ds v l r : List ℕ) (x y : Masked) (v₁ l₁ r₁ v₂ l₂ r₂ : List ℕ)
+pub masked-one : (ws : List Float) (threshold : Float) (ds v l r : List ℕ) (x y : Filled) (v₁ l₁ r₁ v₂ l₂ r₂ : List ℕ)
     → MaskedDistancesSays ws threshold ds v l r x v₁ l₁ r₁ → MaskedDistancesSays ws threshold ds v l r y v₂ l₂ r₂ → (x ≡ y) × (v₁ ≡ v₂) × (l₁ ≡ l₂) × (r₁ ≡ r₂)
 masked-one ws threshold ds v l r x y v₁ l₁ r₁ v₂ l₂ r₂ a b =
-    (answer-one x y (same (a .answer ∙ sym (b .answer))), a .flags ∙ sym (b .flags), a .before ∙ sym (b .before), a .after ∙ sym (b .after))
+    (filled-one x y (same (a .answer ∙ sym (b .answer))), a .flags ∙ sym (b .flags), a .before ∙ sym (b .before), a .after ∙ sym (b .after))

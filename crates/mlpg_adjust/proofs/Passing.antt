@@ -22,7 +22,8 @@ use Rattle.lists.proofs.Stores.{filled}
 use Rattle.lists.proofs.Sums.{total-more}
 use Rattle.lists.proofs.Fills.{fill-done}
 use Rattle.mlpg_adjust.specs.Sums.{over}
-use Rattle.mlpg_adjust.specs.Rows.{nought, elem, part, rows}
+use Rattle.floats.specs.Numbers.{nought}
+use Rattle.mlpg_adjust.specs.Rows.{elem, part, rows}
 use Rattle.mlpg_adjust.specs.Paper.{W, term, rightTerm, partOf, entrySum, rightSum, entryOf, bandRows, rightSide}
 use Rattle.mlpg_adjust.specs.Inner.{Taps}
 use Rattle.mlpg_adjust.specs.Region.{Spaced, Laid, Rowed}

@@ -23,12 +23,12 @@ use Rattle.mlpg_adjust.specs.TrajectoryInner.{Shaped, Holds, Planned, Di
 use Rattle.mlpg_adjust.specs.declared.GlobalVariance.{GlobalVariance}
 use Rattle.mlpg_adjust.specs.declared.GlobalVariance.the-variants.{Off, On}
 use Rattle.mlpg_adjust.specs.declared.Stream.{Stream}
-use Rattle.mlpg_adjust.specs.declared.component.Plan.{Plan}
+use Rattle.mlpg_adjust.specs.declared.solve.Plan.{Plan}
 use Rattle.mlpg_adjust.specs.declared.gv.MlpgGlobalVariance.{MlpgGlobalVariance}
 use Rattle.mlpg_adjust.specs.declared.mask.Voicing.{Voicing}
 use Rattle.lists.proofs.Builds.{build-same}
 use Rattle.mlpg_adjust.proofs.Columns.{columned-all}
-use Rattle.mlpg_adjust.proofs.MaskClosing.{count-most}
+use Rattle.mlpg_adjust.proofs.Counts.{count-most}
 use Rattle.mlpg_adjust.proofs.TrajectoryLaws.{stream-long}
 use Rattle.lists.proofs.Regions.{returned, stored-behind, stored-whole}
 

@@ -2,10 +2,9 @@
 use mathlib.Core.Path.{_≡_, refl, sym, _∙_}
 use mathlib.Core.Bool.{Bool, true, false, cond}
 use mathlib.Core.List.{List, [], _∷_, map}
-use Prim.Native.Nat.{ℕ, zero, suc, _+_, _-_, _<_, _≤_}
+use Prim.Native.Nat.{ℕ, zero, suc, _+_, _<_, _≤_}
 use native.Mathlib.Numerals.{add-one}
 use native.Mathlib.Omega.{arith}
-use borrow.Author.Tests.{eq-eqb, ne-eqb}
 use lib.Dec.{T, le→leb}
 use lib.IntN.{pos}
 use lib.ListN.{length, getD, drop, drop-of-length-le, length-map, List·getD-map}
@@ -14,12 +13,11 @@ use lib.Ieee.{Float, nan, binary64, add, inFloat}
 use Rattle.lists.specs.Build.{foldFrom}
 use Rattle.mlpg_adjust.specs.Frames.{select, count}
 use Rattle.mlpg_adjust.specs.MaskVoicing.{isOn}
-use Rattle.mlpg_adjust.specs.Sums.{over}
 use Rattle.mlpg_adjust.specs.Rows.{elem}
 use Rattle.mlpg_adjust.specs.Gv.{sumOf}
-use Rattle.mlpg_adjust.specs.GvInner.{firstOn, joinedAt, Counted}
+use Rattle.mlpg_adjust.specs.GvInner.{firstOn, joined, Counted}
 use Rattle.mlpg_adjust.specs.declared.gv.MlpgGlobalVariance.{MlpgGlobalVariance}
-use Rattle.mlpg_adjust.proofs.Orders.{over-step}
+use Rattle.mlpg_adjust.proofs.Counts.{count-most}
 
 -- a whole number up to 2 ^ 53 is a float
 pub exact : (n : ℕ) → n ≤ 9007199254740992 → T (inFloat binary64 (pos n))
@@ -35,12 +33,6 @@ switch-off on t e = sym (List·getD-map isOn on t 0 ∙ rw e)
 
 pub switch-on : (on : List ℕ) (t : ℕ) → (getD on t 0 ≡ 0 → ⊥) → true ≡ getD (map isOn on) t false
 switch-on on t e = sym (List·getD-map isOn on t 0 ∙ on-true (getD on t 0) e)
-
-pub count-most : (bs : List Bool) → count bs ≤ length bs
-unfolding count
-count-most [] = omega arith
-count-most (true ∷ bs) = omega (arith, count-most bs)
-count-most (false ∷ bs) = omega (arith, count-most bs)
 
 first-inside : (bs : List Bool) → 0 < count bs → firstOn bs < length bs
 unfolding count firstOn
@@ -108,41 +100,20 @@ module _ (on : List ℕ) where
     unfolding sumOf
     sum-first k e o h = let q : firstOn bools < length bools = omega (arith, bools-length) in rw (select-first bools par (bools-length ∙ e) q, ← o, add-one)
 
-    pub sum-on : (k : ℕ) (a : Float) → k < length on → length on ≡ length par → getD bools k false ≡ true → sumFrom (add binary64 a (f (elem par k))) (k + 1) ≡ sumFrom a k
+    sum-on : (k : ℕ) (a : Float) → k < length on → length on ≡ length par → getD bools k false ≡ true → sumFrom (add binary64 a (f (elem par k))) (k + 1) ≡ sumFrom a k
     unfolding select foldFrom
     sum-on k a h e o = rw (next k h, o, drop-cons par k nan (omega arith), add-one)
 
-    pub sum-off : (k : ℕ) (a : Float) → k < length on → length on ≡ length par → getD bools k false ≡ false → sumFrom a (k + 1) ≡ sumFrom a k
+    sum-off : (k : ℕ) (a : Float) → k < length on → length on ≡ length par → getD bools k false ≡ false → sumFrom a (k + 1) ≡ sumFrom a k
     unfolding select foldFrom
     sum-off k a h e o = rw (next k h, o, drop-cons par k nan (omega arith), add-one)
+
+    pub sum-next : (k : ℕ) (a : Float) → k < length on → length on ≡ length par → sumFrom (joined f bools par k a) (k + 1) ≡ sumFrom a k
+    sum-next k a h e = (elim (getD bools k false) as (λ b. getD bools k false ≡ b → sumFrom (cond b (add binary64 a (f (elem par k))) a) (k + 1) ≡ sumFrom a k) [ true ↦ λ o. sum-on k a h e o | false ↦ λ o. sum-off k a h e o ]) refl
 
     pub sum-end : (k : ℕ) (a : Float) → length on ≤ k → sumFrom a k ≡ a
     unfolding select foldFrom
     sum-end k a h = rw (none k h)
-
-    -- ---- the same frame by frame
-
-    abbrev join : ℕ → ℕ → Float → Float
-    join k = joinedAt f bools k par
-
-    -- the first frame starts the sum, whatever stands before it
-    join-first : (k : ℕ) (y : Float) → over (join k) (k + 1) y ≡ f (elem par k)
-    join-first k y = sym (over-step (join k) k y) ∙ rw (eq-eqb k k refl)
-
-    join-next : (k t : ℕ) (y : Float) → k < t → t < length on → length on ≡ length par → sumFrom (join k t y) (t + 1) ≡ sumFrom y t
-    join-next k t y h l e = let d : t ≡ k → ⊥ = λ (i : t ≡ k). omega arith in
-        rw (ne-eqb t k d) ((elim (getD bools t false) as (λ b. getD bools t false ≡ b → sumFrom (cond b (add binary64 y (f (elem par t))) y) (t + 1) ≡ sumFrom y t) [ true ↦ λ o. sum-on t y l e o | false ↦ λ o. sum-off t y l e o ]) refl)
-
-    joins : (k j : ℕ) (y : Float) → length on ≡ length par → k ≡ firstOn bools → k + 1 + j ≤ length on → sumFrom (over (join k) (k + 1 + j) y) (k + 1 + j) ≡ sumOf f (select bools par)
-    joins k zero y e o h = let z : k + 1 + 0 ≡ k + 1 = omega arith in rw (z, join-first k y) (sum-first k e o (omega arith))
-    joins k (suc j) y e o h =
-        let q : k + 1 + suc j ≡ k + 1 + j + 1 = omega arith in
-        rw (q, ← over-step (join k) (k + 1 + j) y) (join-next k (k + 1 + j) (over (join k) (k + 1 + j) y) (omega arith) (omega arith) e ∙ joins k j y e o (omega arith))
-
-    pub join-all : (k n : ℕ) (y : Float) → length on ≡ length par → k ≡ firstOn bools → k < length on → n ≡ length on → over (join k) n y ≡ sumOf f (select bools par)
-    join-all k n y e o h q =
-        let z : n ≡ k + 1 + (n - (k + 1)) = omega arith in
-        sym (sum-end n (over (join k) n y) (omega arith)) ∙ rw z (joins k (n - (k + 1)) y e o (omega arith))
 
   -- ---- what is known where some frame is switched
 

@@ -11,7 +11,8 @@ use lib.ListN.{length, getD}
 use lib.Ieee.{Float, nan, binary64, add, mul, eq}
 use Rattle.lists.proofs.Numbers.{le-or-lt}
 use Rattle.lists.proofs.Rows.{row-fits, row-in}
-use Rattle.mlpg_adjust.specs.Rows.{nought, elem, part}
+use Rattle.floats.specs.Numbers.{nought}
+use Rattle.mlpg_adjust.specs.Rows.{elem, part}
 use Rattle.mlpg_adjust.specs.Paper.{W, added, term, rightTerm}
 use Rattle.mlpg_adjust.specs.Region.{Spaced}
 use Rattle.mlpg_adjust.specs.Passes.{Along, Moved, atFrame, tapEntry, tapSide, within, still, inColumn}

@@ -13,7 +13,8 @@ use lib.Ieee.{Float, nan, binary64, ofBits, add, mul, eq}
 use Rattle.lists.specs.Build.{build}
 use Rattle.lists.proofs.Fills.{build-length, build-next, build-read}
 use Rattle.lists.proofs.Numbers.{le-or-lt}
-use Rattle.mlpg_adjust.specs.Rows.{nought, elem, part}
+use Rattle.floats.specs.Numbers.{nought}
+use Rattle.mlpg_adjust.specs.Rows.{elem, part}
 use Rattle.mlpg_adjust.specs.Paper.{W, added, term, rightTerm}
 use Rattle.mlpg_adjust.specs.Inner.{onRow}
 use Rattle.lists.proofs.Builds.{build-at, build-is, build-same, build-rest}

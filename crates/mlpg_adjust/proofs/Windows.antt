@@ -16,7 +16,8 @@ use Rattle.lists.proofs.Stores.{filled}
 use Rattle.lists.proofs.Fills.{fill-done}
 use Rattle.lists.proofs.Rows.{row-fits}
 use Rattle.mlpg_adjust.specs.Sums.{over}
-use Rattle.mlpg_adjust.specs.Rows.{nought, part}
+use Rattle.floats.specs.Numbers.{nought}
+use Rattle.mlpg_adjust.specs.Rows.{part}
 use Rattle.mlpg_adjust.specs.Paper.{W, term, rightTerm, partOf, entrySum, rightSum, entryOf}
 use Rattle.mlpg_adjust.specs.Inner.{onRow, Fits}
 use Rattle.mlpg_adjust.proofs.Orders.{over-idle}

@@ -8,7 +8,8 @@ use lib.Ieee.{Float, fin, ofBits, add, sub, mul, div, eq}
 use Rattle.lists.specs.Build.{build}
 use Rattle.lists.specs.Totals.{total}
 use Rattle.mlpg_adjust.specs.Sums.{over, less}
-use Rattle.mlpg_adjust.specs.Rows.{nought, rows}
+use Rattle.floats.specs.Numbers.{nought}
+use Rattle.mlpg_adjust.specs.Rows.{rows}
 use Rattle.mlpg_adjust.specs.Paper.{W, term, rightTerm, entrySum, rightSum, entryOf, bandRows, rightSide}
 use Rattle.mlpg_adjust.specs.Solve.{factorAt, factor, forward, backward, solution}
 

@@ -2,26 +2,16 @@
 use mathlib.Core.Path.{_≡_}
 use mathlib.Core.Bool.{cond}
 use mathlib.Core.List.{List, [], _∷_}
-use Prim.Native.Nat.{ℕ, zero, suc, _*_, _/_, _%_}
+use Prim.Native.Nat.{ℕ, _*_, _/_, _%_}
 use lib.ListN.{length}
 use lib.Dec.{ltb, eqb}
 use lib.Ieee.{Float}
 use Rattle.lists.specs.Refusals.{orElse}
-use Rattle.lists.specs.Answers.{Answer, answerOf, written}
+use Rattle.lists.specs.Answers.{answerOf, written}
 use Rattle.model.specs.Windows.{windowRefusal, bandWidth}
 use Rattle.mlpg_adjust.specs.Paper.{bandRows, rightSide}
-use Rattle.mlpg_adjust.specs.declared.band.Banded.{Banded}
-use Rattle.mlpg_adjust.specs.declared.band.Banded.the-variants.{Done, Refused}
-
--- 01's number and values of an answer: the frame count, of an accepted call alone
-abbrev pub banded : Banded → Answer
-banded (Done n) = record { number = 0; values = n ∷ [] }
-banded (Refused k) = record { number = k; values = [] }
-
--- the answer of a number, with n frames where nothing is refused
-abbrev pub bandedOf : ℕ → ℕ → Banded
-bandedOf zero n = Done n
-bandedOf (suc k) n = Refused (suc k)
+use Rattle.mlpg_adjust.specs.Ends.{filled}
+use Rattle.mlpg_adjust.specs.declared.Filled.{Filled}
 
 -- a number a window and frame: means / windows frames
 abbrev pub framesOf : List ℕ → ℕ → ℕ
@@ -42,7 +32,7 @@ bandRefusal widths coefs means ivars rows right =
     orElse (setRefusal widths coefs (length means) (length ivars)) (orElse (cond (ltb (length rows) (n * bandWidth widths)) 6 0) (cond (ltb (length right) n) 6 0))
 
 -- the frame count, the rows and the right side
-pub record BandSays (widths : List ℕ) (coefs means ivars rows right : List Float) (r : Banded) (rows′ right′ : List Float) : Type 0 where
-  pub answer : banded r ≡ answerOf (bandRefusal widths coefs means ivars rows right) (framesOf widths (length means) ∷ [])
+pub record BandSays (widths : List ℕ) (coefs means ivars rows right : List Float) (r : Filled) (rows′ right′ : List Float) : Type 0 where
+  pub answer : filled r ≡ answerOf (bandRefusal widths coefs means ivars rows right) (framesOf widths (length means) ∷ [])
   pub matrix : rows′ ≡ written (bandRefusal widths coefs means ivars rows right) (bandRows widths coefs (framesOf widths (length means)) ivars (bandWidth widths)) rows
   pub side : right′ ≡ written (bandRefusal widths coefs means ivars rows right) (rightSide widths coefs (framesOf widths (length means)) ivars means) right

@@ -1,8 +1,8 @@
 -- A state's items become its frames', and those of voiced frames are closed up and filled back. Assumes nothing.
 use mathlib.Core.Bool.{Bool, true, false}
 use mathlib.Core.List.{List, [], _∷_, _++_}
-use Prim.Native.Nat.{ℕ, zero, suc, _+_}
-use lib.ListN.{replicate, set}
+use Prim.Native.Nat.{ℕ, suc}
+use lib.ListN.{replicate}
 
 module _ {A : Type 0} where
   -- mod.rs, `duration`: each state's item once for each of its frames. 01, Mask and boundaries: "Durations of 0 give no frames."
@@ -24,17 +24,6 @@ module _ {A : Type 0} where
   fill none (false ∷ bs) xs = none ∷ fill none bs xs
   fill none (true ∷ bs) [] = none ∷ fill none bs []
   fill none (true ∷ bs) (x ∷ xs) = x ∷ fill none bs xs
-
-  -- 01, Sizes: a component's numbers stand at "frame × v + component": xs at the places p, p + v, p + 2 × v, and so on
-  unfoldable pub setsBy : ℕ → ℕ → List A → List A → List A
-  setsBy v p [] out = out
-  setsBy v p (x ∷ xs) out = setsBy v (p + v) xs (set out p x)
-
-  -- and those of n components side by side: xs l from place p + l on, lane after lane
-  unfoldable pub setsLanes : ℕ → ℕ → (ℕ → List A) → ℕ → List A → List A
-  unfolding setsBy
-  setsLanes v p xs zero out = out
-  setsLanes v p xs (suc n) out = setsBy v (p + n) (xs n) (setsLanes v p xs n out)
 
 -- how many frames are voiced
 unfoldable pub count : List Bool → ℕ

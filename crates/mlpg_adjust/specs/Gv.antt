@@ -4,18 +4,15 @@ use mathlib.Core.Bool.{Bool, false, cond}
 use mathlib.Core.List.{List, [], _∷_}
 use lib.ListN.{length, getD}
 use lib.Dec.{ltb, leb}
-use lib.IntN.{pos}
-use lib.Ieee.{Float, nan, binary64, ofInt, ofBits, add, sub, mul, div, neg, lt}
+use lib.Ieee.{Float, nan, binary64, ofBits, add, sub, mul, div, neg, lt}
 use Rattle.lists.specs.Build.{build, foldFrom}
 use Rattle.floats.specs.Root.{sqrtOf}
 use Rattle.mlpg_adjust.specs.Frames.{select, count}
 use Rattle.mlpg_adjust.specs.Sums.{over}
-use Rattle.mlpg_adjust.specs.Rows.{nought, elem, entry}
+use Rattle.floats.specs.Numbers.{nought, one, number}
+use Rattle.mlpg_adjust.specs.Rows.{elem, entry}
 
--- ---- constants: 1.0, which W1 and W2 are too, 2.0, 0.5; STEPINIT 0.1, STEPDEC 0.5, STEPINC 1.2
-
-abbrev pub one : Float
-one = ofBits binary64 0x3ff0000000000000
+-- ---- constants: W1 and W2 1.0, then 2.0, 0.5; STEPINIT 0.1, STEPDEC 0.5, STEPINC 1.2
 
 abbrev pub W1 : Float
 W1 = one
@@ -38,10 +35,6 @@ stepDec = ofBits binary64 0x3fe0000000000000
 abbrev pub stepInc : Float
 stepInc = ofBits binary64 0x3ff3333333333333
 
--- `n as f64`
-abbrev pub asFloat : ℕ → Float
-asFloat n = ofInt binary64 (pos n)
-
 -- ---- `calc_gv`: mean and variance of the switched values
 
 -- 01, Global variance: "The mean's and variance's sums start with their first term"; of no term it is never asked
@@ -52,14 +45,14 @@ sumOf f (x ∷ xs) = foldFrom (λ a y. add binary64 a (f y)) (f x) xs
 
 unfoldable pub meanOf : List Bool → List Float → Float
 unfolding sumOf select count
-meanOf on par = div binary64 (sumOf (λ x. x) (select on par)) (asFloat (count on))
+meanOf on par = div binary64 (sumOf (λ x. x) (select on par)) (number (count on))
 
 abbrev pub squared : Float → Float → Float
 squared mean x = mul binary64 (sub binary64 x mean) (sub binary64 x mean)
 
 unfoldable pub variOf : List Bool → List Float → Float
 unfolding sumOf select count meanOf
-variOf on par = div binary64 (sumOf (squared (meanOf on par)) (select on par)) (asFloat (count on))
+variOf on par = div binary64 (sumOf (squared (meanOf on par)) (select on par)) (number (count on))
 
 -- ---- `conv_gv`: the switched values drawn apart about their mean
 
@@ -99,7 +92,7 @@ gradient w wuw par = build (gradientAt w wuw par) (length par)
 
 -- `w`: 1 / (number of windows × frames)
 abbrev pub weightOf : ℕ → ℕ → Float
-weightOf windows n = div binary64 one (asFloat (windows * n))
+weightOf windows n = div binary64 one (number (windows * n))
 
 abbrev pub hmmTerm : Float → Float → Float → Float → Float
 hmmTerm weight m g p = mul binary64 (mul binary64 (mul binary64 W1 weight) p) (sub binary64 m (mul binary64 half g))
@@ -125,12 +118,12 @@ sizeAfter step prev obj = cond (lt prev obj) (mul binary64 step stepDec) (cond (
 abbrev pub hOf : Float → ℕ → Float → Float → Float → Float → Float → Float
 hOf weight n gvMean gvVari vari diagonal d =
     sub binary64 (mul binary64 (mul binary64 (neg W1) weight) diagonal)
-    (mul binary64 (div binary64 (mul binary64 W2 two) (asFloat (n * n)))
-    (add binary64 (mul binary64 (mul binary64 (asFloat (n - 1)) gvVari) (sub binary64 vari gvMean))
+    (mul binary64 (div binary64 (mul binary64 W2 two) (number (n * n)))
+    (add binary64 (mul binary64 (mul binary64 (number (n - 1)) gvVari) (sub binary64 vari gvMean))
     (mul binary64 (mul binary64 (mul binary64 two gvVari) d) d)))
 
 abbrev pub dvOf : ℕ → Float → Float → Float → Float
-dvOf n gvMean gvVari vari = div binary64 (mul binary64 (mul binary64 (neg two) gvVari) (sub binary64 vari gvMean)) (asFloat n)
+dvOf n gvMean gvVari vari = div binary64 (mul binary64 (mul binary64 (neg two) gvVari) (sub binary64 vari gvMean)) (number n)
 
 -- `next_g`: b is the frame's switch, g its gradient, m its right side
 abbrev pub nextG : Float → Float → Float → Bool → Float → Float → Float → Float

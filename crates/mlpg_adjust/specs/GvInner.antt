@@ -5,11 +5,11 @@ use mathlib.Core.Bool.{Bool, true, false, cond}
 use mathlib.Core.List.{List, [], _∷_}
 use lib.ListN.{length, getD}
 use lib.Seq.{sets}
-use lib.Dec.{eqb}
 use lib.Ieee.{Float, binary64, add, sub, mul, div, neg}
 use Rattle.lists.specs.Build.{build}
 use Rattle.mlpg_adjust.specs.Frames.{count}
-use Rattle.mlpg_adjust.specs.Gv.{W1, W2, two, asFloat, gradientAt, weightOf, dvOf, nextG}
+use Rattle.floats.specs.Numbers.{number}
+use Rattle.mlpg_adjust.specs.Gv.{W1, W2, two, gradientAt, weightOf, dvOf, nextG}
 use Rattle.mlpg_adjust.specs.Rows.{elem, part}
 use Rattle.mlpg_adjust.specs.Parmgen.{state, turn}
 use Rattle.mlpg_adjust.specs.Region.{Spaced}
@@ -23,13 +23,9 @@ firstOn [] = 0
 firstOn (true ∷ bs) = 0
 firstOn (false ∷ bs) = suc (firstOn bs)
 
--- a sum of the switched frames' numbers with frame t's x: the first starts it
-abbrev pub joined : ℕ → ℕ → Bool → Float → Float → Float
-joined first t b x sum = cond (eqb t first) x (cond b (add binary64 sum x) sum)
-
--- the same for f of each value
-abbrev pub joinedAt : (Float → Float) → List Bool → ℕ → List Float → ℕ → Float → Float
-joinedAt f on first par t sum = joined first t (getD on t false) (f (elem par t)) sum
+-- a sum with f of frame t's value, if that is switched
+abbrev pub joined : (Float → Float) → List Bool → List Float → ℕ → Float → Float
+joined f on par t sum = cond (getD on t false) (add binary64 sum (f (elem par t))) sum
 
 -- what it says of the switches
 pub record Counted (g : MlpgGlobalVariance) (on : List Bool) : Type 0 where
@@ -53,8 +49,8 @@ Graded p n w d m t = m ≡ sets d (p .factors) (build (gradientAt w (part (p .ro
 pub record Pulls (s : Pull) (windows n : ℕ) (gvMean gvVari average vari size : Float) : Type 0 where
   pub weight : s .weight ≡ weightOf windows n
   pub dv : s .dv ≡ dvOf n gvMean gvVari vari
-  pub scale : s .scale ≡ div binary64 (mul binary64 W2 two) (asFloat (n * n))
-  pub spread : s .spread ≡ mul binary64 (mul binary64 (asFloat (n - 1)) gvVari) (sub binary64 vari gvMean)
+  pub scale : s .scale ≡ div binary64 (mul binary64 W2 two) (number (n * n))
+  pub spread : s .spread ≡ mul binary64 (mul binary64 (number (n - 1)) gvVari) (sub binary64 vari gvMean)
   pub twice : s .twice ≡ mul binary64 two gvVari
   pub mean : s .mean ≡ average
   pub step : s .step ≡ size

@@ -4,6 +4,7 @@ pub mod MaskVoicing
 pub mod MaskBoundaries
 pub mod MaskWindows
 pub mod MaskStates
+pub mod Ends
 pub mod MaskPromise
 pub mod MaskCases
 pub mod Sums

@@ -2,8 +2,8 @@
 use mathlib.Core.Path.{_≡_, refl}
 use mathlib.Core.Bool.{Bool, true, false}
 use mathlib.Core.List.{List, [], _∷_}
-use lib.IntN.{pos}
-use lib.Ieee.{Float, nan, fin, ofBits, lt}
+use lib.Ieee.{nan, ofBits, lt}
+use Rattle.floats.specs.Numbers.{nought, one}
 use Rattle.model.specs.declared.voice.model.Weight.the-variants.{Given}
 use Rattle.mlpg_adjust.specs.Frames.{expand, fill}
 use Rattle.mlpg_adjust.specs.MaskVoicing.{maskOf}
@@ -21,15 +21,9 @@ pub right-distances : rights runs ≡ 2 ∷ 1 ∷ 0 ∷ 0 ∷ 0 ∷ []
 unfolding rights ahead
 right-distances = refl
 
-abbrev one : Float
-one = fin false 1 (pos 0)
-
-abbrev nought : Float
-nought = fin false 0 (pos 0)
-
 -- at the threshold and NaN are unvoiced, a state of no frames has no part
 pub frames : maskOf nought (Given one ∷ Given nought ∷ Given one ∷ Given nan ∷ []) (2 ∷ 1 ∷ 0 ∷ 1 ∷ []) ≡ true ∷ true ∷ false ∷ false ∷ []
-unfolding maskOf expand lt
+unfolding maskOf expand lt ofBits
 frames = refl
 
 -- 01, case 10: a window of three over three voiced frames loses its first and its last

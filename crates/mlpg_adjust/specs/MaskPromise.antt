@@ -2,28 +2,18 @@
 use mathlib.Core.Path.{_≡_}
 use mathlib.Core.Bool.{cond, not}
 use mathlib.Core.List.{List, [], _∷_, map}
-use Prim.Native.Nat.{ℕ, zero, suc}
+use Prim.Native.Nat.{ℕ}
 use lib.ListN.{length}
 use lib.Dec.{ltb, eqb}
 use lib.Ieee.{Float}
 use Rattle.lists.specs.Totals.{total}
 use Rattle.lists.specs.Refusals.{orElse}
-use Rattle.lists.specs.Answers.{Answer, answerOf, written}
+use Rattle.lists.specs.Answers.{answerOf, written}
 use Rattle.model.specs.declared.voice.model.Weight.the-variants.{Given}
 use Rattle.mlpg_adjust.specs.MaskVoicing.{flag, isOn, maskOf}
 use Rattle.mlpg_adjust.specs.MaskBoundaries.{lefts, rights}
-use Rattle.mlpg_adjust.specs.declared.mask.Masked.{Masked}
-use Rattle.mlpg_adjust.specs.declared.mask.Masked.the-variants.{Done, Refused}
-
--- 01's number and values of an answer: the frame count, of an accepted call alone
-abbrev pub masked : Masked → Answer
-masked (Done n) = record { number = 0; values = n ∷ [] }
-masked (Refused k) = record { number = k; values = [] }
-
--- the answer of a number, with n frames where nothing is refused
-abbrev pub maskedOf : ℕ → ℕ → Masked
-maskedOf zero n = Done n
-maskedOf (suc k) n = Refused (suc k)
+use Rattle.mlpg_adjust.specs.Ends.{filled}
+use Rattle.mlpg_adjust.specs.declared.Filled.{Filled}
 
 -- 01, Refusal numbers: 5 for a total above 65,536
 abbrev pub tooMany : ℕ → ℕ
@@ -51,19 +41,19 @@ maskedDistancesRefusal ws ds voiced left right =
     orElse (framesRefusal (length ws) ds) (orElse (tooShort (total ds) voiced) (orElse (tooShort (total ds) left) (tooShort (total ds) right)))
 
 -- `mask`: the frame count, and the flags
-pub record MaskSays (ws : List Float) (threshold : Float) (ds voiced : List ℕ) (r : Masked) (voiced′ : List ℕ) : Type 0 where
-  pub answer : masked r ≡ answerOf (maskRefusal ws ds voiced) (total ds ∷ [])
+pub record MaskSays (ws : List Float) (threshold : Float) (ds voiced : List ℕ) (r : Filled) (voiced′ : List ℕ) : Type 0 where
+  pub answer : filled r ≡ answerOf (maskRefusal ws ds voiced) (total ds ∷ [])
   pub flags : voiced′ ≡ written (maskRefusal ws ds voiced) (map flag (maskOf threshold (map Given ws) ds)) voiced
 
 -- `boundary_distances`: the frame count, and the distances of any flags
-pub record DistancesSays (voiced left right : List ℕ) (r : Masked) (left′ right′ : List ℕ) : Type 0 where
-  pub answer : masked r ≡ answerOf (distancesRefusal (length voiced) left right) (length voiced ∷ [])
+pub record DistancesSays (voiced left right : List ℕ) (r : Filled) (left′ right′ : List ℕ) : Type 0 where
+  pub answer : filled r ≡ answerOf (distancesRefusal (length voiced) left right) (length voiced ∷ [])
   pub before : left′ ≡ written (distancesRefusal (length voiced) left right) (lefts 0 (map isOn voiced)) left
   pub after : right′ ≡ written (distancesRefusal (length voiced) left right) (rights (map isOn voiced)) right
 
 -- `mask_with_distances`: the frame count, the flags and the mask's distances
-pub record MaskedDistancesSays (ws : List Float) (threshold : Float) (ds voiced left right : List ℕ) (r : Masked) (voiced′ left′ right′ : List ℕ) : Type 0 where
-  pub answer : masked r ≡ answerOf (maskedDistancesRefusal ws ds voiced left right) (total ds ∷ [])
+pub record MaskedDistancesSays (ws : List Float) (threshold : Float) (ds voiced left right : List ℕ) (r : Filled) (voiced′ left′ right′ : List ℕ) : Type 0 where
+  pub answer : filled r ≡ answerOf (maskedDistancesRefusal ws ds voiced left right) (total ds ∷ [])
   pub flags : voiced′ ≡ written (maskedDistancesRefusal ws ds voiced left right) (map flag (maskOf threshold (map Given ws) ds)) voiced
   pub before : left′ ≡ written (maskedDistancesRefusal ws ds voiced left right) (lefts 0 (maskOf threshold (map Given ws) ds)) left
   pub after : right′ ≡ written (maskedDistancesRefusal ws ds voiced left right) (rights (maskOf threshold (map Given ws) ds)) right

@@ -10,7 +10,7 @@ use Rattle.model.specs.Pair.{ivarOf}
 use Rattle.model.specs.Record.{pairNumber}
 use Rattle.mlpg_adjust.specs.MaskBoundaries.{shut}
 use Rattle.mlpg_adjust.specs.MaskWindows.{reachBefore, reachAfter}
-use Rattle.mlpg_adjust.specs.declared.component.Plan.{Plan}
+use Rattle.mlpg_adjust.specs.declared.solve.Plan.{Plan}
 use Rattle.mlpg_adjust.specs.declared.mask.Voicing.{Voicing}
 
 -- an inverse variance at d frames, of which the first `before` and the last `after` get 0

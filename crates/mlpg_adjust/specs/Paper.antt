@@ -10,7 +10,8 @@ use Rattle.lists.specs.Totals.{total}
 use Rattle.lists.specs.Build.{build}
 use Rattle.model.specs.Windows.{windowOf}
 use Rattle.mlpg_adjust.specs.Sums.{over}
-use Rattle.mlpg_adjust.specs.Rows.{nought, elem, part, rows}
+use Rattle.floats.specs.Numbers.{nought}
+use Rattle.mlpg_adjust.specs.Rows.{elem, part, rows}
 
 -- the paper's W(f, t) of one window, its coefficient for column t in row f: tap number t + half - f where it has that tap, and zero elsewhere
 unfoldable pub W : List Float → ℕ → ℕ → Float

@@ -9,7 +9,8 @@ use lib.Dec.{ltb, leb, eqb}
 use lib.Ieee.{Float}
 use Rattle.model.specs.Windows.{windowOf}
 use Rattle.mlpg_adjust.specs.Sums.{over}
-use Rattle.mlpg_adjust.specs.Rows.{nought, elem, part}
+use Rattle.floats.specs.Numbers.{nought}
+use Rattle.mlpg_adjust.specs.Rows.{elem, part}
 use Rattle.mlpg_adjust.specs.Paper.{term, rightTerm, partOf}
 use Rattle.mlpg_adjust.specs.declared.solve.Places.{Places}
 use Rattle.mlpg_adjust.specs.declared.passes.Span.{Span}

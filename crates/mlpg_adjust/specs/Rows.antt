@@ -2,11 +2,7 @@
 use Prim.Native.Nat.{ℕ, zero, suc, _+_, _*_}
 use mathlib.Core.List.{List, [], _++_}
 use lib.ListN.{getD, take, drop}
-use lib.Ieee.{Float, nan, binary64, ofBits}
-
--- +0
-abbrev pub nought : Float
-nought = ofBits binary64 0
+use lib.Ieee.{Float, nan}
 
 -- element i of a list
 abbrev pub elem : List Float → ℕ → Float

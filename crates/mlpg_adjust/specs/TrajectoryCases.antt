@@ -5,6 +5,7 @@ use mathlib.Core.Bool.{false}
 use mathlib.Core.List.{List, [], _∷_, map}
 use Prim.Native.Nat.{ℕ}
 use lib.Ieee.{Float, binary64, ofBits, toBits, lt, eq, add, mul, div}
+use Rattle.floats.specs.Numbers.{one}
 use Rattle.floats.specs.Order.{absOf}
 use Rattle.model.specs.Pair.{ivarOf}
 use Rattle.model.specs.Record.{fromLinear}
@@ -16,9 +17,6 @@ use Rattle.mlpg_adjust.specs.Trajectory.{recordSize, matrix, side}
 -- 1, 2, 3, -0.5, 0.5 and 0
 abbrev f : ℕ → Float
 f b = ofBits binary64 b
-
-abbrev one : Float
-one = f 0x3ff0_0000_0000_0000
 
 abbrev records : List Float
 records = one ∷ one ∷ one ∷ one ∷ f 0x4000_0000_0000_0000 ∷ one ∷ one ∷ one ∷ f 0x4008_0000_0000_0000 ∷ one ∷ one ∷ one ∷ []

@@ -1,9 +1,9 @@
 -- What only the contracts of the trajectory's private functions say. Assumes nothing.
 use mathlib.Core.Path.{_≡_}
 use mathlib.Core.Bool.{true}
-use mathlib.Core.List.{List, map}
-use Prim.Native.Nat.{ℕ, _+_, _*_, _/_, _%_, _<_, _≤_}
-use lib.ListN.{length}
+use mathlib.Core.List.{List, [], _∷_, map}
+use Prim.Native.Nat.{ℕ, zero, suc, _+_, _*_, _/_, _%_, _<_, _≤_}
+use lib.ListN.{length, set}
 use lib.Ieee.{Float, binary64, mul}
 use Rattle.lists.specs.Totals.{total}
 use Rattle.model.specs.Windows.{bandWidth}
@@ -19,7 +19,7 @@ use Rattle.mlpg_adjust.specs.GvInner.{Sized, Counted}
 use Rattle.mlpg_adjust.specs.Trajectory.{gvOn, withGv, sizeOf, streamMask, matrix, side, solved}
 use Rattle.mlpg_adjust.specs.declared.GlobalVariance.{GlobalVariance}
 use Rattle.mlpg_adjust.specs.declared.Stream.{Stream}
-use Rattle.mlpg_adjust.specs.declared.component.Plan.{Plan}
+use Rattle.mlpg_adjust.specs.declared.solve.Plan.{Plan}
 use Rattle.mlpg_adjust.specs.declared.gv.MlpgGlobalVariance.{MlpgGlobalVariance}
 use Rattle.mlpg_adjust.specs.declared.mask.Voicing.{Voicing}
 use Rattle.mlpg_adjust.specs.declared.solve.Places.{Places}
@@ -101,3 +101,15 @@ columnOf u v records ds widths coefs switch on gv none component =
 -- the first c columns of v stand in the trajectory
 pub record Columned (f : ℕ → List Float) (v c : ℕ) (out : List Float) : Type 0 where
   pub stands : (p : ℕ) → p < length out → p % v < c → elem out p ≡ elem (f (p % v)) (p / v)
+
+module _ {A : Type 0} where
+  -- 01, Sizes: a component's numbers stand at "frame × v + component": xs at the places p, p + v, p + 2 × v, and so on
+  unfoldable pub setsBy : ℕ → ℕ → List A → List A → List A
+  setsBy v p [] out = out
+  setsBy v p (x ∷ xs) out = setsBy v (p + v) xs (set out p x)
+
+  -- and those of n components side by side: xs l from place p + l on, lane after lane
+  unfoldable pub setsLanes : ℕ → ℕ → (ℕ → List A) → ℕ → List A → List A
+  unfolding setsBy
+  setsLanes v p xs zero out = out
+  setsLanes v p xs (suc n) out = setsBy v (p + n) (xs n) (setsLanes v p xs n out)

@@ -5,20 +5,11 @@ ghost use lib.ListN.{length};
 ghost use Rattle.lists.specs.Build.{build};
 ghost use Rattle.mlpg_adjust.specs.Paper.{rightSum, entryOf, bandRows, rightSide};
 ghost use Rattle.mlpg_adjust.specs.Inner.{Fits};
-ghost use Rattle.mlpg_adjust.specs.BandPromise.{bandedOf, framesOf, setRefusal, BandSays};
+ghost use Rattle.mlpg_adjust.specs.Ends.{filledOf};
+ghost use Rattle.mlpg_adjust.specs.BandPromise.{framesOf, setRefusal, BandSays};
+use super::Filled;
+use super::mask::wide;
 use super::mlpg::band_row;
-
-// How many frames there are, or 01's number of why not.
-pub enum Banded {
-    Done(u32),
-    Refused(u8),
-}
-
-fn wide(x: u32) -> usize
-    ensures { λ r. ⌜ r ≡ x ⌝ }
-{
-    x as usize
-}
 
 // x: a NaN that is handed out has the bits 0x7FF8000000000000.
 fn plain(x: f64) -> f64
@@ -85,25 +76,25 @@ fn write_rows(
 }
 
 // How many frames the lists have, or 01's number of why they are refused.
-fn frames_of(widths: &[u32], coefficients: &[f64], means: usize, ivars: usize) -> Banded
-    ensures { λ r. ⌜ r ≡ bandedOf (setRefusal (now (widths .entry)) (now (coefficients .entry)) means ivars) (framesOf (now (widths .entry)) means) ⌝ }
+fn frames_of(widths: &[u32], coefficients: &[f64], means: usize, ivars: usize) -> Filled
+    ensures { λ r. ⌜ r ≡ filledOf (setRefusal (now (widths .entry)) (now (coefficients .entry)) means ivars) (framesOf (now (widths .entry)) means) ⌝ }
 {
     let refused = model::voice::window::refusal(widths, coefficients);
     if refused != 0 {
-        return Banded::Refused(refused);
+        return Filled::Refused(refused);
     }
     let windows = widths.len();
     if means % windows != 0 {
-        return Banded::Refused(4);
+        return Filled::Refused(4);
     }
     if ivars != means {
-        return Banded::Refused(4);
+        return Filled::Refused(4);
     }
     let n = means / windows;
     if 65_536 < n {
-        return Banded::Refused(5);
+        return Filled::Refused(5);
     }
-    Banded::Done(n as u32)
+    Filled::Done(n as u32)
 }
 
 // The rows of the band and the right side of means / windows frames; means and inverse variances are window after window.
@@ -114,21 +105,21 @@ pub fn band_rows(
     ivars: &[f64],
     rows: &mut [f64],
     right: &mut [f64],
-) -> Banded
+) -> Filled
     ensures { λ r. ⌜ BandSays (now (widths .entry)) (now (coefficients .entry)) (now (means .entry)) (now (ivars .entry)) (now (rows .entry)) (now (right .entry)) r (now (rows .exit)) (now (right .exit)) ⌝ }
 {
     let framed = frames_of(widths, coefficients, means.len(), ivars.len());
-    let Banded::Done(frames) = framed else {
+    let Filled::Done(frames) = framed else {
         return framed;
     };
     let n = wide(frames);
     let w = model::voice::window::band_width(widths);
     let k = n * w;
     if rows.len() < k {
-        return Banded::Refused(6);
+        return Filled::Refused(6);
     }
     if right.len() < n {
-        return Banded::Refused(6);
+        return Filled::Refused(6);
     }
     write_rows(
         widths,

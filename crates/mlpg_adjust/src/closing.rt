@@ -11,23 +11,28 @@ ghost use Rattle.mlpg_adjust.specs.MaskVoicing.{maskOf, weightsOf};
 ghost use Rattle.mlpg_adjust.specs.MaskWindows.{reachBefore, reachAfter};
 ghost use Rattle.mlpg_adjust.specs.MaskStates.{shutEnds, stateMeans, stateIvars, putPairs, StateFits};
 ghost use Rattle.mlpg_adjust.specs.Region.{regionOf};
-use super::component::Plan;
 use super::mask::Voicing;
 use super::mask::voiced_at;
+use super::mask::wide;
+use super::solve::Plan;
 use model::mean_vari::MeanVari;
 use model::voice::window::left_width;
 use model::voice::window::right_width;
-
-pub(crate) fn wide(x: u32) -> usize
-    ensures { λ r. ⌜ r ≡ x ⌝ }
-{
-    x as usize
-}
 
 fn wide_u8(x: u8) -> u32
     ensures { λ r. ⌜ r ≡ x ⌝ }
 {
     x as u32
+}
+
+// How many of a state's d frames are closed up: all or none.
+pub(crate) fn closed_of(voiced: bool, d: usize) -> usize
+    ensures { λ r. ⌜ r ≡ count (replicate d voiced) ⌝ }
+{
+    if voiced {
+        return d;
+    }
+    0
 }
 
 // How many frames are voiced.
@@ -38,12 +43,8 @@ pub(crate) fn count_voiced(records: &[f64], u: Voicing, durations: &[u32]) -> us
     let mut s = 0;
     let mut n = 0;
     while s < durations.len() {
-        if voiced_at(records, u, s) {
-            n += wide(durations[s]);
-            s += 1;
-        } else {
-            s += 1;
-        }
+        n += closed_of(voiced_at(records, u, s), wide(durations[s]));
+        s += 1;
     }
     n
 }
@@ -64,16 +65,12 @@ pub(crate) fn close_up_switches(
     let mut s = 0;
     let mut k = 0;
     while s < durations.len() {
-        if voiced_at(records, u, s) {
-            let d = wide(durations[s]);
-            let e = k + d;
-            let x = wide_u8(switches[s]);
-            lists::fill_u32(&mut out[k..e], d, x);
-            k = e;
-            s += 1;
-        } else {
-            s += 1;
-        }
+        let closed = closed_of(voiced_at(records, u, s), wide(durations[s]));
+        let e = k + closed;
+        let x = wide_u8(switches[s]);
+        lists::fill_u32(&mut out[k..e], closed, x);
+        k = e;
+        s += 1;
     }
 }
 
@@ -174,7 +171,7 @@ fn close_window(
     }
 }
 
-// A voiced state's pairs, of so many components from `first` on: its d frames begin at frame f, and at place k of the closed-up ones.
+// A state's pairs, of so many components from `first` on: its d frames begin at frame f, and at place k of the closed-up ones.
 pub(crate) fn close_state(
     records: &[f64],
     u: Voicing,

@@ -2,7 +2,8 @@
 ghost use mathlib.Core.Path.{_≡_};
 ghost use Prim.Native.Nat.{_+_, _*_, _<_, _≤_};
 ghost use lib.ListN.{length, drop, replicate};
-ghost use Rattle.mlpg_adjust.specs.Frames.{fill, count, setsBy, setsLanes};
+ghost use Rattle.mlpg_adjust.specs.Frames.{fill, count};
+ghost use Rattle.mlpg_adjust.specs.TrajectoryInner.{setsBy, setsLanes};
 ghost use Rattle.mlpg_adjust.specs.Rows.{part};
 
 // The same number; a NaN with the bits 0x7FF8000000000000, which are what the division gives.

@@ -15,12 +15,13 @@ ghost use Rattle.mlpg_adjust.specs.TrajectoryInner.{Framed, Planned, Dis
 use super::GlobalVariance;
 use super::Stream;
 use super::closing::close_state;
-use super::closing::wide;
-use super::component::Plan;
+use super::closing::closed_of;
 use super::filling::fill_state;
 use super::gv::MlpgGlobalVariance;
 use super::mask::Voicing;
 use super::mask::voiced_at;
+use super::mask::wide;
+use super::solve::Plan;
 use super::solve::solve;
 
 // The components first, first + 1, and so on, so many.
@@ -53,29 +54,25 @@ fn close_up_group(
     let mut k = 0;
     while s < durations.len() {
         let d = wide(durations[s]);
-        if voiced_at(records, u, s) {
-            close_state(
-                records,
-                u,
-                g,
-                first,
-                lanes,
-                widths,
-                left,
-                right,
-                s,
-                f,
-                d,
-                k,
-                work,
-            );
-            k += d;
-            f += d;
-            s += 1;
-        } else {
-            f += d;
-            s += 1;
-        }
+        let closed = closed_of(voiced_at(records, u, s), d);
+        close_state(
+            records,
+            u,
+            g,
+            first,
+            lanes,
+            widths,
+            left,
+            right,
+            s,
+            f,
+            closed,
+            k,
+            work,
+        );
+        k += closed;
+        f += d;
+        s += 1;
     }
 }
 

@@ -63,6 +63,17 @@ fn first_on(on: &[u32]) -> usize
     t
 }
 
+// A sum with frame t's value, if it is switched. Only then is it read: so the branch stays one, and the sum waits for additions alone.
+fn add_value(sum: f64, par: &[f64], on: &[u32], t: usize) -> f64
+    requires { ⌜ (length (now on) ≡ length (now par)) × (t < length (now par)) ⌝ }
+    ensures { λ r. ⌜ r ≡ joined (λ x. x) (map isOn (now (on .entry))) (now (par .entry)) t sum ⌝ }
+{
+    if is_switched(on, t) {
+        return sum + el(par, t);
+    }
+    sum
+}
+
 // The sum of the switched values, which starts with the first of them.
 fn switched_sum(par: &[f64], on: &[u32], first: usize) -> f64
     requires { ⌜ (length (now on) ≡ length (now par)) × (first ≡ firstOn (map isOn (now on))) × (first < length (now on)) ⌝ }
@@ -71,12 +82,8 @@ fn switched_sum(par: &[f64], on: &[u32], first: usize) -> f64
     let mut sum = el(par, first);
     let mut t = first + 1;
     while t < par.len() {
-        let b = is_switched(on, t);
-        let x = el(par, t);
+        sum = add_value(sum, par, on, t);
         t += 1;
-        if b {
-            sum = sum + x;
-        }
     }
     sum
 }
@@ -87,6 +94,17 @@ fn square(x: f64, mean: f64) -> f64
     (x - mean) * (x - mean)
 }
 
+// A sum with the squared deviation of frame t's value, if it is switched.
+fn add_square(sum: f64, par: &[f64], on: &[u32], t: usize, mean: f64) -> f64
+    requires { ⌜ (length (now on) ≡ length (now par)) × (t < length (now par)) ⌝ }
+    ensures { λ r. ⌜ r ≡ joined (squared mean) (map isOn (now (on .entry))) (now (par .entry)) t sum ⌝ }
+{
+    if is_switched(on, t) {
+        return sum + square(el(par, t), mean);
+    }
+    sum
+}
+
 // The sum of their squared deviations, which starts with the first of them.
 fn squares_sum(par: &[f64], on: &[u32], first: usize, mean: f64) -> f64
     requires { ⌜ (length (now on) ≡ length (now par)) × (first ≡ firstOn (map isOn (now on))) × (first < length (now on)) ⌝ }
@@ -95,26 +113,8 @@ fn squares_sum(par: &[f64], on: &[u32], first: usize, mean: f64) -> f64
     let mut sum = square(el(par, first), mean);
     let mut t = first + 1;
     while t < par.len() {
-        let b = is_switched(on, t);
-        let x = square(el(par, t), mean);
+        sum = add_square(sum, par, on, t, mean);
         t += 1;
-        if b {
-            sum = sum + x;
-        }
-    }
-    sum
-}
-
-// A sum of the switched frames' numbers with frame t's x: the first starts it.
-fn add_switched(sum: f64, x: f64, on: &[u32], first: usize, t: usize) -> f64
-    requires { ⌜ t < length (now on) ⌝ }
-    ensures { λ r. ⌜ r ≡ joined first t (getD (map isOn (now (on .entry))) t false) x sum ⌝ }
-{
-    if t == first {
-        return x;
-    }
-    if is_switched(on, t) {
-        return sum + x;
     }
     sum
 }
@@ -129,22 +129,18 @@ fn conv_at(x: f64, b: bool, mean: f64, ratio: f64) -> f64
     x
 }
 
-// Each value drawn apart, and the sum of the switched ones.
-fn rescale(par: &mut [f64], on: &[u32], first: usize, mean: f64, ratio: f64) -> f64
-    requires { ⌜ (length (now on) ≡ length (now par)) × (first ≡ firstOn (map isOn (now on))) × (first < length (now on)) ⌝ }
-    ensures { λ r. ⌜ (now (par .exit) ≡ build (convAt (map isOn (now (on .entry))) mean ratio (now (par .entry))) (length (now (par .entry))))
-        × (r ≡ sumOf (λ x. x) (select (map isOn (now (on .entry))) (now (par .exit)))) ⌝ }
+// Each switched value drawn apart.
+fn rescale(par: &mut [f64], on: &[u32], mean: f64, ratio: f64)
+    requires { ⌜ length (now on) ≡ length (now par) ⌝ }
+    ensures { λ _. ⌜ now (par .exit) ≡ build (convAt (map isOn (now (on .entry))) mean ratio (now (par .entry))) (length (now (par .entry))) ⌝ }
 {
     let n = par.len();
-    let mut sum = 0.0;
     let mut t = 0;
     while t < n {
         let x = conv_at(el(par, t), is_switched(on, t), mean, ratio);
         par[t] = x;
-        sum = add_switched(sum, x, on, first, t);
         t += 1;
     }
-    sum
 }
 
 // The matrix's entry i to the right of row t's diagonal, times its value.
@@ -268,18 +264,18 @@ fn gv_obj(gv_mean: f64, gv_vari: f64, vari: f64) -> f64
 }
 
 // What a step is the same in for every frame.
-pub struct Pull {
-    pub weight: f64,
-    pub dv: f64,
-    pub scale: f64,
-    pub spread: f64,
-    pub twice: f64,
-    pub mean: f64,
-    pub step: f64,
+pub(crate) struct Pull {
+    pub(crate) weight: f64,
+    pub(crate) dv: f64,
+    pub(crate) scale: f64,
+    pub(crate) spread: f64,
+    pub(crate) twice: f64,
+    pub(crate) mean: f64,
+    pub(crate) step: f64,
 }
 
 // A frame's value x after the step: b is its switch, g its gradient, m its right side.
-pub fn next_at(s: Pull, diagonal: f64, b: bool, g: f64, m: f64, x: f64) -> f64
+pub(crate) fn next_at(s: Pull, diagonal: f64, b: bool, g: f64, m: f64, x: f64) -> f64
     ensures { λ r. ⌜ r ≡ pulled s diagonal b g m x ⌝ }
 {
     let d = x - s.mean;
@@ -294,12 +290,6 @@ pub fn next_at(s: Pull, diagonal: f64, b: bool, g: f64, m: f64, x: f64) -> f64
 struct Moments {
     mean: f64,
     vari: f64,
-}
-
-// The objective's first part, and the sum of the squared deviations.
-struct TurnSums {
-    hmm: f64,
-    squares: f64,
 }
 
 // The size of the step, the objective before it (NaN where there is none, which changes no size), and the sum of the switched values.
@@ -334,12 +324,12 @@ impl Descent {
 }
 
 // The sizes of a component's equations, and what there is to know of the switches.
-pub struct MlpgGlobalVariance {
-    pub windows: usize,
-    pub length: usize,
-    pub width: usize,
-    pub switched: usize,
-    pub first: usize,
+pub(crate) struct MlpgGlobalVariance {
+    pub(crate) windows: usize,
+    pub(crate) length: usize,
+    pub(crate) width: usize,
+    pub(crate) switched: usize,
+    pub(crate) first: usize,
 }
 
 impl MlpgGlobalVariance {
@@ -351,7 +341,7 @@ impl MlpgGlobalVariance {
 
     const STEPINC: f64 = 1.2;
 
-    pub fn new(windows: usize, width: usize, on: &[u32]) -> MlpgGlobalVariance
+    pub(crate) fn new(windows: usize, width: usize, on: &[u32]) -> MlpgGlobalVariance
         ensures { λ r. ⌜ (r .windows ≡ windows) × (r .width ≡ width) × (r .length ≡ length (now (on .entry))) × Counted r (map isOn (now (on .entry))) ⌝ }
     {
         let length = on.len();
@@ -389,45 +379,38 @@ impl MlpgGlobalVariance {
     {
         let m = self.calc_gv(par, on);
         let ratio = floats::sqrt(gv_mean / m.vari);
-        rescale(par, on, self.first, m.mean, ratio)
+        rescale(par, on, m.mean, ratio);
+        switched_sum(par, on, self.first)
     }
 
-    // A turn's sums, in one pass, as each waits for itself alone; the gradient is where the factors were.
-    fn calc_sums(self, m: &[f64], p: Places, on: &[u32], mean: f64) -> TurnSums
-        requires { ⌜ Sized self p (length (now m)) × Counted self (map isOn (now on)) × (0 < self .switched) ⌝ }
-        ensures { λ r. ⌜ (r .hmm ≡ hmmObj (weightOf (self .windows) (self .length)) (part (p .right) (self .length) (now (m .entry))) (part (p .factors) (self .length) (now (m .entry))) (part (p .values) (self .length) (now (m .entry))))
-            × (r .squares ≡ sumOf (squared mean) (select (map isOn (now (on .entry))) (part (p .values) (self .length) (now (m .entry))))) ⌝ }
+    // The objective's first part; the gradient is where the factors were.
+    fn calc_hmmobj(self, m: &[f64], p: Places) -> f64
+        requires { ⌜ Sized self p (length (now m)) ⌝ }
+        ensures { λ r. ⌜ r ≡ hmmObj (weightOf (self .windows) (self .length)) (part (p .right) (self .length) (now (m .entry))) (part (p .factors) (self .length) (now (m .entry))) (part (p .values) (self .length) (now (m .entry))) ⌝ }
     {
         let n = self.length;
-        let first = self.first;
         let weight = weight_of(self.windows, n);
         let right = p.right;
         let gradient = p.factors;
         let values = p.values;
         let mut hmm = 0.0;
-        let mut squares = 0.0;
         let mut t = 0;
         while t < n {
             let x = el(m, values + t);
             hmm = hmm + hmm_term(weight, el(m, right + t), el(m, gradient + t), x);
-            squares = add_switched(squares, square(x, mean), on, first, t);
             t += 1;
         }
-        TurnSums {
-            hmm: hmm,
-            squares: squares,
-        }
+        hmm
     }
 
-    // The matrix times the values, which goes where the factors were, and a turn's sums: two passes, as beside a sum rows would be done one by one.
-    fn calc_hmmobj_derivative(self, m: &mut [f64], p: Places, on: &[u32], mean: f64) -> TurnSums
-        requires { ⌜ Sized self p (length (now m)) × Counted self (map isOn (now on)) × (0 < self .switched) ⌝ }
+    // The matrix times the values, which goes where the factors were, and the objective's first part: two passes, as beside a sum rows would be done one by one.
+    fn calc_hmmobj_derivative(self, m: &mut [f64], p: Places) -> f64
+        requires { ⌜ Sized self p (length (now m)) ⌝ }
         ensures { λ r. ⌜ (now (m .exit) ≡ sets (now (m .entry)) (p .factors) (gradient (self .width) (part (p .rows) (self .length * self .width) (now (m .entry))) (part (p .values) (self .length) (now (m .entry)))))
-            × (r .hmm ≡ hmmObj (weightOf (self .windows) (self .length)) (part (p .right) (self .length) (now (m .entry))) (gradient (self .width) (part (p .rows) (self .length * self .width) (now (m .entry))) (part (p .values) (self .length) (now (m .entry)))) (part (p .values) (self .length) (now (m .entry))))
-            × (r .squares ≡ sumOf (squared mean) (select (map isOn (now (on .entry))) (part (p .values) (self .length) (now (m .entry))))) ⌝ }
+            × (r ≡ hmmObj (weightOf (self .windows) (self .length)) (part (p .right) (self .length) (now (m .entry))) (gradient (self .width) (part (p .rows) (self .length * self .width) (now (m .entry))) (part (p .values) (self .length) (now (m .entry)))) (part (p .values) (self .length) (now (m .entry)))) ⌝ }
     {
         calc_gradient(m, p, self.length, self.width);
-        self.calc_sums(m, p, on, mean)
+        self.calc_hmmobj(m, p)
     }
 
     // What the next step is the same in for every frame.
@@ -508,9 +491,11 @@ impl MlpgGlobalVariance {
     {
         let count = self.switched as f64;
         let mean = s.sum / count;
-        let sums = self.calc_hmmobj_derivative(m, p, on, mean);
-        let vari = sums.squares / count;
-        let obj = -(sums.hmm + gv_obj(gv_mean, gv_vari, vari));
+        let values = p.values;
+        let values_end = values + self.length;
+        let vari = squares_sum(&m[values..values_end], on, self.first, mean) / count;
+        let hmm = self.calc_hmmobj_derivative(m, p);
+        let obj = -(hmm + gv_obj(gv_mean, gv_vari, vari));
         let step = s.size_after(obj);
         let sum = self.next_step(m, p, on, self.pull(gv_mean, gv_vari, mean, vari, step));
         Descent {
@@ -534,7 +519,7 @@ impl MlpgGlobalVariance {
     }
 
     // The values of a region after the global variance; its rows are the matrix before factoring.
-    pub fn parmgen(self, m: &mut [f64], p: Places, on: &[u32], gv_mean: f64, gv_vari: f64)
+    pub(crate) fn parmgen(self, m: &mut [f64], p: Places, on: &[u32], gv_mean: f64, gv_vari: f64)
         requires { ⌜ Sized self p (length (now m)) × Counted self (map isOn (now on)) ⌝ }
         ensures { λ _. ⌜ part (p .values) (self .length) (now (m .exit)) ≡ parmgen (self .width) (part (p .rows) (self .length * self .width) (now (m .entry))) (part (p .right) (self .length) (now (m .entry)))
             (map isOn (now (on .entry))) (self .windows) «gv_mean» «gv_vari» (part (p .values) (self .length) (now (m .entry))) ⌝ }

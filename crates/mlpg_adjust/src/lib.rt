@@ -10,7 +10,6 @@ ghost use Rattle.mlpg_adjust.specs.TrajectoryInner.{Shaped, Room};
 
 pub mod band;
 mod closing;
-mod component;
 mod filling;
 mod group;
 mod gv;
@@ -48,6 +47,12 @@ impl Stream {
         }
         pairs + pairs
     }
+}
+
+// How many frames lists were filled for, or 01's number of why none was.
+pub enum Filled {
+    Done(u32),
+    Refused(u8),
 }
 
 // Whether the trajectory is written, or 01's number of why not.

@@ -8,16 +8,13 @@ ghost use Rattle.model.specs.declared.voice.model.Weight.the-variants.{Given};
 ghost use Rattle.model.specs.Weight.{voicedAt};
 ghost use Rattle.mlpg_adjust.specs.MaskVoicing.{flag, isOn, maskOf, weightAt, weightsOf};
 ghost use Rattle.mlpg_adjust.specs.MaskBoundaries.{lefts, rights};
-ghost use Rattle.mlpg_adjust.specs.MaskPromise.{maskedOf, framesRefusal, MaskSays, DistancesSays, MaskedDistancesSays};
+ghost use Rattle.mlpg_adjust.specs.Ends.{filledOf};
+ghost use Rattle.mlpg_adjust.specs.MaskPromise.{framesRefusal, MaskSays, DistancesSays, MaskedDistancesSays};
+use super::Filled;
 use model::voice::model::msd;
 
-// How many frames there are, or 01's number of why not.
-pub enum Masked {
-    Done(u32),
-    Refused(u8),
-}
-
-fn wide(x: u32) -> usize
+// A count in the width of an index: a read that is widened by a call asks for its index alone.
+pub(crate) fn wide(x: u32) -> usize
     ensures { λ r. ⌜ r ≡ x ⌝ }
 {
     x as usize
@@ -142,54 +139,54 @@ fn mark_and_measure(
 }
 
 // How many frames the states have, as far as 3, 4 and 5 allow.
-fn frames_of(weights: usize, durations: &[u32]) -> Masked
-    ensures { λ r. ⌜ r ≡ maskedOf (framesRefusal weights (now (durations .entry))) (total (now (durations .entry))) ⌝ }
+fn frames_of(weights: usize, durations: &[u32]) -> Filled
+    ensures { λ r. ⌜ r ≡ filledOf (framesRefusal weights (now (durations .entry))) (total (now (durations .entry))) ⌝ }
 {
     if 4096 < durations.len() {
-        return Masked::Refused(3);
+        return Filled::Refused(3);
     }
     if weights != durations.len() {
-        return Masked::Refused(4);
+        return Filled::Refused(4);
     }
     let frames = lists::total_u32(durations);
     if 65_536 < frames {
-        return Masked::Refused(5);
+        return Filled::Refused(5);
     }
-    Masked::Done(frames as u32)
+    Filled::Done(frames as u32)
 }
 
 // The frames' flags, 1 for a voiced one and 0 for another.
-pub fn mask(weights: &[f64], threshold: f64, durations: &[u32], voiced: &mut [u32]) -> Masked
+pub fn mask(weights: &[f64], threshold: f64, durations: &[u32], voiced: &mut [u32]) -> Filled
     ensures { λ r. ⌜ MaskSays (now (weights .entry)) threshold (now (durations .entry)) (now (voiced .entry)) r (now (voiced .exit)) ⌝ }
 {
     let framed = frames_of(weights.len(), durations);
-    let Masked::Done(frames) = framed else {
+    let Filled::Done(frames) = framed else {
         return framed;
     };
     let n = wide(frames);
     if voiced.len() < n {
-        return Masked::Refused(6);
+        return Filled::Refused(6);
     }
     mark_frames(weights, threshold, durations, &mut voiced[..n]);
     framed
 }
 
 // `Mask::boundary_distances`, of any flags: 0 is unvoiced, and anything else voiced.
-pub fn boundary_distances(voiced: &[u32], left: &mut [u32], right: &mut [u32]) -> Masked
+pub fn boundary_distances(voiced: &[u32], left: &mut [u32], right: &mut [u32]) -> Filled
     ensures { λ r. ⌜ DistancesSays (now (voiced .entry)) (now (left .entry)) (now (right .entry)) r (now (left .exit)) (now (right .exit)) ⌝ }
 {
     let n = voiced.len();
     if 65_536 < n {
-        return Masked::Refused(5);
+        return Filled::Refused(5);
     }
     if left.len() < n {
-        return Masked::Refused(6);
+        return Filled::Refused(6);
     }
     if right.len() < n {
-        return Masked::Refused(6);
+        return Filled::Refused(6);
     }
     distances(voiced, &mut left[..n], &mut right[..n]);
-    Masked::Done(n as u32)
+    Filled::Done(n as u32)
 }
 
 // The frames' flags and distances in one call.
@@ -200,23 +197,23 @@ pub fn mask_with_distances(
     voiced: &mut [u32],
     left: &mut [u32],
     right: &mut [u32],
-) -> Masked
+) -> Filled
     ensures { λ r. ⌜ MaskedDistancesSays (now (weights .entry)) threshold (now (durations .entry)) (now (voiced .entry)) (now (left .entry)) (now (right .entry))
         r (now (voiced .exit)) (now (left .exit)) (now (right .exit)) ⌝ }
 {
     let framed = frames_of(weights.len(), durations);
-    let Masked::Done(frames) = framed else {
+    let Filled::Done(frames) = framed else {
         return framed;
     };
     let n = wide(frames);
     if voiced.len() < n {
-        return Masked::Refused(6);
+        return Filled::Refused(6);
     }
     if left.len() < n {
-        return Masked::Refused(6);
+        return Filled::Refused(6);
     }
     if right.len() < n {
-        return Masked::Refused(6);
+        return Filled::Refused(6);
     }
     mark_and_measure(
         weights,

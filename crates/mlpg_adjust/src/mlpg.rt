@@ -4,13 +4,15 @@ ghost use Prim.Native.Nat.{_+_, _-_, _*_, _/_, _<_, _≤_, min};
 ghost use lib.ListN.{length, getD, drop};
 ghost use Rattle.lists.specs.Build.{build};
 ghost use Rattle.mlpg_adjust.specs.Sums.{over};
-ghost use Rattle.mlpg_adjust.specs.Rows.{nought, elem, part, entry};
+ghost use Rattle.floats.specs.Numbers.{nought};
+ghost use Rattle.mlpg_adjust.specs.Rows.{elem, part, entry};
 ghost use Rattle.mlpg_adjust.specs.Paper.{added, term, rightTerm, rightSum, entryOf};
 ghost use Rattle.mlpg_adjust.specs.Solve.{reduced, forwardAt, backwardAt};
 ghost use Rattle.mlpg_adjust.specs.Inner.{onRow, Fits};
+use super::mask::wide;
 
 // Element i.
-pub fn el(m: &[f64], i: usize) -> f64
+pub(crate) fn el(m: &[f64], i: usize) -> f64
     requires { ⌜ i < length (now m) ⌝ }
     ensures { λ r. ⌜ r ≡ elem (now (m .entry)) i ⌝ }
 {
@@ -18,21 +20,15 @@ pub fn el(m: &[f64], i: usize) -> f64
 }
 
 // Entry j of row t.
-pub fn at(m: &[f64], w: usize, t: usize, j: usize) -> f64
+pub(crate) fn at(m: &[f64], w: usize, t: usize, j: usize) -> f64
     requires { ⌜ t * w + j < length (now m) ⌝ }
     ensures { λ r. ⌜ r ≡ entry w (now (m .entry)) t j ⌝ }
 {
     m[t * w + j]
 }
 
-fn wide(x: u32) -> usize
-    ensures { λ r. ⌜ r ≡ x ⌝ }
-{
-    x as usize
-}
-
 // n numbers from place o on.
-pub fn part_at(s: &[f64], o: usize, n: usize) -> &[f64]
+pub(crate) fn part_at(s: &[f64], o: usize, n: usize) -> &[f64]
     requires { ⌜ o + n ≤ length (now s) ⌝ }
     ensures { λ r. ⌜ (now r ≡ part o n (now (s .entry))) × (length (now r) ≡ n) ⌝ }
 {
@@ -120,7 +116,7 @@ fn add_window(
 }
 
 // Row t and the right side at t, over all windows in order.
-pub fn band_row(
+pub(crate) fn band_row(
     widths: &[u32],
     coefficients: &[f64],
     ivars: &[f64],
@@ -157,7 +153,7 @@ pub fn band_row(
 }
 
 // x, entry i of row t, less what the t factored rows before it account for.
-pub fn reduced_at(x: f64, f: &[f64], w: usize, t: usize, i: usize) -> f64
+pub(crate) fn reduced_at(x: f64, f: &[f64], w: usize, t: usize, i: usize) -> f64
     requires { ⌜ (i < w) × (t * w ≤ length (now f)) ⌝ }
     ensures { λ r. ⌜ r ≡ reduced w x (now (f .entry)) t i ⌝ }
 {
@@ -173,7 +169,7 @@ pub fn reduced_at(x: f64, f: &[f64], w: usize, t: usize, i: usize) -> f64
 }
 
 // The value at t of forward substitution: x is the right side there, g the values before it.
-pub fn forward_at(f: &[f64], x: f64, g: &[f64], w: usize, t: usize) -> f64
+pub(crate) fn forward_at(f: &[f64], x: f64, g: &[f64], w: usize, t: usize) -> f64
     requires { ⌜ (0 < w) × (t * w ≤ length (now f)) × (t ≤ length (now g)) ⌝ }
     ensures { λ r. ⌜ r ≡ forwardAt w (now (f .entry)) x (now (g .entry)) t ⌝ }
 {
@@ -189,7 +185,7 @@ pub fn forward_at(f: &[f64], x: f64, g: &[f64], w: usize, t: usize) -> f64
 }
 
 // The value at t of backward substitution, from g's value there and the solved ones after it.
-pub fn backward_at(f: &[f64], g: &[f64], w: usize, t: usize) -> f64
+pub(crate) fn backward_at(f: &[f64], g: &[f64], w: usize, t: usize) -> f64
     requires { ⌜ (0 < w) × (t < length (now g)) × (t * w + w ≤ length (now f)) ⌝ }
     ensures { λ r. ⌜ r ≡ backwardAt w (now (f .entry)) (elem (now (g .entry)) t) (drop (t + 1) (now (g .entry))) t ⌝ }
 {

@@ -5,22 +5,18 @@ ghost use Prim.Native.Nat.{_+_, _-_, _*_, _/_, _<_, _≤_, min, max};
 ghost use lib.ListN.{length, replicate};
 ghost use lib.Seq.{sets};
 ghost use lib.Ieee.{binary64, add, mul, eq};
-ghost use Rattle.mlpg_adjust.specs.Rows.{nought, elem, part};
+ghost use Rattle.floats.specs.Numbers.{nought};
+ghost use Rattle.mlpg_adjust.specs.Rows.{elem, part};
 ghost use Rattle.mlpg_adjust.specs.Inner.{Taps};
 ghost use Rattle.mlpg_adjust.specs.Region.{Spaced, Laid, Rowed};
 ghost use Rattle.mlpg_adjust.specs.Passes.{Along, Moved, tapEntry, tapSide, windowEntry, windowSide, windowsEntry, windowsSide, wholeEntry, wholeSide, still, inColumn};
+use super::mask::wide;
 use super::mlpg::el;
 use super::mlpg::part_at;
 use super::solve::Places;
 
 // How many rows a block has: few enough to stay in the cache, enough for long passes.
 const BLOCK: usize = 256;
-
-fn wide(x: u32) -> usize
-    ensures { λ r. ⌜ r ≡ x ⌝ }
-{
-    x as usize
-}
 
 // (c u) d is added to every `step`-th number from a place on, for the numbers u from another place on.
 fn add_scaled(m: &mut [f64], at: usize, step: usize, u: usize, count: usize, c: f64, d: f64)
@@ -56,16 +52,6 @@ struct Span {
     to: usize,
 }
 
-// The larger of two numbers.
-fn larger(a: usize, b: usize) -> usize
-    ensures { λ r. ⌜ r ≡ max a b ⌝ }
-{
-    if a < b {
-        return b;
-    }
-    a
-}
-
 // The rows of a block for which tap k of a window stands at a frame: t + half - k is one of the n frames.
 fn rows_of(width: usize, k: usize, n: usize, block: Span) -> Span
     ensures { λ r. ⌜ (r .from ≡ max (block .from) (k - width / 2)) × (r .to ≡ min (block .to) (n - (width / 2 - k))) ⌝ }
@@ -74,7 +60,7 @@ fn rows_of(width: usize, k: usize, n: usize, block: Span) -> Span
     let first = k - lists::least(k, half);
     let missing = half - lists::least(half, k);
     let end = n - lists::least(n, missing);
-    let from = larger(block.from, first);
+    let from = lists::larger(block.from, first);
     let to = lists::least(block.to, end);
     Span { from, to }
 }

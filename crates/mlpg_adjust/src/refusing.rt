@@ -5,12 +5,7 @@ ghost use lib.ListN.{length};
 ghost use Rattle.mlpg_adjust.specs.TrajectoryPromise.{outOfRange, gvDisagrees, disagree, short, createRefusal};
 use super::GlobalVariance;
 use super::Stream;
-
-fn wide(x: u32) -> usize
-    ensures { λ r. ⌜ r ≡ x ⌝ }
-{
-    x as usize
-}
+use super::mask::wide;
 
 // Whether there are too many states, or v is out of range.
 fn is_out_of_range(v: u32, states: usize) -> bool

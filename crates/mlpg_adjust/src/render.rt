@@ -13,7 +13,6 @@ use super::GlobalVariance;
 use super::Stream;
 use super::closing::close_up_switches;
 use super::closing::count_voiced;
-use super::component::Plan;
 use super::group::render_groups;
 use super::gv::MlpgGlobalVariance;
 use super::mask::Voicing;
@@ -21,6 +20,7 @@ use super::mask::left_distances;
 use super::mask::mark_states;
 use super::mask::right_distances;
 use super::solve::Places;
+use super::solve::Plan;
 use model::voice::window::band_width;
 
 // How many floats of the work space a voiced frame of one component takes.

@@ -16,12 +16,22 @@ use super::mlpg::reduced_at;
 use super::passes::calc_wuw_and_wum;
 
 // Where the parts of a region begin; the means are at 0.
-pub struct Places {
-    pub ivars: usize,
-    pub rows: usize,
-    pub right: usize,
-    pub factors: usize,
-    pub values: usize,
+pub(crate) struct Places {
+    pub(crate) ivars: usize,
+    pub(crate) rows: usize,
+    pub(crate) right: usize,
+    pub(crate) factors: usize,
+    pub(crate) values: usize,
+}
+
+// What is the same for every component: how many there are, how many frames are voiced, how wide a row is, and where in a region of how many floats
+// the parts begin.
+pub(crate) struct Plan {
+    pub(crate) v: usize,
+    pub(crate) n: usize,
+    pub(crate) w: usize,
+    pub(crate) size: usize,
+    pub(crate) places: Places,
 }
 
 // Row t of the factors behind its pivot d: L's numbers, from row t at `rows`.
@@ -234,7 +244,7 @@ fn backward(work: &mut [f64], p: Places, n: usize, w: usize, size: usize, lanes:
 }
 
 // The normal equations of each component's pairs, solved side by side.
-pub fn solve(
+pub(crate) fn solve(
     work: &mut [f64],
     widths: &[u32],
     coefficients: &[f64],

@@ -11,7 +11,8 @@ use Rattle.lists.specs.Build.{foldFrom}
 use Rattle.lists.proofs.Sums.{fold-more, fold-done}
 use Rattle.floats.specs.Order.{absOf}
 use Rattle.model.specs.declared.mean_vari.MeanVari.{MeanVari}
-use Rattle.model.specs.Pair.{pair, nought, one, highBound, lowBound, largestIvar, ivarOf, plus, pairsOf, sumOf}
+use Rattle.floats.specs.Numbers.{nought, one}
+use Rattle.model.specs.Pair.{pair, highBound, lowBound, largestIvar, ivarOf, plus, pairsOf, sumOf}
 
 -- ---- the three cases of an inverse variance
 

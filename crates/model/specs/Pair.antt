@@ -3,20 +3,13 @@ use mathlib.Core.List.{List, [], _∷_}
 use mathlib.Core.Bool.{cond}
 use lib.Ieee.{Float, binary64, ofBits, add, mul, div, lt}
 use Rattle.lists.specs.Build.{foldFrom}
+use Rattle.floats.specs.Numbers.{nought, one}
 use Rattle.floats.specs.Order.{absOf}
 use Rattle.model.specs.declared.mean_vari.MeanVari.{MeanVari}
 
 -- a mean and a variance
 abbrev pub pair : Float → Float → MeanVari
 pair m v = record { 0 = m; 1 = v }
-
--- +0
-abbrev pub nought : Float
-nought = ofBits binary64 0
-
--- 1
-abbrev pub one : Float
-one = ofBits binary64 0x3ff0_0000_0000_0000
 
 -- the format's nearest to 1e19
 abbrev pub highBound : Float

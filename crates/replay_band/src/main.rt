@@ -1,5 +1,5 @@
 // Replays the band rows of standard input, and says how many answers differ from the Rust's. tools/README.md has the form, tools/store writes them.
-use mlpg_adjust::band::Banded;
+use mlpg_adjust::Filled;
 use replay::Listed;
 use replay::OUT_F64;
 use replay::Tally;
@@ -24,7 +24,7 @@ fn agrees(
         &mut matrix,
         &mut side,
     );
-    let Banded::Done(made) = answer else {
+    let Filled::Done(made) = answer else {
         return false;
     };
     made as usize == frames && replay::same_f64(&matrix, rows) && replay::same_f64(&side, right)

@@ -1,5 +1,5 @@
 // Replays the masks of standard input, and says how many answers differ from the Rust's. tools/README.md has the form, tools/store writes them.
-use mlpg_adjust::mask::Masked;
+use mlpg_adjust::Filled;
 use replay::Float;
 use replay::Listed;
 use replay::OUT;
@@ -31,7 +31,7 @@ fn agrees(
         &mut before,
         &mut after,
     );
-    let Masked::Done(made) = answer else {
+    let Filled::Done(made) = answer else {
         return false;
     };
     made as usize == frames

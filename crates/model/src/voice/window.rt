@@ -1,7 +1,6 @@
 // Window sets: how long each window is, and the coefficients in one list, window after window.
 // A set has four windows at most, so the answers on one window look at the first four widths.
 ghost use mathlib.Core.Path.{_≡_};
-ghost use Prim.Native.Nat.{max};
 ghost use lib.ListN.{take};
 ghost use Rattle.model.specs.Windows.{between, allOf, finite, widthsFit, allFinite, windowRefusal, longest, maxWidth, bandWidth, leftWidth, rightWidth, widthOf, startOf, windowOf};
 
@@ -83,23 +82,14 @@ fn wide(x: u32) -> usize
     x as usize
 }
 
-fn larger(a: u32, b: u32) -> u32
-    ensures { λ r. ⌜ r ≡ max a b ⌝ }
-{
-    if a < b {
-        return b;
-    }
-    a
-}
-
 // The longest window's length.
-fn longest_of(widths: &[u32]) -> u32
+fn longest_of(widths: &[u32]) -> usize
     ensures { λ r. ⌜ r ≡ longest (now (widths .entry)) ⌝ }
 {
     let mut found = 0;
     let mut i = 0;
     while i < widths.len() {
-        found = larger(found, widths[i]);
+        found = lists::larger(found, wide(widths[i]));
         i += 1;
     }
     found
@@ -109,14 +99,14 @@ fn longest_of(widths: &[u32]) -> u32
 pub fn max_width(widths: &[u32]) -> usize
     ensures { λ r. ⌜ r ≡ maxWidth (now (widths .entry)) ⌝ }
 {
-    wide(longest_of(widths)) / 2
+    longest_of(widths) / 2
 }
 
 // The width of the band matrix.
 pub fn band_width(widths: &[u32]) -> usize
     ensures { λ r. ⌜ r ≡ bandWidth (now (widths .entry)) ⌝ }
 {
-    2 * (wide(longest_of(widths)) / 2) + 1
+    2 * (longest_of(widths) / 2) + 1
 }
 
 // How many of a window's coefficients stand before the middle one.

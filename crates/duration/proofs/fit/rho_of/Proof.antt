@@ -3,7 +3,7 @@ use mathlib.Core.Path.{ap}
 use borrow.Author.Needs.{needs}
 use lib.Ieee.{binary64, sub, div}
 use Rattle.model.specs.declared.mean_vari.MeanVari.{MeanVari}
-use Rattle.duration.specs.Estimate.{number}
+use Rattle.floats.specs.Numbers.{number}
 use Rattle.duration.proofs.fit.rho_of.Statement.{statement}
 use Rattle.duration.proofs.fit.rho_of.Tie as tie
 

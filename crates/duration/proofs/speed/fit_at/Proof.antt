@@ -10,7 +10,7 @@ use lib.Ieee.{binary64, div, inFloat}
 use Rattle.lists.specs.Totals.{total}
 use Rattle.lists.proofs.Sums.{total-whole}
 use Rattle.floats.specs.Rounding.{roundedOf}
-use Rattle.duration.specs.Estimate.{number}
+use Rattle.floats.specs.Numbers.{number}
 use Rattle.duration.specs.Fit.{mostFrames}
 use Rattle.duration.specs.Speed.{naturals, targetAt}
 use Rattle.duration.proofs.Fits.{speed-long, speed-one, speed-other}

@@ -6,8 +6,9 @@ use native.Mathlib.Omega.{arith}
 use lib.ListN.{length}
 use lib.Seq.{length-take-le}
 use Rattle.mlpg_adjust.specs.BandPromise.{framesOf, setRefusal}
-use Rattle.mlpg_adjust.specs.declared.band.Banded.the-variants.{Done}
-use Rattle.mlpg_adjust.proofs.BandWays.{passed, agree, band-narrow, set-taps, band-stops, band-rows-short, band-right-short, band-finished}
+use Rattle.mlpg_adjust.specs.declared.Filled.the-variants.{Done}
+use Rattle.mlpg_adjust.proofs.Ends.{passed}
+use Rattle.mlpg_adjust.proofs.BandWays.{agree, band-narrow, set-taps, band-stops, band-rows-short, band-right-short, band-finished}
 use borrow.Author.Needs.{needs}
 use Rattle.mlpg_adjust.proofs.band.band_rows.Statement.{statement}
 use Rattle.mlpg_adjust.proofs.band.band_rows.Tie as tie

@@ -1,14 +1,12 @@
 -- `mlpg_adjust::closing::close_up_switches` meets its contract. Assumes nothing.
-use mathlib.Core.Path.{_≡_, sym, _∙_}
-use mathlib.Core.Bool.{true}
-use mathlib.Core.List.{_++_}
-use Prim.Native.Nat.{_+_, _-_, _≤_}
+use mathlib.Core.Path.{sym}
+use Prim.Native.Nat.{_-_}
 use native.Mathlib.Omega.{arith}
-use lib.ListN.{length, drop, getD, replicate}
+use lib.ListN.{length}
 use Rattle.lists.proofs.Rows.{row-fits}
 use Rattle.mlpg_adjust.specs.Frames.{expand}
 use Rattle.mlpg_adjust.proofs.MaskTheory.{expand-length}
-use Rattle.mlpg_adjust.proofs.MaskClosing.{Closing, closing, closed, closing-off, closing-room, closing-filled, frame, maskBy, mask-long, mask-state}
+use Rattle.mlpg_adjust.proofs.MaskClosing.{Closing, closing, closed, closing-room, closing-filled, maskBy, mask-long, mask-state}
 use borrow.Author.Needs.{needs}
 use Rattle.mlpg_adjust.proofs.closing.close_up_switches.Statement.{statement}
 use Rattle.mlpg_adjust.proofs.closing.close_up_switches.Tie as tie
@@ -18,15 +16,6 @@ Inv-loop records u durations switches out₀ s₀ k₀ out s k = Closing (maskBy
 
 abbrev μ-loop : tie.MeasureT-loop
 μ-loop records u durations switches out₀ s₀ k₀ out s k = length durations - s
-
--- the frames of a voiced state, and room for them
-module _ (c : tie.Then1 Inv-loop μ-loop) where
-  voiced : drop (frame (c .before .before .before .before .before .before .before .before .args .durations .now) (c .before .before .before .loop .s)) (maskBy (c .before .before .before .before .before .before .before .before .args .u) (c .before .before .before .before .before .before .before .before .args .records .now) (c .before .before .before .before .before .before .before .before .args .durations .now))
-      ≡ replicate (getD (c .before .before .before .before .before .before .before .before .args .durations .now) (c .before .before .before .loop .s) 0) true ++ drop (frame (c .before .before .before .before .before .before .before .before .args .durations .now) (c .before .before .before .loop .s + 1)) (maskBy (c .before .before .before .before .before .before .before .before .args .u) (c .before .before .before .before .before .before .before .before .args .records .now) (c .before .before .before .before .before .before .before .before .args .durations .now))
-  voiced = mask-state (c .before .before .before .before .before .before .before .before .args .u) (c .before .before .before .before .before .before .before .before .args .records .now) (c .before .before .before .before .before .before .before .before .args .durations .now) (c .before .before .before .loop .s) true (c .before .before .loop-test .taken) (sym (c .before .voiced-at .ensures) ∙ c .if1 .taken)
-
-  room : c .before .before .before .loop .k + getD (c .before .before .before .before .before .before .before .before .args .durations .now) (c .before .before .before .loop .s) 0 ≤ length (c .before .before .before .loop .out)
-  room = closing-room _ _ _ _ _ _ _ (c .before .before .before .loop .inv) (c .before .before .loop-test .taken) (expand-length _ _ (c .before .before .before .before .before .before .before .before .pre .1)) voiced
 
 loop-holds : tie.Need-loop-holds Inv-loop μ-loop
 loop-holds c = closing _ _ _ _ (c .before .before .before .before .pre .2)
@@ -43,8 +32,11 @@ shared-slice-read-wide c = search needs
 wide-requires : tie.Need-wide-requires Inv-loop μ-loop
 wide-requires c κs = search needs
 
+closed-of-requires : tie.Need-closed-of-requires Inv-loop μ-loop
+closed-of-requires c κs = search needs
+
 add-e : tie.Need-add-e Inv-loop μ-loop
-add-e c = omega (arith, c .wide .ensures, room (c .before .before))
+add-e c = omega (arith, rw (c .before .wide .ensures) at (c .closed-of .ensures), closing-room _ _ _ _ _ _ _ (c .before .before .before .before .before .loop .inv) (c .before .before .before .before .loop-test .taken) (expand-length _ _ (c .before .before .before .before .before .before .before .before .before .before .pre .1)) _ (mask-state _ _ _ _ _ (c .before .before .before .before .loop-test .taken) (sym (c .before .before .before .voiced-at .ensures))))
 
 shared-slice-read-wide-u8 : tie.Need-shared-slice-read-wide-u8 Inv-loop μ-loop
 shared-slice-read-wide-u8 c = search needs
@@ -62,7 +54,7 @@ part-fill-u32-start : tie.Need-part-fill-u32-start Inv-loop μ-loop
 part-fill-u32-start c = search needs
 
 part-fill-u32-end : tie.Need-part-fill-u32-end Inv-loop μ-loop
-part-fill-u32-end c = omega (arith, c .before .before .wide .ensures, room (c .before .before .before .before))
+part-fill-u32-end c = omega (arith, rw (c .before .before .before .wide .ensures) at (c .before .before .closed-of .ensures), closing-room _ _ _ _ _ _ _ (c .before .before .before .before .before .before .before .loop .inv) (c .before .before .before .before .before .before .loop-test .taken) (expand-length _ _ (c .before .before .before .before .before .before .before .before .before .before .before .before .pre .1)) _ (mask-state _ _ _ _ _ (c .before .before .before .before .before .before .loop-test .taken) (sym (c .before .before .before .before .before .voiced-at .ensures))))
 
 fill-u32-requires : tie.Need-fill-u32-requires Inv-loop μ-loop
 fill-u32-requires c κs = search needs
@@ -75,20 +67,8 @@ loop-less c = search needs
 
 loop-again : tie.Need-loop-again Inv-loop μ-loop
 loop-again c =
-    closing-filled _ _ _ _ _ _ _ (c .before .before .before .before .before .before .before .before .before .before .before .loop .inv) (c .before .before .before .before .before .before .before .before .before .before .loop-test .taken) (c .before .before .before .before .before .before .before .before .before .before .before .before .before .before .before .before .pre .1) (voiced (c .before .before .before .before .before .before .before .before)) _ _ _ _ (c .before .before .before .before .before .before .wide .ensures) (c .before .before .before .before .wide-u8 .ensures) (c .before .before .fill-u32 .ensures)
-
-add-s-2 : tie.Need-add-s-2 Inv-loop μ-loop
-add-s-2 c = search needs
-
-loop-less-2 : tie.Need-loop-less-2 Inv-loop μ-loop
-loop-less-2 c = search needs
-
-loop-again-2 : tie.Need-loop-again-2 Inv-loop μ-loop
-loop-again-2 c =
-    let s = c .before .before .before .before .before .before .before .before .args in
-    let t = c .before .before .loop-test .taken in
-    closing-off _ _ _ _ _ _ _ (c .before .before .before .loop .inv) t (expand-length (s .durations .now) (s .switches .now) (c .before .before .before .before .before .before .before .before .pre .1))
-    (mask-state (s .u) (s .records .now) (s .durations .now) (c .before .before .before .loop .s) _ t (sym (c .before .voiced-at .ensures) ∙ c .if1 .left))
+    closing-filled _ _ _ _ _ _ _ (c .before .before .before .before .before .before .before .before .before .before .before .loop .inv) (c .before .before .before .before .before .before .before .before .before .before .loop-test .taken) (c .before .before .before .before .before .before .before .before .before .before .before .before .before .before .before .before .pre .1) _ (mask-state _ _ _ _ _ (c .before .before .before .before .before .before .before .before .before .before .loop-test .taken) (sym (c .before .before .before .before .before .before .before .before .before .voiced-at .ensures)))
+    _ _ _ _ (rw (c .before .before .before .before .before .before .before .wide .ensures) at (c .before .before .before .before .before .before .closed-of .ensures)) (c .before .before .before .before .wide-u8 .ensures) (c .before .before .fill-u32 .ensures)
 
 same-length : tie.Need-same-length Inv-loop μ-loop
 same-length c = c .before .loop .inv .long
@@ -107,6 +87,7 @@ close-up-switches-spec =
     mul-wide
     shared-slice-read-wide
     wide-requires
+    closed-of-requires
     add-e
     shared-slice-read-wide-u8
     wide-u8-requires
@@ -118,8 +99,5 @@ close-up-switches-spec =
     add-s
     loop-less
     loop-again
-    add-s-2
-    loop-less-2
-    loop-again-2
     same-length
     returns)

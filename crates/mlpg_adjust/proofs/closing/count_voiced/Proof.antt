@@ -1,10 +1,10 @@
 -- `mlpg_adjust::closing::count_voiced` meets its contract. Assumes nothing.
-use mathlib.Core.Path.{sym, _∙_}
+use mathlib.Core.Path.{sym}
 use Prim.Native.Nat.{_-_}
 use native.Mathlib.Omega.{arith}
 use lib.ListN.{length}
 use Rattle.lists.proofs.Rows.{row-fits}
-use Rattle.mlpg_adjust.proofs.MaskClosing.{Counted, counted, counted-done, counted-off, counted-on, counted-fits}
+use Rattle.mlpg_adjust.proofs.MaskClosing.{Counted, counted, counted-done, counted-next, counted-fits}
 use borrow.Author.Needs.{needs}
 use Rattle.mlpg_adjust.proofs.closing.count_voiced.Statement.{statement}
 use Rattle.mlpg_adjust.proofs.closing.count_voiced.Tie as tie
@@ -30,8 +30,11 @@ shared-slice-read-wide c = search needs
 wide-requires : tie.Need-wide-requires Inv-loop μ-loop
 wide-requires c κs = search needs
 
+closed-of-requires : tie.Need-closed-of-requires Inv-loop μ-loop
+closed-of-requires c κs = search needs
+
 add-n : tie.Need-add-n Inv-loop μ-loop
-add-n c = omega (arith, c .wide .ensures, c .before .before .before .before .before .before .before .before .pre .1, counted-fits _ _ _ _ _ (c .before .before .before .before .before .loop .inv) (c .before .before .before .before .loop-test .taken) (sym (c .before .before .before .voiced-at .ensures) ∙ c .before .before .if1 .taken))
+add-n c = omega (arith, rw (c .before .wide .ensures) at (c .closed-of .ensures), c .before .before .before .before .before .before .before .before .pre .1, counted-fits _ _ _ _ _ (c .before .before .before .before .before .loop .inv) (c .before .before .before .before .loop-test .taken) _ (sym (c .before .before .before .voiced-at .ensures)))
 
 add-s : tie.Need-add-s Inv-loop μ-loop
 add-s c = search needs
@@ -40,16 +43,7 @@ loop-less : tie.Need-loop-less Inv-loop μ-loop
 loop-less c = search needs
 
 loop-again : tie.Need-loop-again Inv-loop μ-loop
-loop-again c = counted-on _ _ _ _ _ (c .before .before .before .before .before .loop .inv) (c .before .before .before .before .loop-test .taken) (sym (c .before .before .before .voiced-at .ensures) ∙ c .before .before .if1 .taken) _ (c .wide .ensures)
-
-add-s-2 : tie.Need-add-s-2 Inv-loop μ-loop
-add-s-2 c = search needs
-
-loop-less-2 : tie.Need-loop-less-2 Inv-loop μ-loop
-loop-less-2 c = search needs
-
-loop-again-2 : tie.Need-loop-again-2 Inv-loop μ-loop
-loop-again-2 c = counted-off _ _ _ _ _ (c .before .before .before .loop .inv) (c .before .before .loop-test .taken) (sym (c .before .voiced-at .ensures) ∙ c .if1 .left)
+loop-again c = counted-next _ _ _ _ _ (c .before .before .before .before .before .loop .inv) (c .before .before .before .before .loop-test .taken) _ (sym (c .before .before .before .voiced-at .ensures)) _ (rw (c .before .wide .ensures) at (c .closed-of .ensures))
 
 returns : tie.Need-returns Inv-loop μ-loop
 returns c = counted-done _ _ _ _ _ (c .before .loop .inv) (c .loop-test .left)
@@ -65,11 +59,9 @@ count-voiced-spec =
     mul-wide
     shared-slice-read-wide
     wide-requires
+    closed-of-requires
     add-n
     add-s
     loop-less
     loop-again
-    add-s-2
-    loop-less-2
-    loop-again-2
     returns)

@@ -4,7 +4,7 @@ use Prim.Native.Nat.{_+_, _-_, _*_, _<_, _≤_}
 use native.Mathlib.Nat.{zero-mul}
 use native.Mathlib.Omega.{arith}
 use lib.ListN.{length, drop}
-use Rattle.mlpg_adjust.specs.Frames.{setsBy}
+use Rattle.mlpg_adjust.specs.TrajectoryInner.{setsBy}
 use Rattle.mlpg_adjust.proofs.MaskFilling.{column-next, column-in, put-next, put-done}
 use borrow.Author.Needs.{needs}
 use Rattle.mlpg_adjust.proofs.filling.put_column.Statement.{statement}

@@ -5,7 +5,7 @@ use native.Mathlib.Nat.{add-sub-cancel-left, suc-mul, zero-mul}
 use native.Mathlib.Numerals.{add-one}
 use native.Mathlib.Omega.{arith}
 use lib.ListN.{length}
-use Rattle.mlpg_adjust.specs.Frames.{setsLanes}
+use Rattle.mlpg_adjust.specs.TrajectoryInner.{setsLanes}
 use Rattle.mlpg_adjust.specs.Rows.{part}
 use Rattle.mlpg_adjust.proofs.Lanes.{region-fits}
 use Rattle.mlpg_adjust.proofs.MaskLaws.{part-length}

@@ -4,7 +4,7 @@ use Prim.Native.Nat.{_+_, _-_, _*_, _<_, _≤_}
 use native.Mathlib.Nat.{zero-mul}
 use native.Mathlib.Omega.{arith}
 use lib.ListN.{length, replicate}
-use Rattle.mlpg_adjust.specs.Frames.{setsBy}
+use Rattle.mlpg_adjust.specs.TrajectoryInner.{setsBy}
 use Rattle.mlpg_adjust.proofs.MaskFilling.{column-next, column-in, spread-start, spread-next, spread-done}
 use borrow.Author.Needs.{needs}
 use Rattle.mlpg_adjust.proofs.filling.spread_column.Statement.{statement}

@@ -2,7 +2,7 @@
 use mathlib.Core.Path.{_≡_, refl, _∙_}
 use Prim.Native.Nat.{_-_, _≤_}
 use lib.ListN.{length, replicate}
-use Rattle.mlpg_adjust.specs.Frames.{setsLanes}
+use Rattle.mlpg_adjust.specs.TrajectoryInner.{setsLanes}
 use Rattle.mlpg_adjust.proofs.MaskFilling.{lanes-next, lanes-done}
 use borrow.Author.Needs.{needs}
 use Rattle.mlpg_adjust.proofs.filling.spread_lanes.Statement.{statement}

@@ -1,36 +1,27 @@
--- `mlpg_adjust::gv::rescale` meets its contract: t values are drawn apart, those of them that are switched are summed, and the rest is as it was. Assumes nothing.
-use mathlib.Core.Path.{_≡_, refl, sym, ap, _∙_}
-use mathlib.Core.List.{List, _++_, map}
+-- `mlpg_adjust::gv::rescale` meets its contract: t values are drawn apart, and the rest is as it was. Assumes nothing.
+use mathlib.Core.Path.{_≡_, _∙_}
+use mathlib.Core.List.{_++_, map}
 use Prim.Native.Nat.{_-_, _≤_}
 use native.Mathlib.Omega.{arith}
 use lib.ListN.{length, drop}
-use lib.Ieee.{Float, nan}
+use lib.Ieee.{nan}
 use Rattle.lists.specs.Build.{build}
-use Rattle.lists.proofs.Fills.{build-length, build-next, build-read, build-done}
-use Rattle.mlpg_adjust.specs.Frames.{select}
+use Rattle.lists.proofs.Fills.{build-next, build-read, build-done}
 use Rattle.mlpg_adjust.specs.MaskVoicing.{isOn}
-use Rattle.mlpg_adjust.specs.Sums.{over}
-use Rattle.mlpg_adjust.specs.Rows.{nought}
-use Rattle.mlpg_adjust.specs.Gv.{sumOf, convAt}
-use Rattle.mlpg_adjust.specs.GvInner.{joinedAt}
-use Rattle.mlpg_adjust.proofs.Orders.{over-step}
-use Rattle.lists.proofs.Builds.{build-at}
-use Rattle.mlpg_adjust.proofs.Switches.{join-all}
+use Rattle.mlpg_adjust.specs.Gv.{convAt}
 use borrow.Author.Needs.{needs}
 use Rattle.mlpg_adjust.proofs.gv.rescale.Statement.{statement}
 use Rattle.mlpg_adjust.proofs.gv.rescale.Tie as tie
 
 abbrev Inv-loop : tie.InvT-loop
-Inv-loop par₀ on first mean ratio n sum₀ t₀ par sum t =
-    (t ≤ n) × (n ≡ length par₀) × (length par ≡ length par₀) × (par ≡ build (convAt (map isOn on) mean ratio par₀) t ++ drop t par₀)
-    × (sum ≡ over (joinedAt (λ x. x) (map isOn on) first (build (convAt (map isOn on) mean ratio par₀) (length par₀))) t nought)
+Inv-loop par₀ on mean ratio n t₀ par t = (t ≤ n) × (n ≡ length par₀) × (length par ≡ length par₀) × (par ≡ build (convAt (map isOn on) mean ratio par₀) t ++ drop t par₀)
 
 abbrev μ-loop : tie.MeasureT-loop
-μ-loop par₀ on first mean ratio n sum₀ t₀ par sum t = n - t
+μ-loop par₀ on mean ratio n t₀ par t = n - t
 
 loop-holds : tie.Need-loop-holds Inv-loop μ-loop
-unfolding build over
-loop-holds c = (search needs, search needs, search needs, search needs, refl)
+unfolding build
+loop-holds c = (search needs, search needs, search needs, search needs)
 
 el-requires : tie.Need-el-requires Inv-loop μ-loop
 el-requires c κs = search needs
@@ -47,9 +38,6 @@ mul-par c = search needs
 slice-write-par : tie.Need-slice-write-par Inv-loop μ-loop
 slice-write-par c = search needs
 
-add-switched-requires : tie.Need-add-switched-requires Inv-loop μ-loop
-add-switched-requires c κs = search needs
-
 add-t : tie.Need-add-t Inv-loop μ-loop
 add-t c = search needs
 
@@ -57,29 +45,19 @@ loop-less : tie.Need-loop-less Inv-loop μ-loop
 loop-less c = search needs
 
 loop-again : tie.Need-loop-again Inv-loop μ-loop
-loop-again c = let s = c .before .before .before .before .before .before .before .before .before .args in
-    let l = c .before .before .before .before .before .before .loop in
+loop-again c = let s = c .before .before .before .before .before .before .before .before .args in
+    let l = c .before .before .before .before .before .loop in
     let f = convAt (map isOn (s .on .now)) (s .mean) (s .ratio) (s .par .now) in
-    let e : c .before .conv-at .result ≡ f (l .t) = c .before .conv-at .ensures ∙ rw (c .before .before .is-switched .ensures, c .before .before .before .el .ensures, build-read f (s .par .now) (l .par) (l .t) nan (omega arith) (l .inv .3)) in (
-      search needs,
-      search needs,
-      search needs,
-      build-next f (s .par .now) (l .par) (l .t) _ nan (omega arith) e (l .inv .3),
-      c .add-switched .ensures ∙ rw (e ∙ sym (build-at f (length (s .par .now)) (l .t) nan (omega arith)), l .inv .4) (over-step (joinedAt (λ (x : Float). x) (map isOn (s .on .now)) (s .first) (build f (length (s .par .now)))) (l .t) nought),
-    )
+    let e : c .conv-at .result ≡ f (l .t) = c .conv-at .ensures ∙ rw (c .before .is-switched .ensures, c .before .before .el .ensures, build-read f (s .par .now) (l .par) (l .t) nan (omega arith) (l .inv .3)) in
+    (search needs, search needs, search needs, build-next f (s .par .now) (l .par) (l .t) _ nan (omega arith) e (l .inv .3))
 
 same-length : tie.Need-same-length Inv-loop μ-loop
 same-length c = search needs
 
 returns : tie.Need-returns Inv-loop μ-loop
 returns c = let s = c .before .before .before .before .args in
-    let q = c .before .before .before .before .pre in
     let l = c .before .loop in
-    let o = map isOn (s .on .now) in
-    let f = convAt o (s .mean) (s .ratio) (s .par .now) in
-    let d : l .par ≡ build f (length (s .par .now)) = build-done f (s .par .now) (l .par) (l .t) (length (s .par .now)) (omega arith) (omega arith) (l .inv .3) in
-    let e : length (s .on .now) ≡ length (build f (length (s .par .now))) = q .0 ∙ sym (build-length f (length (s .par .now))) in
-    (d, l .inv .4 ∙ join-all (s .on .now) (λ (x : Float). x) (build f (length (s .par .now))) (s .first) (l .t) nought e (q .1) (q .2) (omega arith) ∙ ap (λ (v : List Float). sumOf (λ x. x) (select o v)) (sym d))
+    build-done (convAt (map isOn (s .on .now)) (s .mean) (s .ratio) (s .par .now)) (s .par .now) (l .par) (l .t) (length (s .par .now)) (omega arith) (omega arith) (l .inv .3)
 
 pub rescale-spec : {M : Type 1} → statement M
 rescale-spec =
@@ -93,7 +71,6 @@ rescale-spec =
     conv-at-requires
     mul-par
     slice-write-par
-    add-switched-requires
     add-t
     loop-less
     loop-again

@@ -34,14 +34,8 @@ loop-holds : tie.Need-loop-holds Inv-loop μ-loop
 loop-holds c = let s = c .before .before .before .before .args in
     let p = c .before .before .before .before .pre in (omega arith, rw (c .square .ensures, c .before .el .ensures) (laws.sum-first (s .on .now) (squared (s .mean)) (s .par .now) (s .first) (p .0) (p .1) (p .2)))
 
-is-switched-requires : tie.Need-is-switched-requires Inv-loop μ-loop
-is-switched-requires c κs = search needs
-
-el-requires-2 : tie.Need-el-requires-2 Inv-loop μ-loop
-el-requires-2 c κs = search needs
-
-square-requires-2 : tie.Need-square-requires-2 Inv-loop μ-loop
-square-requires-2 c κs = search needs
+add-square-requires : tie.Need-add-square-requires Inv-loop μ-loop
+add-square-requires c κs = search needs
 
 add-t-2 : tie.Need-add-t-2 Inv-loop μ-loop
 add-t-2 c = search needs
@@ -50,17 +44,9 @@ loop-less : tie.Need-loop-less Inv-loop μ-loop
 loop-less c = search needs
 
 loop-again : tie.Need-loop-again Inv-loop μ-loop
-loop-again c = let s = c .before .before .before .before .before .before .before .before .before .before .args in
-    let l = c .before .before .before .before .before .loop in
-    (omega arith, rw (c .before .square2 .ensures, c .before .before .el2 .ensures) (laws.sum-on (s .on .now) (squared (s .mean)) (s .par .now) (l .t) (l .sum) (omega arith) (c .before .before .before .before .before .before .before .before .before .before .pre .0) (sym (c .before .before .before .is-switched .ensures) ∙ c .if1 .taken) ∙ l .inv .1))
-
-loop-less-2 : tie.Need-loop-less-2 Inv-loop μ-loop
-loop-less-2 c = search needs
-
-loop-again-2 : tie.Need-loop-again-2 Inv-loop μ-loop
-loop-again-2 c = let s = c .before .before .before .before .before .before .before .before .before .before .args in
-    let l = c .before .before .before .before .before .loop in
-    (omega arith, laws.sum-off (s .on .now) (squared (s .mean)) (s .par .now) (l .t) (l .sum) (omega arith) (c .before .before .before .before .before .before .before .before .before .before .pre .0) (sym (c .before .before .before .is-switched .ensures) ∙ c .if1 .left) ∙ l .inv .1)
+loop-again c = let s = c .before .before .before .before .before .before .before .args in
+    let l = c .before .before .loop in
+    (omega arith, rw (c .add-square .ensures) (laws.sum-next (s .on .now) (squared (s .mean)) (s .par .now) (l .t) (l .sum) (omega arith) (c .before .before .before .before .before .before .before .pre .0) ∙ l .inv .1))
 
 returns : tie.Need-returns Inv-loop μ-loop
 returns c = let s = c .before .before .before .before .before .before .args in
@@ -76,12 +62,8 @@ squares-sum-spec =
     square-requires
     add-t
     loop-holds
-    is-switched-requires
-    el-requires-2
-    square-requires-2
+    add-square-requires
     add-t-2
     loop-less
     loop-again
-    loop-less-2
-    loop-again-2
     returns)

@@ -31,11 +31,8 @@ loop-holds : tie.Need-loop-holds Inv-loop μ-loop
 loop-holds c = let s = c .before .before .before .args in
     let p = c .before .before .before .pre in (omega arith, rw (c .el .ensures) (laws.sum-first (s .on .now) (λ (x : Float). x) (s .par .now) (s .first) (p .0) (p .1) (p .2)))
 
-is-switched-requires : tie.Need-is-switched-requires Inv-loop μ-loop
-is-switched-requires c κs = search needs
-
-el-requires-2 : tie.Need-el-requires-2 Inv-loop μ-loop
-el-requires-2 c κs = search needs
+add-value-requires : tie.Need-add-value-requires Inv-loop μ-loop
+add-value-requires c κs = search needs
 
 add-t-2 : tie.Need-add-t-2 Inv-loop μ-loop
 add-t-2 c = search needs
@@ -44,17 +41,9 @@ loop-less : tie.Need-loop-less Inv-loop μ-loop
 loop-less c = search needs
 
 loop-again : tie.Need-loop-again Inv-loop μ-loop
-loop-again c = let s = c .before .before .before .before .before .before .before .before .args in
-    let l = c .before .before .before .before .loop in
-    (omega arith, rw (c .before .el2 .ensures) (laws.sum-on (s .on .now) (λ (x : Float). x) (s .par .now) (l .t) (l .sum) (omega arith) (c .before .before .before .before .before .before .before .before .pre .0) (sym (c .before .before .is-switched .ensures) ∙ c .if1 .taken) ∙ l .inv .1))
-
-loop-less-2 : tie.Need-loop-less-2 Inv-loop μ-loop
-loop-less-2 c = search needs
-
-loop-again-2 : tie.Need-loop-again-2 Inv-loop μ-loop
-loop-again-2 c = let s = c .before .before .before .before .before .before .before .before .args in
-    let l = c .before .before .before .before .loop in
-    (omega arith, laws.sum-off (s .on .now) (λ (x : Float). x) (s .par .now) (l .t) (l .sum) (omega arith) (c .before .before .before .before .before .before .before .before .pre .0) (sym (c .before .before .is-switched .ensures) ∙ c .if1 .left) ∙ l .inv .1)
+loop-again c = let s = c .before .before .before .before .before .before .args in
+    let l = c .before .before .loop in
+    (omega arith, rw (c .add-value .ensures) (laws.sum-next (s .on .now) (λ (x : Float). x) (s .par .now) (l .t) (l .sum) (omega arith) (c .before .before .before .before .before .before .pre .0) ∙ l .inv .1))
 
 returns : tie.Need-returns Inv-loop μ-loop
 returns c = let s = c .before .before .before .before .before .args in
@@ -69,11 +58,8 @@ switched-sum-spec =
     el-requires
     add-t
     loop-holds
-    is-switched-requires
-    el-requires-2
+    add-value-requires
     add-t-2
     loop-less
     loop-again
-    loop-less-2
-    loop-again-2
     returns)

@@ -5,7 +5,8 @@ use lib.Seq.{length-take-le}
 use native.Mathlib.Omega.{arith}
 use Rattle.lists.specs.Totals.{total}
 use Rattle.mlpg_adjust.specs.MaskPromise.{framesRefusal}
-use Rattle.mlpg_adjust.proofs.MaskWays.{passed, framed, mask-stops, mask-6, mask-done}
+use Rattle.mlpg_adjust.proofs.Ends.{passed}
+use Rattle.mlpg_adjust.proofs.MaskWays.{framed, mask-stops, mask-6, mask-done}
 use borrow.Author.Needs.{needs}
 use Rattle.mlpg_adjust.proofs.mask.mask.Statement.{statement}
 use Rattle.mlpg_adjust.proofs.mask.mask.Tie as tie

@@ -5,7 +5,8 @@ use lib.Seq.{length-take-le}
 use native.Mathlib.Omega.{arith}
 use Rattle.lists.specs.Totals.{total}
 use Rattle.mlpg_adjust.specs.MaskPromise.{framesRefusal}
-use Rattle.mlpg_adjust.proofs.MaskWays.{passed, framed, masked-stops, masked-6, masked-6-left, masked-6-right, masked-done}
+use Rattle.mlpg_adjust.proofs.Ends.{passed}
+use Rattle.mlpg_adjust.proofs.MaskWays.{framed, masked-stops, masked-6, masked-6-left, masked-6-right, masked-done}
 use borrow.Author.Needs.{needs}
 use Rattle.mlpg_adjust.proofs.mask.mask_with_distances.Statement.{statement}
 use Rattle.mlpg_adjust.proofs.mask.mask_with_distances.Tie as tie

@@ -5,7 +5,8 @@ use Prim.Native.Nat.{_≤_, _-_}
 use native.Mathlib.Omega.{arith}
 use lib.ListN.{length, getD, drop}
 use Rattle.lists.specs.Build.{build}
-use Rattle.mlpg_adjust.specs.Rows.{nought, elem}
+use Rattle.floats.specs.Numbers.{nought}
+use Rattle.mlpg_adjust.specs.Rows.{elem}
 use Rattle.mlpg_adjust.specs.Paper.{added}
 use Rattle.mlpg_adjust.proofs.Terms.{add-next, add-done}
 use borrow.Author.Needs.{needs}

@@ -4,7 +4,7 @@ use Prim.Native.Nat.{ℕ, _+_, _-_, _*_, _/_, _<_, _≤_, min}
 use native.Mathlib.Omega.{arith}
 use lib.ListN.{length}
 use lib.Ieee.{nan}
-use Rattle.mlpg_adjust.specs.Rows.{nought}
+use Rattle.floats.specs.Numbers.{nought}
 use Rattle.mlpg_adjust.proofs.Terms.{same-at}
 use Rattle.mlpg_adjust.proofs.Taps.{zero-column, less-min, below, late, earlier, frames-end, column-starts, column-ends, row-narrow, column-idle, column-none, column-done}
 use borrow.Author.Needs.{needs}

@@ -1,5 +1,5 @@
 -- `mlpg_adjust::passes::clear` meets its contract. Assumes nothing.
-use Rattle.mlpg_adjust.specs.Rows.{nought}
+use Rattle.floats.specs.Numbers.{nought}
 use Rattle.mlpg_adjust.proofs.Passing.{cleared}
 use borrow.Author.Needs.{needs}
 use Rattle.mlpg_adjust.proofs.passes.clear.Statement.{statement}

@@ -8,27 +8,23 @@ use Rattle.mlpg_adjust.proofs.gv.MlpgGlobalVariance.calc_hmmobj_derivat
 calc-gradient-requires : tie.Need-calc-gradient-requires
 calc-gradient-requires c κs = search needs
 
-calc-sums-requires : tie.Need-calc-sums-requires
-calc-sums-requires c κs = search needs
+calc-hmmobj-requires : tie.Need-calc-hmmobj-requires
+calc-hmmobj-requires c κs = search needs
 
 same-length : tie.Need-same-length
 same-length c = search needs
 
 returns : tie.Need-returns
-returns c = let s = c .before .before .before .before .before .before .before .before .args in
-    let z = c .before .before .before .before .before .before .before .before .pre .0 in
+returns c = let s = c .before .before .before .before .before .before .before .args in
+    let z = c .before .before .before .before .before .before .before .pre in
     let e = c .before .before .before .before .calc-gradient .ensures in
-    let values = graded-values (s .self) (s .p) (s .m .now) z _ e in (
-      e,
-      c .calc-sums .ensures .0 ∙ rw (graded-right (s .self) (s .p) (s .m .now) z _ e, graded-gradient (s .self) (s .p) (s .m .now) z _ e, values),
-      c .calc-sums .ensures .1 ∙ rw values,
-    )
+    (e, c .calc-hmmobj .ensures ∙ rw (graded-right (s .self) (s .p) (s .m .now) z _ e, graded-gradient (s .self) (s .p) (s .m .now) z _ e, graded-values (s .self) (s .p) (s .m .now) z _ e))
 
 pub calc-hmmobj-derivative-spec : {M : Type 1} → statement M
 calc-hmmobj-derivative-spec =
     tie.close
     (tie.spec
     calc-gradient-requires
-    calc-sums-requires
+    calc-hmmobj-requires
     same-length
     returns)

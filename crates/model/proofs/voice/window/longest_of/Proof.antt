@@ -20,11 +20,14 @@ loop-holds : tie.Need-loop-holds Inv-loop μ-loop
 unfolding longest
 loop-holds c = (omega arith, refl)
 
-mul-larger : tie.Need-mul-larger Inv-loop μ-loop
-mul-larger c = search needs
+mul-wide : tie.Need-mul-wide Inv-loop μ-loop
+mul-wide c = search needs
 
-shared-slice-read-larger : tie.Need-shared-slice-read-larger Inv-loop μ-loop
-shared-slice-read-larger c = search needs
+shared-slice-read-wide : tie.Need-shared-slice-read-wide Inv-loop μ-loop
+shared-slice-read-wide c = search needs
+
+wide-requires : tie.Need-wide-requires Inv-loop μ-loop
+wide-requires c κs = search needs
 
 larger-requires : tie.Need-larger-requires Inv-loop μ-loop
 larger-requires c κs = search needs
@@ -36,7 +39,7 @@ loop-less : tie.Need-loop-less Inv-loop μ-loop
 loop-less c = search needs
 
 loop-again : tie.Need-loop-again Inv-loop μ-loop
-loop-again c = let l = c .before .before .before .loop in (omega arith, rw (c .larger .ensures) (fold-more max (l .found) _ (l .i) 0 (c .before .before .loop-test .taken) ∙ l .inv .1))
+loop-again c = let l = c .before .before .before .before .loop in (omega arith, rw (c .larger .ensures, c .before .wide .ensures) (fold-more max (l .found) _ (l .i) 0 (c .before .before .before .loop-test .taken) ∙ l .inv .1))
 
 returns : tie.Need-returns Inv-loop μ-loop
 returns c = let l = c .before .loop in sym (fold-done max (l .found) _ (l .i) (c .loop-test .left)) ∙ l .inv .1
@@ -48,8 +51,9 @@ longest-of-spec =
     Inv-loop
     μ-loop
     loop-holds
-    mul-larger
-    shared-slice-read-larger
+    mul-wide
+    shared-slice-read-wide
+    wide-requires
     larger-requires
     add-i
     loop-less

@@ -1,0 +1,19 @@
+-- `mlpg_adjust::gv::add_value` meets its contract. Assumes nothing.
+use borrow.Author.Needs.{needs}
+use Rattle.mlpg_adjust.proofs.gv.add_value.Statement.{statement}
+use Rattle.mlpg_adjust.proofs.gv.add_value.Tie as tie
+
+is-switched-requires : tie.Need-is-switched-requires
+is-switched-requires c κs = search needs
+
+el-requires : tie.Need-el-requires
+el-requires c κs = search needs
+
+returns : tie.Need-returns
+returns c = rw (← c .before .before .is-switched .ensures, c .before .if1 .taken, c .el .ensures)
+
+returns-2 : tie.Need-returns-2
+returns-2 c = rw (← c .before .is-switched .ensures, c .if1 .left)
+
+pub add-value-spec : {M : Type 1} → statement M
+add-value-spec = tie.close (tie.spec is-switched-requires el-requires returns returns-2)

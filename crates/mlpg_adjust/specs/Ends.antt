@@ -1,0 +1,16 @@
+-- How a call that fills lists, an item or a row a frame, ends. Assumes nothing.
+use mathlib.Core.List.{[], _∷_}
+use Prim.Native.Nat.{ℕ, zero, suc}
+use Rattle.lists.specs.Answers.{Answer}
+use Rattle.mlpg_adjust.specs.declared.Filled.{Filled}
+use Rattle.mlpg_adjust.specs.declared.Filled.the-variants.{Done, Refused}
+
+-- 01's number and values of an answer: the frame count, of an accepted call alone
+abbrev pub filled : Filled → Answer
+filled (Done n) = record { number = 0; values = n ∷ [] }
+filled (Refused k) = record { number = k; values = [] }
+
+-- the answer of a number, with n frames where nothing is refused
+abbrev pub filledOf : ℕ → ℕ → Filled
+filledOf zero n = Done n
+filledOf (suc k) n = Refused (suc k)
