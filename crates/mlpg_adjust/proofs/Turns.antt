@@ -247,7 +247,7 @@ module _ (g : MlpgGlobalVariance) (p : Places) (on : List Bool) (gvMean gvVari :
   pub rescaled-long : length rescaled ≡ length M
   rescaled-long = ap length rescaled-is ∙ length-sets M (p .values) y
 
-  pub rescaled-values : part (p .values) (g .length) rescaled ≡ y
+  rescaled-values : part (p .values) (g .length) rescaled ≡ y
   rescaled-values = ap (λ (l : List Float). part (p .values) (g .length) l) rescaled-is ∙ stored-whole y M (p .values) (g .length) y-long (z .spaced .room)
 
   pub parmgen-region : (m : List Float) → (count on ≡ 0 → ⊥)

@@ -292,21 +292,19 @@ struct Moments {
     vari: f64,
 }
 
-// The size of the step, the objective before it (NaN where there is none, which changes no size), and the sum of the switched values.
+// The size of the step, and the objective before it: NaN where there is none, which changes no size.
 struct Descent {
     step: f64,
     prev: f64,
-    sum: f64,
 }
 
 impl Descent {
-    fn start(sum: f64) -> Descent
-        ensures { λ r. ⌜ (r .step ≡ stepInit) × (r .prev ≡ nan) × (r .sum ≡ sum) ⌝ }
+    fn start() -> Descent
+        ensures { λ r. ⌜ (r .step ≡ stepInit) × (r .prev ≡ nan) ⌝ }
     {
         Descent {
             step: MlpgGlobalVariance::STEPINIT,
             prev: 0.0 / 0.0,
-            sum: sum,
         }
     }
 
@@ -371,16 +369,14 @@ impl MlpgGlobalVariance {
         }
     }
 
-    // The switched values, drawn apart about their mean, and their sum.
-    fn conv_gv(self, par: &mut [f64], on: &[u32], gv_mean: f64) -> f64
+    // The switched values, drawn apart about their mean.
+    fn conv_gv(self, par: &mut [f64], on: &[u32], gv_mean: f64)
         requires { ⌜ Counted self (map isOn (now on)) × (length (now par) ≡ self .length) × (self .length ≤ 65536) × (0 < self .switched) ⌝ }
-        ensures { λ r. ⌜ (now (par .exit) ≡ convGv (map isOn (now (on .entry))) «gv_mean» (now (par .entry)))
-            × (r ≡ sumOf (λ x. x) (select (map isOn (now (on .entry))) (now (par .exit)))) ⌝ }
+        ensures { λ _. ⌜ now (par .exit) ≡ convGv (map isOn (now (on .entry))) «gv_mean» (now (par .entry)) ⌝ }
     {
         let m = self.calc_gv(par, on);
         let ratio = floats::sqrt(gv_mean / m.vari);
         rescale(par, on, m.mean, ratio);
-        switched_sum(par, on, self.first)
     }
 
     // The objective's first part; the gradient is where the factors were.
@@ -436,7 +432,7 @@ impl MlpgGlobalVariance {
     }
 
     // Each value after the step; the gradient is where the factors were.
-    fn step_values(self, m: &mut [f64], p: Places, on: &[u32], s: Pull)
+    fn next_step(self, m: &mut [f64], p: Places, on: &[u32], s: Pull)
         requires { ⌜ Sized self p (length (now m)) × (length (now on) ≡ self .length) ⌝ }
         ensures { λ _. ⌜ now (m .exit) ≡ sets (now (m .entry)) (p .values) (build (λ t. pulled s (getD (now (m .entry)) (p .rows + t * self .width) nan) (getD (map isOn (now (on .entry))) t false)
             (getD (now (m .entry)) (p .factors + t) nan) (getD (now (m .entry)) (p .right + t) nan) (getD (now (m .entry)) (p .values + t) nan)) (self .length)) ⌝ }
@@ -462,19 +458,6 @@ impl MlpgGlobalVariance {
         }
     }
 
-    // Each value after the step, and the sum of the switched ones: two passes, as beside a sum values would be done one by one.
-    fn next_step(self, m: &mut [f64], p: Places, on: &[u32], s: Pull) -> f64
-        requires { ⌜ Sized self p (length (now m)) × Counted self (map isOn (now on)) × (0 < self .switched) ⌝ }
-        ensures { λ r. ⌜ (now (m .exit) ≡ sets (now (m .entry)) (p .values) (build (λ t. pulled s (getD (now (m .entry)) (p .rows + t * self .width) nan) (getD (map isOn (now (on .entry))) t false)
-            (getD (now (m .entry)) (p .factors + t) nan) (getD (now (m .entry)) (p .right + t) nan) (getD (now (m .entry)) (p .values + t) nan)) (self .length)))
-            × (r ≡ sumOf (λ x. x) (select (map isOn (now (on .entry))) (part (p .values) (self .length) (now (m .exit))))) ⌝ }
-    {
-        self.step_values(m, p, on, s);
-        let values = p.values;
-        let values_end = values + self.length;
-        switched_sum(&m[values..values_end], on, self.first)
-    }
-
     // One turn of the loop: objective, size of the step, next values.
     fn turn(
         self,
@@ -485,32 +468,29 @@ impl MlpgGlobalVariance {
         gv_vari: f64,
         s: Descent,
     ) -> Descent
-        requires { ⌜ Sized self p (length (now m)) × Counted self (map isOn (now on)) × (0 < self .switched) × (s .sum ≡ sumOf (λ x. x) (select (map isOn (now on)) (part (p .values) (self .length) (now m)))) ⌝ }
-        ensures { λ r. ⌜ Turned self p (map isOn (now (on .entry))) «gv_mean» «gv_vari» (now (m .entry)) (s .step) (s .prev) (now (m .exit)) (r .step) (r .prev)
-            × (r .sum ≡ sumOf (λ x. x) (select (map isOn (now (on .entry))) (part (p .values) (self .length) (now (m .exit))))) ⌝ }
+        requires { ⌜ Sized self p (length (now m)) × Counted self (map isOn (now on)) × (0 < self .switched) ⌝ }
+        ensures { λ r. ⌜ Turned self p (map isOn (now (on .entry))) «gv_mean» «gv_vari» (now (m .entry)) (s .step) (s .prev) (now (m .exit)) (r .step) (r .prev) ⌝ }
     {
-        let count = self.switched as f64;
-        let mean = s.sum / count;
         let values = p.values;
         let values_end = values + self.length;
-        let vari = squares_sum(&m[values..values_end], on, self.first, mean) / count;
+        let gv = self.calc_gv(&m[values..values_end], on);
         let hmm = self.calc_hmmobj_derivative(m, p);
-        let obj = -(hmm + gv_obj(gv_mean, gv_vari, vari));
+        let obj = -(hmm + gv_obj(gv_mean, gv_vari, gv.vari));
         let step = s.size_after(obj);
-        let sum = self.next_step(m, p, on, self.pull(gv_mean, gv_vari, mean, vari, step));
+        let pull = self.pull(gv_mean, gv_vari, gv.mean, gv.vari, step);
+        self.next_step(m, p, on, pull);
         Descent {
             step: step,
             prev: obj,
-            sum: sum,
         }
     }
 
-    fn five_turns(self, m: &mut [f64], p: Places, on: &[u32], gv_mean: f64, gv_vari: f64, sum: f64)
-        requires { ⌜ Sized self p (length (now m)) × Counted self (map isOn (now on)) × (0 < self .switched) × (sum ≡ sumOf (λ x. x) (select (map isOn (now on)) (part (p .values) (self .length) (now m)))) ⌝ }
+    fn five_turns(self, m: &mut [f64], p: Places, on: &[u32], gv_mean: f64, gv_vari: f64)
+        requires { ⌜ Sized self p (length (now m)) × Counted self (map isOn (now on)) × (0 < self .switched) ⌝ }
         ensures { λ _. ⌜ part (p .values) (self .length) (now (m .exit)) ≡ valuesOf (iterate (turn (self .width) (part (p .rows) (self .length * self .width) (now (m .entry))) (part (p .right) (self .length) (now (m .entry)))
             (map isOn (now (on .entry))) (self .windows) «gv_mean» «gv_vari») 5 (state (part (p .values) (self .length) (now (m .entry))) stepInit nan)) ⌝ }
     {
-        let mut s = Descent::start(sum);
+        let mut s = Descent::start();
         let mut k = 0;
         while k < Self::GV_MAX_ITERATION {
             s = self.turn(m, p, on, gv_mean, gv_vari, s);
@@ -529,7 +509,7 @@ impl MlpgGlobalVariance {
         }
         let values = p.values;
         let values_end = values + self.length;
-        let sum = self.conv_gv(&mut m[values..values_end], on, gv_mean);
-        self.five_turns(m, p, on, gv_mean, gv_vari, sum);
+        self.conv_gv(&mut m[values..values_end], on, gv_mean);
+        self.five_turns(m, p, on, gv_mean, gv_vari);
     }
 }

@@ -1,5 +1,4 @@
 -- `mlpg_adjust::closing::closed_of` meets its contract. Assumes nothing.
-use mathlib.Core.Path.{sym, _∙_}
 use Rattle.mlpg_adjust.proofs.Counts.{count-all, count-none}
 use Rattle.mlpg_adjust.proofs.closing.closed_of.Statement.{statement}
 use Rattle.mlpg_adjust.proofs.closing.closed_of.Tie as tie

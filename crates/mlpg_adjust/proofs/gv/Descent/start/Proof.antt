@@ -6,7 +6,7 @@ use Rattle.mlpg_adjust.proofs.gv.Descent.start.Tie as tie
 
 returns : tie.Need-returns
 unfolding div ofBits
-returns c = (refl, refl, refl)
+returns c = (refl, refl)
 
 pub start-spec : {M : Type 1} → statement M
 start-spec = tie.close (tie.spec returns)

@@ -17,25 +17,13 @@ rescale-requires c κs = let s = c .before .before .before .before .before .befo
     let q = c .before .before .before .before .before .before .before .pre in
     counted (s .on .now) (s .self) (q .0) (q .3) .0 ∙ sym (q .1)
 
-switched-sum-requires : tie.Need-switched-sum-requires
-switched-sum-requires c κs = let s = c .before .before .before .before .before .before .before .before .before .before .before .args in
-    let q = c .before .before .before .before .before .before .before .before .before .before .before .pre in
-    let k = counted (s .on .now) (s .self) (q .0) (q .3) in (k .0 ∙ sym (c .before .before .before .rescale .kept .0 ∙ q .1), k .1, k .2)
-
 same-length : tie.Need-same-length
 same-length c = search needs
 
 returns : tie.Need-returns
 unfolding convGv
-returns c = let m = c .before .before .before .before .before .before .before .before .calc-gv .ensures in (c .before .before .before .before .rescale .ensures ∙ rw (c .before .before .before .before .before .before .sqrt .ensures, m .1, m .0), c .switched-sum .ensures)
+returns c = let m = c .before .before .before .before .before .before .calc-gv .ensures in c .before .before .rescale .ensures ∙ rw (c .before .before .before .before .sqrt .ensures, m .1, m .0)
 
 pub conv-gv-spec : {M : Type 1} → statement M
 conv-gv-spec =
-    tie.close
-    (tie.spec
-    calc-gv-requires
-    sqrt-requires
-    rescale-requires
-    switched-sum-requires
-    same-length
-    returns)
+    tie.close (tie.spec calc-gv-requires sqrt-requires rescale-requires same-length returns)

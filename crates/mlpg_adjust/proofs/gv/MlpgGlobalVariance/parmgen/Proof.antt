@@ -1,16 +1,13 @@
 -- `mlpg_adjust::gv::MlpgGlobalVariance::parmgen` meets its contract. Assumes nothing.
-use mathlib.Core.Path.{sym, ap, _∙_}
-use mathlib.Core.List.{List, map}
+use mathlib.Core.Path.{sym, _∙_}
+use mathlib.Core.List.{map}
 use Prim.Native.Nat.{_+_, _*_}
 use native.Mathlib.Nat.{add-sub-cancel-left}
 use native.Mathlib.Omega.{arith}
 use borrow.Rule.Slice.PartMut.{mid-len}
-use lib.Ieee.{Float}
-use Rattle.mlpg_adjust.specs.Frames.{select}
 use Rattle.mlpg_adjust.specs.MaskVoicing.{isOn}
 use Rattle.mlpg_adjust.specs.Rows.{part}
-use Rattle.mlpg_adjust.specs.Gv.{sumOf}
-use Rattle.mlpg_adjust.proofs.Turns.{parmgen-none, parmgen-region, rescaled-long, rescaled-values}
+use Rattle.mlpg_adjust.proofs.Turns.{parmgen-none, parmgen-region, rescaled-long}
 use borrow.Author.Needs.{needs}
 use Rattle.mlpg_adjust.proofs.gv.MlpgGlobalVariance.parmgen.Statement.{statement}
 use Rattle.mlpg_adjust.proofs.gv.MlpgGlobalVariance.parmgen.Tie as tie
@@ -44,13 +41,7 @@ conv-gv-requires c κs = let s = c .before .before .before .before .before .befo
 five-turns-requires : tie.Need-five-turns-requires
 five-turns-requires c κs = let s = c .before .before .before .before .before .before .before .before .before .before .args in
     let q = c .before .before .before .before .before .before .before .before .before .before .pre in
-    let o = map isOn (s .on .now) in
-    let e = c .before .before .before .conv-gv .ensures in (
-      rw (rescaled-long (s .self) (s .p) o (s .gv-mean) (s .gv-vari) (s .m .now) (q .0) _ (e .0)) (q .0),
-      q .1,
-      omega (arith, c .before .before .before .before .before .before .if1 .left),
-      e .1 ∙ ap (λ (v : List Float). sumOf (λ x. x) (select o v)) (sym (rescaled-values (s .self) (s .p) o (s .gv-mean) (s .gv-vari) (s .m .now) (q .0) _ (e .0))),
-    )
+    (rw (rescaled-long (s .self) (s .p) (map isOn (s .on .now)) (s .gv-mean) (s .gv-vari) (s .m .now) (q .0) _ (c .before .before .before .conv-gv .ensures)) (q .0), q .1, omega (arith, c .before .before .before .before .before .before .if1 .left))
 
 same-length : tie.Need-same-length
 same-length c = search needs
@@ -58,7 +49,7 @@ same-length c = search needs
 returns-2 : tie.Need-returns-2
 returns-2 c = let s = c .before .before .before .before .before .before .before .before .before .before .before .before .before .args in
     let q = c .before .before .before .before .before .before .before .before .before .before .before .before .before .pre in
-    parmgen-region (s .self) (s .p) (map isOn (s .on .now)) (s .gv-mean) (s .gv-vari) (s .m .now) (q .0) _ (c .before .before .before .before .before .before .conv-gv .ensures .0) _ (rw (q .1 .number) at (c .before .before .before .before .before .before .before .before .before .if1 .left)) (c .before .before .five-turns .ensures)
+    parmgen-region (s .self) (s .p) (map isOn (s .on .now)) (s .gv-mean) (s .gv-vari) (s .m .now) (q .0) _ (c .before .before .before .before .before .before .conv-gv .ensures) _ (rw (q .1 .number) at (c .before .before .before .before .before .before .before .before .before .if1 .left)) (c .before .before .five-turns .ensures)
 
 pub parmgen-spec : {M : Type 1} → statement M
 parmgen-spec =
