@@ -9,6 +9,7 @@ use lib.Seq.{getD-set-other}
 use lib.Dec.{ltb}
 use lib.Ieee.{Float}
 use Rattle.lists.specs.Totals.{total}
+use Rattle.lists.proofs.Sums.{getD-le-total}
 use Rattle.duration.specs.declared.costs.Entry.{Entry}
 use Rattle.duration.specs.Steps.{moved, keys, leastOf, step, settle}
 use Rattle.duration.specs.Fit.{mostFrames}
@@ -20,7 +21,7 @@ use Rattle.duration.proofs.Order.{sooner-lesser}
 use Rattle.duration.proofs.Keys.{least-place}
 use Rattle.duration.proofs.Nodes.{node-leaf, node-in, kept-none, kept-next, Climbing, climb-start, climb-in, other-in, climb-next, climb-end, root-least, root-in, path-start}
 use Rattle.duration.proofs.Packs.{length-lows, length-highs, lows-plain}
-use Rattle.duration.proofs.Stepping.{getD-le-total, found-in, found-may, found-step, step-ready, Going, going, going-again, going-done}
+use Rattle.duration.proofs.Stepping.{found-in, found-may, found-step, step-ready, Going, going, going-again, going-done}
 
 place-of : (p k : ℕ) (x : Entry) → x ≡ record { place = p; key = k } → x .place ≡ p
 place-of p k x e = ap (λ (y : Entry). y .place) e

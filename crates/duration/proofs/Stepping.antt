@@ -1,33 +1,19 @@
 -- Steps: what one does to the total, and a loop of them. Assumes nothing.
 use mathlib.Core.Path.{_≡_, refl, sym, ap, _∙_}
 use mathlib.Core.Bool.{Bool, true, false}
-use mathlib.Core.List.{List, [], _∷_}
-use Prim.Native.Nat.{ℕ, zero, suc, _+_, _-_, _≤_, _<_, zero-le}
-use native.Mathlib.Nat.{not-suc-le-zero}
+use mathlib.Core.List.{List}
+use Prim.Native.Nat.{ℕ, zero, suc, _+_, _-_, _≤_, _<_}
 use native.Mathlib.Omega.{arith}
 use lib.Dec.{ltb}
 use lib.ListN.{length, getD, set, length-set}
 use lib.Ieee.{Float}
 use borrow.Author.Tests.{ltb-true, ltb-false, lt-ltb, le-ltb, eq-eqb, ne-eqb}
 use Rattle.lists.specs.Totals.{total, gap}
+use Rattle.lists.proofs.Sums.{getD-le-total, total-set}
 use Rattle.duration.specs.Steps.{moved, keys, leastOf, step, Outcome, unchanged, onceMore, settle}
 use Rattle.duration.specs.Fit.{mostFrames}
 use Rattle.duration.specs.Inner.{Ready, RoomFor, MayMove, Aim}
 use Rattle.duration.proofs.Keys.{place-in, place-long}
-
--- ---- totals
-
-pub getD-le-total : (ds : List ℕ) (i : ℕ) → getD ds i 0 ≤ total ds
-unfolding total
-getD-le-total [] i = zero-le
-getD-le-total (d ∷ ds) zero = omega arith
-getD-le-total (d ∷ ds) (suc i) = omega (arith, getD-le-total ds i)
-
-total-set : (ds : List ℕ) (i y : ℕ) → i < length ds → total (set ds i y) + getD ds i 0 ≡ total ds + y
-unfolding total
-total-set [] i y h = absurd (not-suc-le-zero h)
-total-set (d ∷ ds) zero y h = omega arith
-total-set (d ∷ ds) (suc i) y h = omega (arith, total-set ds i y (omega arith))
 
 -- ---- one step
 

@@ -5,7 +5,7 @@ use Prim.Native.Nat.{ℕ}
 use lib.ListN.{set, take}
 use lib.Ieee.{binary64, ofBits, toBits, ofInt, add, sub, mul, div, lt, eq, isNan}
 use Rattle.lists.specs.Build.{build, foldFrom}
-use Rattle.lists.specs.Bytes.{little, bytesOf}
+use Rattle.lists.specs.Bytes.{little, bytesOf, startsWith}
 use Rattle.lists.specs.Totals.{total}
 use Rattle.floats.specs.Rounding.{roundedOf}
 use Rattle.floats.specs.Order.{absOf, costBelow}
@@ -17,7 +17,7 @@ use Rattle.duration.specs.Fit.{startOf, fitTo, refusalTo}
 use Rattle.duration.specs.Speed.{naturals, targetAt, fitAt, refusalAt}
 use Rattle.duration.specs.Promise.{workOf, refusalOfLists}
 use Rattle.job.specs.declared.Answered.the-variants.{Done, Refused}
-use Rattle.job.specs.Format.{floatsAt, Job, startsWith, formatRefusal}
+use Rattle.job.specs.Format.{floatsAt, Job, formatRefusal}
 use Rattle.job.specs.Written.{bytesOfPairs, bytesOfHeading, bytesOfJob}
 use Rattle.job.specs.Promise.{JobSays}
 

@@ -9,10 +9,11 @@ use lib.Dec.{ltb, eqb}
 use lib.ListN.{length}
 use borrow.Author.Tests.{eq-eqb, ne-eqb, lt-ltb, le-ltb, eqb-true, ltb-false}
 use Rattle.lists.specs.Answers.{answerOf}
+use Rattle.lists.specs.Bytes.{startsWith}
 use Rattle.job.specs.declared.Heading.the-variants.{States, Damaged}
-use Rattle.job.specs.Format.{mark, versionOf, version, countOf, mostStates, lengthOf, IsJob, startsWith, formatRefusal}
+use Rattle.job.specs.Format.{mark, versionOf, version, countOf, mostStates, lengthOf, IsJob, formatRefusal}
 use Rattle.job.specs.Inner.{headed}
-use Rattle.job.proofs.Fronts.{starts-is, is-starts}
+use Rattle.lists.proofs.Fronts.{starts-is, is-starts}
 
 -- ---- each departure, where those before it are none
 

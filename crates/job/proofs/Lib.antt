@@ -1,5 +1,4 @@
 -- Laws, and the theorems on what the promise says.
-pub mod Fronts
 pub mod Departures
 pub mod Pairs
 pub mod Frames

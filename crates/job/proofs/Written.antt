@@ -1,29 +1,18 @@
 -- What is written is a job, and is read back as the same. Assumes nothing.
 use mathlib.Core.Path.{_≡_, refl, sym, ap, _∙_}
 use mathlib.Core.List.{List, [], _∷_, _++_, append-assoc}
-use Prim.Native.Nat.{ℕ, zero, suc, _+_, _*_, _/_, _≤_, _<_}
+use Prim.Native.Nat.{ℕ, zero, suc, _+_, _*_, _/_, _<_}
 use native.Mathlib.Omega.{arith}
 use lib.ListN.{length, take, drop, getD, length-append}
-use lib.Seq.{take-suc, take-length, take-at, drop-at, drop-append-add, drop-drop}
+use lib.Seq.{take-at, drop-at, drop-append-add, drop-drop}
 use lib.Ieee.{Float, nan, binary64, ofBits}
 use Rattle.lists.specs.Bytes.{little, bytesOf}
-use Rattle.lists.specs.Build.{build}
 use Rattle.lists.proofs.Bytes.{bytes-length, little-bytes}
+use Rattle.lists.proofs.Builds.{build-is}
 use Rattle.floats.proofs.Fields.{bytes-back}
 use Rattle.job.specs.Format.{floatAt, floatsAt, mark, version, countOf, IsJob, Job, jobOf, formatRefusal}
 use Rattle.job.specs.Written.{bytesOfFloat, bytesOfPairs, bytesOfHeading, bytesOfJob, Writable}
 use Rattle.job.proofs.Departures.{job-accepted}
-
--- ---- a list by a rule that gives another list's elements
-
-module _ {A : Type 0} (f : ℕ → A) (xs : List A) (z : A) (e : (i : ℕ) → i < length xs → f i ≡ getD xs i z) where
-  build-take : (n : ℕ) → n ≤ length xs → build f n ≡ take n xs
-  unfolding build
-  build-take zero h = refl
-  build-take (suc n) h = rw (build-take n (omega arith), e n (omega arith)) (sym (take-suc xs n z (omega arith)))
-
-  build-whole : build f (length xs) ≡ xs
-  build-whole = build-take (length xs) (omega arith) ∙ take-length xs
 
 -- ---- lengths
 
@@ -97,11 +86,11 @@ module _ (j : Job) (w : Writable j) where
 
   means-back : floatsAt (bytesOfJob j) 15 n ≡ j .means
   unfolding floatsAt
-  means-back = build-whole (λ (i : ℕ). floatAt (bytesOfJob j) (15 + 16 * i)) (j .means) nan mean-back
+  means-back = sym (build-is (λ (i : ℕ). floatAt (bytesOfJob j) (15 + 16 * i)) (length (j .means)) (j .means) nan refl (λ i h. sym (mean-back i h)))
 
   varis-back : floatsAt (bytesOfJob j) 23 n ≡ j .varis
   unfolding floatsAt
-  varis-back = rw (← w .agree) (build-whole (λ (i : ℕ). floatAt (bytesOfJob j) (23 + 16 * i)) (j .varis) nan (λ i h. vari-back i (omega (arith, w .agree))))
+  varis-back = rw (← w .agree) (sym (build-is (λ (i : ℕ). floatAt (bytesOfJob j) (23 + 16 * i)) (length (j .varis)) (j .varis) nan refl (λ i h. sym (vari-back i (omega (arith, w .agree))))))
 
   -- it is read back as the same
   pub written-back : jobOf (bytesOfJob j) ≡ j

@@ -1,13 +1,13 @@
 -- The job file. Assumes nothing.
 use mathlib.Core.Path.{_≡_}
-use mathlib.Core.Bool.{Bool, true, false, not, _&&_, cond}
+use mathlib.Core.Bool.{not, cond}
 use mathlib.Core.List.{List, [], _∷_}
 use Prim.Native.Nat.{ℕ, _+_, _*_, _≤_}
 use lib.Dec.{ltb, eqb}
 use lib.ListN.{length, take, drop}
 use lib.Ieee.{Float, binary64, ofBits}
 use Rattle.lists.specs.Build.{build}
-use Rattle.lists.specs.Bytes.{little}
+use Rattle.lists.specs.Bytes.{little, startsWith}
 
 -- 01, Places and the job file: "Job file, little-endian": the 16 bits and the float at a place
 abbrev pub wordAt : List ℕ → ℕ → ℕ
@@ -61,12 +61,6 @@ jobAt bytes n = record { speed = floatAt bytes 7; means = floatsAt bytes 15 n; v
 
 abbrev pub jobOf : List ℕ → Job
 jobOf bytes = jobAt bytes (countOf bytes)
-
--- whether a list begins with these numbers
-unfoldable pub startsWith : List ℕ → List ℕ → Bool
-startsWith [] bytes = true
-startsWith (m ∷ ms) [] = false
-startsWith (m ∷ ms) (b ∷ bs) = eqb b m && startsWith ms bs
 
 -- 01, Places and the job file: "Any departure is refusal 9"; each on its own, in the order of their places
 unfoldable pub formatRefusal : List ℕ → ℕ

@@ -5,7 +5,7 @@ ghost use Prim.Native.Nat.{_≤_};
 ghost use lib.ListN.{length};
 ghost use Rattle.lists.specs.Answers.{answerOf};
 ghost use Rattle.duration.specs.Promise.{fitted};
-ghost use Rattle.job.specs.Format.{floatsAt, countOf, mostStates, jobAt, startsWith, formatRefusal};
+ghost use Rattle.job.specs.Format.{floatsAt, countOf, mostStates, jobAt, formatRefusal};
 ghost use Rattle.job.specs.Inner.{headed, CreateSays};
 ghost use Rattle.job.specs.Promise.{JobSays};
 use duration::Fitted;
@@ -27,27 +27,10 @@ enum Heading {
     Damaged,
 }
 
-// Whether bytes begin with these.
-pub fn starts_with(bytes: &[u8], front: &[u8]) -> bool
-    ensures { λ r. ⌜ r ≡ startsWith (now (front .entry)) (now (bytes .entry)) ⌝ }
-{
-    let mut i = 0;
-    while i < front.len() {
-        if i >= bytes.len() {
-            return false;
-        }
-        if bytes[i] != front[i] {
-            return false;
-        }
-        i += 1;
-    }
-    true
-}
-
 fn read_heading(bytes: &[u8]) -> Heading
     ensures { λ r. ⌜ headed r ≡ answerOf (formatRefusal (now (bytes .entry))) (countOf (now (bytes .entry)) ∷ []) ⌝ }
 {
-    if !starts_with(bytes, b"SPJ") {
+    if !lists::starts_with(bytes, b"SPJ") {
         return Heading::Damaged;
     }
     if lists::little_endian(bytes, 3, 2) != 1 {

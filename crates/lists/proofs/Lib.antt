@@ -8,5 +8,6 @@ pub mod Regions
 pub mod Sums
 pub mod Rows
 pub mod Bytes
+pub mod Fronts
 pub mod Answers
 pub mod Refusals

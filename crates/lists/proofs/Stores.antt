@@ -1,13 +1,13 @@
 -- Laws of `sets`, a run of stores that goes as far as the list does: what a loop that stores has done after i turns, and at its end. Assumes nothing.
 use mathlib.Core.Path.{_≡_, refl, sym, ap, _∙_}
-use mathlib.Core.List.{List, [], _∷_, _++_}
+use mathlib.Core.List.{List, [], _∷_, _++_, append-nil}
 use mathlib.Core.Logic.{⊎-elim}
 use Prim.Native.Nat.{ℕ, suc, _+_, _-_, _<_, _≤_, min}
 use native.Mathlib.Nat.{add-zero, add-suc, suc-add}
 use native.Mathlib.Numerals.{add-one}
 use native.Mathlib.Omega.{arith}
-use lib.ListN.{length, take, drop, getD, set, replicate, length-take, length-replicate, length-set, getD-replicate, take-append-drop}
-use lib.Seq.{sets, length-sets, sets-eq, set-out, take-suc, take-all, length-take-le, getD-take}
+use lib.ListN.{length, take, drop, getD, set, replicate, length-take, length-replicate, length-set, getD-replicate, take-append-drop, drop-of-length-le}
+use lib.Seq.{sets, length-sets, sets-eq, set-out, take-suc, take-all, take-length, length-take-le, getD-take}
 use Rattle.lists.proofs.Numbers.{le-or-lt}
 
 module _ {A : Type 0} where
@@ -48,6 +48,12 @@ module _ {A : Type 0} where
       let e : length (take n src) ≡ n = length-take-le n src h in
       let z : 0 + n ≡ n = omega arith in
       sets-eq (take n src) dst 0 (omega arith) ∙ rw (e, z)
+
+  -- the whole of a list over one as long
+  pub copied-whole : (src dst : List A) → length dst ≡ length src → sets dst 0 (take (length src) src) ≡ src
+  copied-whole src dst e =
+      let h : length dst ≤ length src = omega arith in
+      copied (length src) src dst (omega arith) (omega arith) ∙ rw (take-length src, drop-of-length-le dst h, append-nil)
 
   -- a loop that stores xs over d, from the front on, as far as both go, has stored i of them
   pub record Storing (xs d s : List A) (end i : ℕ) : Type 0 where

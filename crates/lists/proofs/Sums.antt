@@ -1,10 +1,11 @@
 -- Laws of totals and of folds. Assumes nothing.
 use mathlib.Core.Path.{_≡_, ap}
 use mathlib.Core.List.{List, [], _∷_, _++_}
-use Prim.Native.Nat.{ℕ, suc, _+_, _*_, _^_, _<_, _≤_}
+use Prim.Native.Nat.{ℕ, zero, suc, _+_, _*_, _^_, _<_, _≤_, zero-le}
+use native.Mathlib.Nat.{not-suc-le-zero}
 use native.Mathlib.Numerals.{add-one}
 use native.Mathlib.Omega.{arith}
-use lib.ListN.{length, take, drop, getD, drop-of-length-le}
+use lib.ListN.{length, take, drop, getD, set, drop-of-length-le}
 use lib.Seq.{drop-cons, take-suc, take-all}
 use Rattle.lists.specs.Totals.{total}
 use Rattle.lists.specs.Build.{foldFrom}
@@ -18,6 +19,29 @@ total-append (x ∷ xs) ys = omega (arith, total-append xs ys)
 pub total-more : (xs : List ℕ) (i : ℕ) → i < length xs → total (take (i + 1) xs) ≡ total (take i xs) + getD xs i 0
 unfolding total
 total-more xs i h = rw (add-one, take-suc xs i 0 h) (omega (arith, total-append (take i xs) (getD xs i 0 ∷ [])))
+
+-- from a place on: one number less
+pub total-next : (xs : List ℕ) (i : ℕ) → i < length xs → total (drop i xs) ≡ getD xs i 0 + total (drop (i + 1) xs)
+unfolding total
+total-next xs i h = rw (drop-cons xs i 0 h, add-one)
+
+pub total-none : (xs : List ℕ) (i : ℕ) → length xs ≤ i → total (drop i xs) ≡ 0
+unfolding total
+total-none xs i h = rw (drop-of-length-le xs h)
+
+-- no number is larger than the total
+pub getD-le-total : (xs : List ℕ) (i : ℕ) → getD xs i 0 ≤ total xs
+unfolding total
+getD-le-total [] i = zero-le
+getD-le-total (x ∷ xs) zero = omega arith
+getD-le-total (x ∷ xs) (suc i) = omega (arith, getD-le-total xs i)
+
+-- one number becomes another
+pub total-set : (xs : List ℕ) (i y : ℕ) → i < length xs → total (set xs i y) + getD xs i 0 ≡ total xs + y
+unfolding total
+total-set [] i y h = absurd (not-suc-le-zero h)
+total-set (x ∷ xs) zero y h = omega arith
+total-set (x ∷ xs) (suc i) y h = omega (arith, total-set xs i y (omega arith))
 
 -- numbers of at most b have a total of at most b each
 pub total-under : (b : ℕ) (xs : List ℕ) → ((i : ℕ) → getD xs i 0 ≤ b) → total xs ≤ length xs * b

@@ -4,7 +4,7 @@ ghost use Prim.Native.Nat.{_^_, min, max};
 ghost use lib.ListN.{take, drop, replicate};
 ghost use lib.Seq.{sets};
 ghost use Rattle.lists.specs.Totals.{total};
-ghost use Rattle.lists.specs.Bytes.{little, bytesOf};
+ghost use Rattle.lists.specs.Bytes.{little, bytesOf, startsWith};
 
 // The first n numbers become v.
 pub fn fill_u32(s: &mut [u32], n: usize, v: u32)
@@ -151,4 +151,21 @@ pub fn put_little_endian(bytes: &mut [u8], at: usize, number: u64)
         rest = rest / 256;
         i += 1;
     }
+}
+
+// Whether bytes begin with these.
+pub fn starts_with(bytes: &[u8], front: &[u8]) -> bool
+    ensures { λ r. ⌜ r ≡ startsWith (now (front .entry)) (now (bytes .entry)) ⌝ }
+{
+    let mut i = 0;
+    while i < front.len() {
+        if i >= bytes.len() {
+            return false;
+        }
+        if bytes[i] != front[i] {
+            return false;
+        }
+        i += 1;
+    }
+    true
 }

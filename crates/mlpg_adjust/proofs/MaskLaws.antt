@@ -8,26 +8,21 @@ use native.Mathlib.Numerals.{add-one}
 use native.Mathlib.Omega.{arith}
 use borrow.Rule.Slice.PartMut.{midOf, putMid, mid-len, same-len-mid}
 use lib.ListN.{length, set, take, drop, getD, replicate, length-append, length-replicate, length-set, drop-of-length-le}
-use lib.Seq.{sets, length-take-le, take-at, take-suc, take-length, take-take, take-set-le, drop-cons, drop-set-lt, getD-take}
+use lib.Seq.{sets, length-take-le, take-at, take-suc, take-take, take-set-le, drop-cons, drop-set-lt, getD-take}
 use Rattle.lists.specs.Totals.{total}
 use Rattle.lists.proofs.Fills.{stored, finished, stored-back}
-use Rattle.lists.proofs.Stores.{filled, copied}
+use Rattle.lists.proofs.Stores.{filled}
+use Rattle.lists.proofs.Sums.{total-next, total-none}
 use Rattle.mlpg_adjust.specs.Frames.{expand}
 use Rattle.mlpg_adjust.specs.MaskVoicing.{isOn}
 use Rattle.mlpg_adjust.specs.MaskBoundaries.{ahead, lefts, rights}
-
--- the whole of a list over one as long
-pub copied-whole : (src dst : List ℕ) → length dst ≡ length src → sets dst 0 (take (length src) src) ≡ src
-copied-whole src dst e =
-    let h : length dst ≤ length src = omega arith in
-    copied (length src) src dst (omega arith) (omega arith) ∙ rw (take-length src, drop-of-length-le dst h, append-nil)
 
 -- ---- flags
 
 abbrev pub bools : List ℕ → List Bool
 bools ys = map isOn ys
 
-on-true : (y : ℕ) → (y ≡ 0 → ⊥) → isOn y ≡ true
+pub on-true : (y : ℕ) → (y ≡ 0 → ⊥) → isOn y ≡ true
 on-true zero h = absurd (h refl)
 on-true (suc y) h = refl
 
@@ -127,15 +122,6 @@ module _ (old m : List ℕ) (f run : ℕ) where
   counted-all k h = let z : f ≡ 0 = omega arith in rw z at (k .done)
 
 -- ---- states' items at their frames
-
-module _ (ds : List ℕ) (s : ℕ) where
-  pub total-next : s < length ds → total (drop s ds) ≡ getD ds s 0 + total (drop (s + 1) ds)
-  unfolding total
-  total-next l = rw (drop-cons ds s 0 l, add-one)
-
-  pub total-none : length ds ≤ s → total (drop s ds) ≡ 0
-  unfolding total
-  total-none l = rw (drop-of-length-le ds l)
 
 module _ {A : Type 0} where
   pub expand-next : (ds : List ℕ) (xs : List A) (s : ℕ) (z : A) → s < length ds → s < length xs

@@ -2,7 +2,7 @@
 use mathlib.Core.Path.{_≡_, refl, sym, _∙_}
 use mathlib.Core.Bool.{Bool, true, false, cond}
 use mathlib.Core.List.{List, [], _∷_, map}
-use Prim.Native.Nat.{ℕ, zero, suc, _+_, _<_, _≤_}
+use Prim.Native.Nat.{ℕ, suc, _+_, _<_, _≤_}
 use native.Mathlib.Numerals.{add-one}
 use native.Mathlib.Omega.{arith}
 use lib.Dec.{T, le→leb}
@@ -11,6 +11,7 @@ use lib.ListN.{length, getD, drop, drop-of-length-le, length-map, List·getD-map
 use lib.Seq.{drop-cons}
 use lib.Ieee.{Float, nan, binary64, add, inFloat}
 use Rattle.lists.specs.Build.{foldFrom}
+use Rattle.mlpg_adjust.proofs.MaskLaws.{on-true}
 use Rattle.mlpg_adjust.specs.Frames.{select, count}
 use Rattle.mlpg_adjust.specs.MaskVoicing.{isOn}
 use Rattle.mlpg_adjust.specs.Rows.{elem}
@@ -23,10 +24,6 @@ use Rattle.mlpg_adjust.proofs.Counts.{count-most}
 pub exact : (n : ℕ) → n ≤ 9007199254740992 → T (inFloat binary64 (pos n))
 unfolding inFloat
 exact n h = le→leb n 9007199254740992 h
-
-on-true : (y : ℕ) → (y ≡ 0 → ⊥) → isOn y ≡ true
-on-true zero h = absurd (h refl)
-on-true (suc y) h = refl
 
 pub switch-off : (on : List ℕ) (t : ℕ) → getD on t 0 ≡ 0 → false ≡ getD (map isOn on) t false
 switch-off on t e = sym (List·getD-map isOn on t 0 ∙ rw e)

@@ -139,7 +139,7 @@ fn main() {
         os::fail(b"FILE");
         return;
     }
-    if n == 6 && job::starts_with(&path[..n], b"--help") {
+    if n == 6 && lists::starts_with(&path[..n], b"--help") {
         print_help();
         return;
     }

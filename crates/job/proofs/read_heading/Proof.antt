@@ -1,10 +1,11 @@
 -- `job::read_heading` meets its contract. Assumes nothing.
 use mathlib.Core.Path.{_≡_, sym, ap, _∙_, subst}
+use Rattle.lists.specs.Bytes.{startsWith}
 use mathlib.Core.Bool.{true}
 use Prim.Native.Nat.{ℕ, _≤_, _<_}
 use borrow.Author.Needs.{needs}
 use borrow.Author.Tests.{not-true, not-false}
-use Rattle.job.specs.Format.{mark, versionOf, version, countOf, mostStates, lengthOf, startsWith}
+use Rattle.job.specs.Format.{mark, versionOf, version, countOf, mostStates, lengthOf}
 use Rattle.job.proofs.Departures.{departs-mark, departs-version, departs-count, departs-length, departs-nowhere, heading-damaged, heading-states}
 use Rattle.job.proofs.read_heading.Statement.{statement}
 use Rattle.job.proofs.read_heading.Tie as tie

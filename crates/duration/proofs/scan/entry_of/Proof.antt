@@ -1,8 +1,8 @@
 -- `duration::scan::entry_of` meets its contract. Assumes nothing.
 use native.Mathlib.Omega.{arith}
+use Rattle.lists.proofs.Sums.{getD-le-total}
 use borrow.Author.Needs.{needs}
 use Rattle.duration.specs.Scores.{keyAt}
-use Rattle.duration.proofs.Stepping.{getD-le-total}
 use Rattle.duration.proofs.scan.entry_of.Statement.{statement}
 use Rattle.duration.proofs.scan.entry_of.Tie as tie
 

@@ -1,10 +1,10 @@
 -- `duration::tree::entry_at` meets its contract. Assumes nothing.
 use native.Mathlib.Omega.{arith}
+use Rattle.lists.proofs.Sums.{getD-le-total}
 use borrow.Author.Needs.{needs}
 use Rattle.duration.specs.Scores.{keyAt}
 use Rattle.duration.specs.Pack.{lows}
 use Rattle.duration.proofs.Packs.{length-lows}
-use Rattle.duration.proofs.Stepping.{getD-le-total}
 use Rattle.duration.proofs.tree.entry_at.Statement.{statement}
 use Rattle.duration.proofs.tree.entry_at.Tie as tie
 

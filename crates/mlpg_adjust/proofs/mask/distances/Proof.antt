@@ -1,9 +1,10 @@
 -- `mlpg_adjust::mask::distances` meets its contract. Assumes nothing.
 use mathlib.Core.Path.{ap, _∙_}
+use Rattle.lists.proofs.Stores.{copied-whole}
 use mathlib.Core.List.{List}
 use Prim.Native.Nat.{ℕ}
 use Rattle.mlpg_adjust.specs.MaskBoundaries.{lefts, rights}
-use Rattle.mlpg_adjust.proofs.MaskLaws.{bools, copied-whole}
+use Rattle.mlpg_adjust.proofs.MaskLaws.{bools}
 use borrow.Author.Needs.{needs}
 use Rattle.mlpg_adjust.proofs.mask.distances.Statement.{statement}
 use Rattle.mlpg_adjust.proofs.mask.distances.Tie as tie

@@ -1,10 +1,10 @@
--- `job::starts_with` meets its contract. The first i bytes are alike, and the rest decides. Assumes nothing.
+-- `lists::starts_with` meets its contract. The first i bytes are alike, and the rest decides. Assumes nothing.
 use Prim.Native.Nat.{_-_}
 use borrow.Author.Needs.{needs}
 use lib.ListN.{length}
-use Rattle.job.proofs.Fronts.{Alike, alike, alike-done, alike-short, alike-not, alike-next}
-use Rattle.job.proofs.starts_with.Statement.{statement}
-use Rattle.job.proofs.starts_with.Tie as tie
+use Rattle.lists.proofs.Fronts.{Alike, alike, alike-done, alike-short, alike-not, alike-next}
+use Rattle.lists.proofs.starts_with.Statement.{statement}
+use Rattle.lists.proofs.starts_with.Tie as tie
 
 abbrev Inv-loop : tie.InvT-loop
 Inv-loop bytes front i₀ i = Alike front bytes i

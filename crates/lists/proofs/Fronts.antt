@@ -9,7 +9,7 @@ use lib.Dec.{eqb}
 use lib.ListN.{length, take, drop, getD, drop-of-length-le}
 use lib.Seq.{drop-cons}
 use borrow.Author.Tests.{eq-eqb, ne-eqb, eqb-true}
-use Rattle.job.specs.Format.{startsWith}
+use Rattle.lists.specs.Bytes.{startsWith}
 
 -- ---- a loop that compares has found the first i alike
 
