@@ -1,5 +1,5 @@
 -- Laws of passes along the frames: what each does to the rows and the right side. Assumes nothing.
-use mathlib.Core.Path.{_≡_, refl, sym, ap, _∙_}
+use mathlib.Core.Path.{_≡_, refl, sym, ap, subst, _∙_}
 use mathlib.Core.Bool.{Bool, true, false, cond}
 use mathlib.Core.List.{List}
 use mathlib.Core.Logic.{⊎-elim, _≢_}
@@ -13,10 +13,17 @@ use lib.Ieee.{Float, nan}
 use Rattle.lists.proofs.Numbers.{le-or-lt}
 use Rattle.lists.proofs.Rows.{row-fits, row-in}
 use Rattle.mlpg_adjust.specs.Rows.{elem, part}
-use Rattle.mlpg_adjust.specs.Passes.{Along, Moved, within}
+use Rattle.mlpg_adjust.specs.Passes.{Along, AlongPair, Moved, within, span}
 use Rattle.mlpg_adjust.specs.declared.solve.Places.{Places}
 use Rattle.mlpg_adjust.specs.declared.passes.Span.{Span}
 use Rattle.mlpg_adjust.proofs.Readings.{part-elem}
+
+-- a number itself, or another
+pub by-place : (j : ℕ) (P : ℕ → Type 0) (i : ℕ) → (i ≢ j → P i) → P j → P i
+by-place j P i a b = ⊎-elim
+    (λ (g : i ≤ j). ⊎-elim (λ (q : j ≤ i). let e : i ≡ j = omega arith in subst P (sym e) b) (λ (q : i < j). a (λ e. omega arith)) (le-or-lt j i))
+    (λ (g : j < i). a (λ e. omega arith))
+    (le-or-lt i j)
 
 -- ---- numbers at every step-th place
 
@@ -43,6 +50,43 @@ module _ (at step : ℕ) (f : ℕ → Float → Float) (d : List Float) where
         (le-or-lt t s);
     off = λ i g. getD-set-other m q i x nan (λ z. g t (omega arith) (z ∙ e)) ∙ k .off i (λ s l. g s (omega arith));
   }
+
+  -- a number at another place may change in both lists alike
+  along-aside : (m : List Float) (t q : ℕ) (x : Float) → ((s : ℕ) → s < t → q ≢ at + s * step) → q < length d → Along at step t f d m → Along at step t f (set d q x) (set m q x)
+  along-aside m t q x a h k = record {
+    long = length-set m q x ∙ k .long ∙ sym (length-set d q x);
+    on = λ s l. getD-set-other m q (at + s * step) x nan (λ z. a s l (sym z)) ∙ k .on s l ∙ ap (f s) (sym (getD-set-other d q (at + s * step) x nan (λ z. a s l (sym z))));
+    off = λ i g. by-place q (λ (j : ℕ). elem (set m q x) j ≡ elem (set d q x) j) i
+        (λ ne. getD-set-other m q i x nan ne ∙ k .off i g ∙ sym (getD-set-other d q i x nan ne))
+        (getD-set-same m q x nan (omega (arith, h, k .long)) ∙ sym (getD-set-same d q x nan h));
+  }
+
+  pub along-same : (f′ : ℕ → Float → Float) (m : List Float) (t : ℕ) → ((s : ℕ) (y : Float) → s < t → f s y ≡ f′ s y) → Along at step t f d m → Along at step t f′ d m
+  along-same f′ m t e k = record { long = k .long; on = λ s l. k .on s l ∙ e s _ l; off = k .off }
+
+-- ---- numbers at two places a step, as if in two passes
+
+module _ (at gap step : ℕ) (f g : ℕ → Float → Float) (d : List Float) where
+  pub pair-none : AlongPair at gap step 0 f g d d
+  pair-none = record { between = d; first = along-none at step f d; second = along-none (at + gap) step g d }
+
+  pub pair-before : (m : List Float) (t i : ℕ) → AlongPair at gap step t f g d m → i < at → elem m i ≡ elem d i
+  pair-before m t i k h = along-before (at + gap) step g (k .between) m t i (k .second) (omega arith) ∙ along-before at step f d (k .between) t i (k .first) h
+
+  -- the first place of a step lies behind all second places before it
+  behind-gap : (s t : ℕ) → gap < step → s < t → at + t * step ≢ at + gap + s * step
+  behind-gap s t p h e = omega (arith, row-fits step s t h)
+
+  pub pair-next : (m : List Float) (t q : ℕ) (x y : Float) → gap < step → q ≡ at + t * step → q + gap < length m → x ≡ f t (elem m q) → y ≡ g t (elem (set m q x) (q + gap)) → AlongPair at gap step t f g d m
+      → AlongPair at gap step (t + 1) f g d (set (set m q x) (q + gap) y)
+  pair-next m t q x y p e h v o k =
+      let apart-here : (s : ℕ) → s < t → q ≢ at + gap + s * step = λ s l z. behind-gap s t p l (sym e ∙ z) in
+      let in-between : q < length (k .between) = omega (arith, h, k .second .long) in
+      record {
+        between = set (k .between) q x;
+        first = along-next at step f d (k .between) t q x (omega arith) e in-between (v ∙ ap (f t) (k .second .off q apart-here)) (k .first);
+        second = along-next (at + gap) step g (set (k .between) q x) (set m q x) t (q + gap) y (omega arith) (omega (arith, e)) (rw length-set h) o (along-aside (at + gap) step g (k .between) m t q x apart-here in-between (k .second));
+      }
 
 -- ---- rows of a span
 
@@ -72,17 +116,16 @@ module _ (r : Span) (t : ℕ) (h : Float → Float) (y : Float) where
 
 -- the rows before row t
 abbrev pub upTo : ℕ → Span
-upTo t = record { from = 0; to = t }
+upTo t = span 0 t
 
--- the rows up to those of a span, then the span's
-within-next : (r : Span) (t : ℕ) (h : Float → Float) (y : Float) → r .from ≤ r .to → within r t h (within (upTo (r .from)) t h y) ≡ within (upTo (r .to)) t h y
-within-next r t h y l = ⊎-elim
-    (λ (a : r .from ≤ t). ap (within r t h) (within-idle (upTo (r .from)) t h y (λ b c. absurd (omega (arith, a, c)))) ∙ ⊎-elim
-    (λ (b : r .to ≤ t). within-idle r t h y (λ c e. absurd (omega (arith, b, e))) ∙ sym (within-idle (upTo (r .to)) t h y (λ c e. absurd (omega (arith, b, e)))))
-    (λ (b : t < r .to). within-on r t h y a b ∙ sym (within-on (upTo (r .to)) t h y (omega arith) b))
+-- the rows from one up to those of a span, then the span's
+pub within-next : (a : ℕ) (r : Span) (t : ℕ) (h : Float → Float) (y : Float) → a ≤ r .from → r .from ≤ r .to → within r t h (within (span a (r .from)) t h y) ≡ within (span a (r .to)) t h y
+within-next a r t h y g l = ⊎-elim
+    (λ (b : r .from ≤ t). ap (within r t h) (within-idle (span a (r .from)) t h y (λ c e. absurd (omega (arith, b, e)))) ∙ ⊎-elim
+    (λ (c : r .to ≤ t). within-idle r t h y (λ e i. absurd (omega (arith, c, i))) ∙ sym (within-idle (span a (r .to)) t h y (λ e i. absurd (omega (arith, c, i)))))
+    (λ (c : t < r .to). within-on r t h y b c ∙ sym (within-on (span a (r .to)) t h y (omega (arith, g, b)) c))
     (le-or-lt (r .to) t))
-    (λ (a : t < r .from).
-    within-idle r t h _ (λ b c. absurd (omega (arith, a, b))) ∙ within-on (upTo (r .from)) t h y (omega arith) a ∙ sym (within-on (upTo (r .to)) t h y (omega arith) (omega (arith, a, l))))
+    (λ (b : t < r .from). within-idle r t h _ (λ c e. absurd (omega (arith, b, c))) ∙ rw (lt-ltb t (r .from) b, lt-ltb t (r .to) (omega (arith, b, l))))
     (le-or-lt (r .from) t)
 
 -- ---- places of a region
@@ -129,8 +172,8 @@ module _ (p : Places) (n w : ℕ) where
     moved-next f g d m m′ e k l = record {
       long = l .long ∙ k .long;
       pairs = λ i h. l .pairs i h ∙ k .pairs i h;
-      entries = λ t j h b. l .entries t j h b ∙ ap (within r t (f t j)) (k .entries t j h b) ∙ within-next r t (f t j) _ e;
-      sides = λ t h. l .sides t h ∙ ap (within r t (g t)) (k .sides t h) ∙ within-next r t (g t) _ e;
+      entries = λ t j h b. l .entries t j h b ∙ ap (within r t (f t j)) (k .entries t j h b) ∙ within-next 0 r t (f t j) _ (omega arith) e;
+      sides = λ t h. l .sides t h ∙ ap (within r t (g t)) (k .sides t h) ∙ within-next 0 r t (g t) _ (omega arith) e;
     }
 
 -- rows and entries have places of their own

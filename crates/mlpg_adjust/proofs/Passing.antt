@@ -1,18 +1,18 @@
 -- Laws of the passes one after the other: a tap's columns, a window's taps, all windows, all blocks. Assumes nothing.
-use mathlib.Core.Path.{_≡_, refl, sym, ap, _∙_}
+use mathlib.Core.Path.{_≡_, refl, sym, ap, subst, _∙_}
 use mathlib.Core.Bool.{Bool, true, false, cond}
 use mathlib.Core.List.{List, [], _∷_}
 use mathlib.Core.Logic.{⊎-elim}
-use Prim.Native.Nat.{ℕ, zero, suc, _+_, _-_, _*_, _/_, _<_, _≤_, min}
+use Prim.Native.Nat.{ℕ, zero, suc, _+_, _-_, _*_, _/_, _<_, _≤_, min, max}
 use native.Mathlib.Nat.{zero-add, zero-mul, suc-mul, mul-le-mul-right}
 use native.Mathlib.Numerals.{add-one}
 use native.Mathlib.Omega.{arith}
 use borrow.Rule.Slice.PartMut.{putMid}
-use borrow.Author.Tests.{lt-ltb, le-ltb, le-leb, lt-leb, eq-eqb, ne-eqb}
+use borrow.Author.Tests.{lt-ltb, le-ltb, le-leb, lt-leb}
 use lib.ListN.{length, getD, set, take, drop, replicate, length-set, length-drop, length-replicate, getD-replicate, take-append-drop, List·getD-eq-default}
 use lib.Seq.{sets, length-sets, getD-take, getD-drop, getD-set-same, length-take-le}
 use lib.Dec.{ltb}
-use lib.Ieee.{Float, nan, eq}
+use lib.Ieee.{Float, nan, binary64, add, mul, eq}
 use Rattle.lists.specs.Totals.{total}
 use Rattle.lists.specs.Build.{build}
 use Rattle.model.specs.Windows.{windowOf}
@@ -27,54 +27,58 @@ use Rattle.mlpg_adjust.specs.Rows.{elem, part, rows}
 use Rattle.mlpg_adjust.specs.Paper.{W, term, rightTerm, partOf, entrySum, rightSum, entryOf, bandRows, rightSide}
 use Rattle.mlpg_adjust.specs.Inner.{Taps}
 use Rattle.mlpg_adjust.specs.Region.{Spaced, Laid, Rowed}
-use Rattle.mlpg_adjust.specs.Passes.{Moved, atFrame, inside, within, tapEntry, tapSide, windowEntry, windowSide, windowsEntry, windowsSide, wholeEntry, wholeSide, still, inColumn}
+use Rattle.mlpg_adjust.specs.Passes.{Along, AlongPair, NextTap, Partners, Moved, atFrame, inside, within, tapEntry, tapSide, windowEntry, windowSide, windowsEntry, windowsSide, wholeEntry, wholeSide, span, still, inColumns}
 use Rattle.mlpg_adjust.specs.declared.solve.Places.{Places}
 use Rattle.mlpg_adjust.specs.declared.passes.Span.{Span}
 use Rattle.mlpg_adjust.proofs.Readings.{part-elem, part-part, read-under, read-beyond}
 use Rattle.lists.proofs.Regions.{returned}
 use Rattle.mlpg_adjust.proofs.Orders.{over-step, over-idle}
-use Rattle.mlpg_adjust.proofs.Terms.{eq-nought, W-short, W-beyond, term-idle, right-idle}
+use Rattle.mlpg_adjust.proofs.Terms.{same-at, eq-nought, W-short, W-beyond, term-idle, right-idle}
 use Rattle.lists.proofs.Builds.{build-is}
 use Rattle.mlpg_adjust.proofs.Windows.{total-front}
-use Rattle.mlpg_adjust.proofs.Along.{within-on, within-idle, upTo, moved-none, moved-then, moved-same, moved-next, pairs-kept}
-use Rattle.mlpg_adjust.proofs.Taps.{zero-entry, zero-side, zero-column}
+use Rattle.mlpg_adjust.proofs.Along.{along-before, along-same, within-on, within-idle, within-next, upTo, moved-none, moved-then, moved-same, moved-next, pairs-kept}
+use Rattle.mlpg_adjust.proofs.Taps.{zero-entry, zero-side, zero-column, some-row, frames-fit, frame-before, all-rows, column-none, column-done}
+
+-- columns of tap k that all have a zero tap
+module _ (p : Places) (n w : ℕ) (r : Span) (taps : List Float) (u k : ℕ) (d : List Float) where
+  pub columns-idle : (a b : ℕ) → k < length taps → k + b ≤ length taps → ((i : ℕ) → a ≤ i → i < b → eq (elem taps (k + i)) nought ≡ true)
+      → Moved p n w r (inColumns a b (tapEntry taps (part u n d) (part u n d) n k)) still d d
+  columns-idle a b kb l z = moved-none p n w r (inColumns a b (tapEntry taps (part u n d) (part u n d) n k)) still d
+      (λ t i y g h c e. within-idle (span a b) i (tapEntry taps (part u n d) (part u n d) n k t i) y
+      (λ o q. zero-column taps (part u n d) (part u n d) n k kb t y g i (rw (same-at taps (k + i) nought nan (omega (arith, l, q))) (z i o q)))) (λ t y g c e. refl)
+
+  pub column-zero : (j : ℕ) → k + j < length taps → eq (elem taps (k + j)) nought ≡ true → Moved p n w r (inColumns j (j + 1) (tapEntry taps (part u n d) (part u n d) n k)) still d d
+  column-zero j h z = columns-idle j (j + 1) (omega arith) (omega arith) (λ i a b. let e : i ≡ j = omega arith in rw e z)
 
 module _ (p : Places) (n w : ℕ) (r : Span) (taps : List Float) (u : ℕ) (d : List Float) (ub : u + n ≤ p .rows) (room : p .rows ≤ length d) where
-  -- ---- the columns of tap k, j of them
+  -- ---- the columns of tap k
 
   module _ (k : ℕ) (kb : k < length taps) where
     abbrev C : ℕ → ℕ → Float → Float
     C = tapEntry taps (part u n d) (part u n d) n k
 
-    abbrev firsts : ℕ → ℕ → ℕ → Float → Float
-    firsts j t i y = cond (ltb i j) (C t i y) y
+    pub columns-next : (m m′ : List Float) (a b e : ℕ) → a ≤ b → b ≤ e → Moved p n w r (inColumns a b C) still d m → Moved p n w r (inColumns b e (tapEntry taps (part u n m) (part u n m) n k)) still m m′
+        → Moved p n w r (inColumns a e C) still d m′
+    columns-next m m′ a b e g h x y =
+        moved-same p n w r (λ t i z. inColumns b e C t i (inColumns a b C t i z)) (inColumns a e C) still still d m′ (λ t i z o q. within-next a (span b e) i (C t i) z g h) (λ t z o. refl)
+        (moved-then p n w r (inColumns a b C) (inColumns b e C) still still d m m′ x (rw (pairs-kept p n w r (inColumns a b C) still d m u n x ub room) at y))
 
-    pub columns-none : Moved p n w r (firsts 0) still d d
-    columns-none = moved-none p n w r (firsts 0) still d (λ t i y a b c e. rw (le-ltb i 0 (omega arith))) (λ t y a b c. refl)
+    -- two columns, and all between have a zero tap
+    columns-around : (m m′ : List Float) (j i : ℕ) → NextTap taps (k + j + 1) (k + i) → Moved p n w r (inColumns j (j + 1) C) still d m
+        → Moved p n w r (inColumns i (i + 1) (tapEntry taps (part u n m) (part u n m) n k)) still m m′ → Moved p n w r (inColumns j (i + 1) C) still d m′
+    columns-around m m′ j i q x y =
+        columns-next m m′ j i (i + 1) (omega (arith, q .behind)) (omega arith)
+        (columns-next m m j (j + 1) i (omega arith) (omega (arith, q .behind)) x (columns-idle p n w r taps u k m (j + 1) i kb (q .inside) (λ c a b. q .zeros (k + c) (omega (arith, a)) (omega (arith, b)))))
+        y
 
-    one-more : (j t i : ℕ) (y : Float) → inColumn j C t i (firsts j t i y) ≡ firsts (j + 1) t i y
-    one-more j t i y = ⊎-elim
-        (λ (a : i ≤ j). ⊎-elim
-        (λ (b : j ≤ i). rw (eq-eqb i j (omega arith), le-ltb i j b, lt-ltb i (j + 1) (omega arith)))
-        (λ (b : i < j). rw (ne-eqb i j (λ e. omega arith), lt-ltb i j b, lt-ltb i (j + 1) (omega arith)))
-        (le-or-lt j i))
-        (λ (a : j < i). rw (ne-eqb i j (λ e. omega arith), le-ltb i j (omega arith), le-ltb i (j + 1) (omega arith)))
-        (le-or-lt i j)
-
-    pub columns-next : (m m′ : List Float) (j : ℕ) → Moved p n w r (firsts j) still d m → Moved p n w r (inColumn j (tapEntry taps (part u n m) (part u n m) n k)) still m m′
-        → Moved p n w r (firsts (j + 1)) still d m′
-    columns-next m m′ j a b =
-        moved-same p n w r (λ t i y. inColumn j C t i (firsts j t i y)) (firsts (j + 1)) still still d m′ (λ t i y g h. one-more j t i y) (λ t y h. refl)
-        (moved-then p n w r (firsts j) (inColumn j C) still still d m m′ a (rw (pairs-kept p n w r (firsts j) still d m u n a ub room) at b))
-
-    pub columns-all : (m : List Float) (j : ℕ) → j ≡ length taps - k → Moved p n w r (firsts j) still d m → Moved p n w r C still d m
+    pub columns-all : (m : List Float) (j : ℕ) → length taps ≤ k + j → Moved p n w r (inColumns 0 j C) still d m → Moved p n w r C still d m
     columns-all m j e =
-        moved-same p n w r (firsts j) C still still d m
+        moved-same p n w r (inColumns 0 j C) C still still d m
         (λ t i y g h. ⊎-elim
         (λ (a : j ≤ i).
         let past : length taps ≤ k + i = omega arith in
-        rw (le-ltb i j a) (sym (zero-column taps (part u n d) (part u n d) n k kb t y g i (rw (List·getD-eq-default taps nought past) eq-nought))))
-        (λ (a : i < j). rw (lt-ltb i j a))
+        within-idle (span 0 j) i (C t i) y (λ b c. absurd (omega (arith, a, c))) ∙ sym (zero-column taps (part u n d) (part u n d) n k kb t y g i (rw (List·getD-eq-default taps nought past) eq-nought)))
+        (λ (a : i < j). within-on (span 0 j) i (C t i) y (omega arith) a)
         (le-or-lt j i)) (λ t y h. refl)
 
   module _ (mean : ℕ) (mb : mean + n ≤ p .rows) where
@@ -167,6 +171,46 @@ module _ (p : Places) (n w : ℕ) (r : Span) (taps : List Float) (u : ℕ) (d : 
         (λ (c : t + j < n). rw (lt-ltb (t + j) n c) (sym (over-idle (term taps us t (t + j)) (below 0 t) n y (omega arith) (λ f z g h. term-idle taps us ms t f (late t f g h) (t + j) z))))
         (le-or-lt n (t + j)))
         (λ t y a. sym (over-idle (rightTerm taps us ms t) (below 0 t) n y (omega arith) (λ f z g h. right-idle taps us ms t f (late t f g h) z)))
+
+-- ---- two columns in one pass
+
+module _ (p : Places) (n w : ℕ) (r : Span) (taps : List Float) (k u : ℕ) (d : List Float) (kb : k < length taps) (nz : eq (elem taps k) nought ≡ false) (ub : u + n ≤ p .rows) (sp : Spaced p n w (length d))
+    (from : ℕ) (fb : from ≡ max (r .from) (k - length taps / 2)) (j i to : ℕ) (narrow : length taps ≤ w) (tb : to ≡ min (r .to) (n - (length taps / 2 - k))) (q : Partners taps k j i n r) where
+  j-before : j < i
+  j-before = omega (arith, q .next .behind)
+
+  j-in : k + j < length taps
+  j-in = omega (arith, j-before, q .column)
+
+  front : p .rows ≤ length d
+  front = omega (arith, sp .right-at, sp .factors-at, sp .values-at, sp .room)
+
+  i-rows : to ≤ n - i
+  i-rows = subst (λ (x : ℕ). x ≤ n - i) (sym tb) (q .rows)
+
+  pub pair-idle : to ≤ from → Moved p n w r (inColumns j (i + 1) (tapEntry taps (part u n d) (part u n d) n k)) still d d
+  pair-idle h = columns-around p n w r taps u d ub front k kb d d j i (q .next)
+      (column-none p n w r taps k u d kb nz ub sp from fb j to to j-in narrow tb (all-rows to n i j i-rows (omega (arith, j-before))) h)
+      (column-none p n w r taps k u d kb nz ub sp from fb i to to (q .column) narrow tb (all-rows to n i i i-rows (omega arith)) h)
+
+  module _ (jz : eq (elem taps (k + j)) nought ≡ false) (m : List Float) where
+    -- what the pass adds to column c
+    abbrev adds : List Float → ℕ → ℕ → Float → Float
+    adds l c t y = add binary64 y (mul binary64 (mul binary64 (elem taps k) (elem l (u + (from + length taps / 2 - k) + t))) (elem taps (k + c)))
+
+    pub pair-done : AlongPair (p .rows + (from * w + j)) (i - j) w (to - from) (adds d j) (adds d i) d m → Moved p n w r (inColumns j (i + 1) (tapEntry taps (part u n d) (part u n d) n k)) still d m
+    pair-done a =
+        let x = a .between in
+        let place : p .rows + (from * w + j) + (i - j) ≡ p .rows + (from * w + i) = omega (arith, j-before) in
+        let iz : eq (elem taps (k + i)) nought ≡ false = q .next .tap (q .column) in
+        let seen : (t : ℕ) (y : Float) → t < to - from → adds d i t y ≡ adds x i t y = λ t y h.
+        let fit = frames-fit (r .from) (r .to) n (length taps / 2) k from to fb tb (some-row from to t h) in
+        let early = frame-before u (from + length taps / 2 - k) (to - from) n (p .rows + (from * w + j)) t fit (omega (arith, ub)) h in
+        rw (along-before (p .rows + (from * w + j)) w (adds d j) d x (to - from) (u + (from + length taps / 2 - k) + t) (a .first) early) in
+        columns-around p n w r taps u d ub front k kb x m j i (q .next)
+        (column-done p n w r taps k u d kb nz ub sp from fb j to to j-in narrow tb (all-rows to n i j i-rows (omega (arith, j-before))) jz x (a .first))
+        (column-done p n w r taps k u x kb nz ub (subst (Spaced p n w) (sym (a .first .long)) sp) from fb i to to (q .column) narrow tb (all-rows to n i i i-rows (omega arith)) iz m
+        (along-same (p .rows + (from * w + i)) w (adds d i) x (adds x i) m (to - from) seen (subst (λ (z : ℕ). Along z w (to - from) (adds d i) x m) place (a .second))))
 
 -- ---- a span of rows is cleared
 

@@ -6,7 +6,7 @@ use mathlib.Core.Logic.{⊎-elim, _≢_}
 use Prim.Native.Nat.{ℕ, suc, _+_, _-_, _*_, _/_, _<_, _≤_, min, max}
 use native.Mathlib.Nat.{add-mul, mul-one, mul-le-mul-right, not-le-of-lt}
 use native.Mathlib.Omega.{arith}
-use borrow.Author.Tests.{lt-ltb, le-ltb, le-leb, lt-leb, eq-eqb, ne-eqb}
+use borrow.Author.Tests.{lt-ltb, le-ltb, le-leb, lt-leb}
 use lib.ListN.{length, getD}
 use lib.Ieee.{Float, nan, binary64, add, mul, eq}
 use Rattle.lists.proofs.Numbers.{le-or-lt}
@@ -15,12 +15,12 @@ use Rattle.floats.specs.Numbers.{nought}
 use Rattle.mlpg_adjust.specs.Rows.{elem, part}
 use Rattle.mlpg_adjust.specs.Paper.{W, added, term, rightTerm}
 use Rattle.mlpg_adjust.specs.Region.{Spaced}
-use Rattle.mlpg_adjust.specs.Passes.{Along, Moved, atFrame, tapEntry, tapSide, within, still, inColumn}
+use Rattle.mlpg_adjust.specs.Passes.{Along, NextTap, Partners, Moved, atFrame, tapEntry, tapSide, within, span, still, inColumns}
 use Rattle.mlpg_adjust.specs.declared.solve.Places.{Places}
 use Rattle.mlpg_adjust.specs.declared.passes.Span.{Span}
 use Rattle.mlpg_adjust.proofs.Readings.{part-elem}
 use Rattle.mlpg_adjust.proofs.Terms.{same-at, W-own, W-tap, term-idle, right-idle}
-use Rattle.mlpg_adjust.proofs.Along.{within-on, within-idle, within-same, moved-none, one-row}
+use Rattle.mlpg_adjust.proofs.Along.{within-on, within-idle, within-same, by-place, moved-none, one-row}
 
 -- ---- the frame that row t's tap k stands at
 
@@ -104,6 +104,17 @@ module _ (taps us ms : List Float) (n k : ℕ) (kb : k < length taps) where
       unfolding tapSide rightTerm
       in-side = at-frame half n k t (rightTerm taps us ms t) y a b ∙ rw (own a, nz)
 
+-- ---- the next tap that is not zero
+
+pub one-zero-more : (taps : List Float) (from i : ℕ) → ((c : ℕ) → from ≤ c → c < i → eq (elem taps c) nought ≡ true) → eq (elem taps i) nought ≡ true → (c : ℕ) → from ≤ c → c < i + 1 → eq (elem taps c) nought ≡ true
+one-zero-more taps from i h z c a b = ⊎-elim (λ (o : i ≤ c). let e : c ≡ i = omega arith in rw e z) (λ (o : c < i). h c a o) (le-or-lt i c)
+
+-- the next column that has one, if it takes all rows
+pub partners : (taps : List Float) (k j q n to : ℕ) (r : Span) → NextTap taps (k + j + 1) q → q < length taps → to ≡ min (r .to) (n - (length taps / 2 - k)) → to ≤ n - (q - k) → Partners taps k j (q - k) n r
+partners taps k j q n to r next h e l =
+    let a : k + (q - k) ≡ q = omega (arith, next .behind) in
+    record { next = subst (NextTap taps (k + j + 1)) (sym a) next; column = omega (arith, a, h); rows = subst (λ (x : ℕ). x ≤ n - (q - k)) e l }
+
 -- ---- places of a pass from row `from` to row `to`
 
 pub row-place : (r from t : ℕ) → from ≤ t → r + from + (t - from) * 1 ≡ r + t
@@ -126,6 +137,9 @@ before from to t a b = omega arith
 
 reached : (from to s : ℕ) → s < to - from → from + s < to
 reached from to s h = omega arith
+
+pub some-row : (from to s : ℕ) → s < to - from → from < to
+some-row from to s h = omega arith
 
 pub below : (n missing t : ℕ) → t ≤ n - missing → t ≤ n
 below n missing t h = omega arith
@@ -193,8 +207,19 @@ module _ (rows from to n w j size : ℕ) (h : from < to) (l : to ≤ n) (b : j <
   pub row-narrow : w ≤ size
   row-narrow = omega (arith, row-fits w from n (omega arith))
 
+-- the frames of a pass lie within the window's
 pub frames-end : (n half k from to : ℕ) → k - half ≤ from → to ≤ n - (half - k) → from < to → from + half - k + (to - from) ≤ n
 frames-end n half k from to e h l = omega arith
+
+pub frames-fit : (a b n half k from to : ℕ) → from ≡ max a (k - half) → to ≡ min b (n - (half - k)) → from < to → from + half - k + (to - from) ≤ n
+frames-fit a b n half k from to e f l = frames-end n half k from to (late a (k - half) from e) (early b (n - (half - k)) to f) l
+
+pub frame-before : (u first count n place t : ℕ) → first + count ≤ n → u + n ≤ place → t < count → u + first + t < place
+frame-before u first count n place t h l b = omega arith
+
+-- a column to whose end all rows of a pass come takes all of them, and so do those before it
+pub all-rows : (to n i j : ℕ) → to ≤ n - i → j ≤ i → to ≡ min to (n - j)
+all-rows to n i j h l = omega arith
 
 pub less-min : (a b : ℕ) → a - min a b ≡ a - b
 less-min a b = omega arith
@@ -262,22 +287,11 @@ module _ (p : Places) (n w : ℕ) (r : Span) (taps : List Float) (k u : ℕ) (d 
     j-in = omega (arith, jb, narrow)
 
     -- elsewhere nothing is asked
-    elsewhere : (t i : ℕ) (y : Float) → i ≢ j → inColumn j C t i y ≡ y
-    elsewhere t i y ne = rw (ne-eqb i j ne)
+    elsewhere : (t i : ℕ) (y : Float) → i ≢ j → inColumns j (j + 1) C t i y ≡ y
+    elsewhere t i y ne = within-idle (span j (j + 1)) i (C t i) y (λ a b. absurd (ne (omega (arith, a, b))))
 
-    there : (t : ℕ) (y : Float) → inColumn j C t j y ≡ C t j y
-    there t y = rw (eq-eqb j j refl)
-
-    -- the column's own entry, or another
-    by-column : (P : ℕ → Type 0) (i : ℕ) → (i ≢ j → P i) → P j → P i
-    by-column P i a b = ⊎-elim
-        (λ (g : i ≤ j). ⊎-elim (λ (q : j ≤ i). let e : i ≡ j = omega arith in subst P (sym e) b) (λ (q : i < j). a (λ e. omega arith)) (le-or-lt j i))
-        (λ (g : j < i). a (λ e. omega arith))
-        (le-or-lt i j)
-
-    pub column-idle : ((t : ℕ) (y : Float) → t < n → r .from ≤ t → t < r .to → C t j y ≡ y) → Moved p n w r (inColumn j C) still d d
-    column-idle h = moved-none p n w r (inColumn j C) still d
-        (λ t i y a b c e. by-column (λ (x : ℕ). inColumn j C t x y ≡ y) i (elsewhere t i y) (there t y ∙ h t y a c e)) (λ t y a b c. refl)
+    there : (t : ℕ) (y : Float) → inColumns j (j + 1) C t j y ≡ C t j y
+    there t y = within-on (span j (j + 1)) j (C t j) y (omega arith) (omega arith)
 
     -- a row of the span that the pass doesn't reach
     missed : (t : ℕ) (y : Float) → t < n → r .from ≤ t → t < r .to → (from ≤ t → to ≤ t) → C t j y ≡ y
@@ -286,8 +300,9 @@ module _ (p : Places) (n w : ℕ) (r : Span) (taps : List Float) (k u : ℕ) (d 
         (λ (e : t < from). absurd (not-le-of-lt (not-from (r .from) (k - half-width) from t fb e a) c))
         (le-or-lt from t))
 
-    pub column-none : to ≤ from → Moved p n w r (inColumn j C) still d d
-    column-none h = column-idle (λ t y a b c. missed t y a b c (λ e. omega (arith, h, e)))
+    pub column-none : to ≤ from → Moved p n w r (inColumns j (j + 1) C) still d d
+    column-none h = moved-none p n w r (inColumns j (j + 1) C) still d
+        (λ t i y a b c e. by-place j (λ (x : ℕ). inColumns j (j + 1) C t x y ≡ y) i (elsewhere t i y) (there t y ∙ missed t y a c e (λ f. omega (arith, h, f)))) (λ t y a b c. refl)
 
     module _ (dz : eq (elem taps (k + j)) nought ≡ false) (m : List Float)
         (q : Along (p .rows + (from * w + j)) w (to - from) (λ t y. add binary64 y (mul binary64 (mul binary64 (elem taps k) (elem d (u + first + t))) (elem taps (k + j)))) d m) where
@@ -311,12 +326,12 @@ module _ (p : Places) (n w : ℕ) (r : Span) (taps : List Float) (k u : ℕ) (d 
           (λ (a : t < from). old t (λ s g e. omega (arith, a, e)) ∙ sym (within-idle r t (C t j) _ (λ c e. missed t _ h c e (λ f. absurd (not-le-of-lt a f)))))
           (le-or-lt from t)
 
-      pub column-done : Moved p n w r (inColumn j C) still d m
+      pub column-done : Moved p n w r (inColumns j (j + 1) C) still d m
       column-done = record {
         long = q .long;
         pairs = λ i h. q .off i (λ s a e. far i s h e);
-        entries = λ t i h b. by-column (λ (x : ℕ). elem m (p .rows + (t * w + x)) ≡ within r t (inColumn j C t x) (elem d (p .rows + (t * w + x)))) i
-            (λ ne. q .off (p .rows + (t * w + i)) (λ s a e. ne (column-row (p .rows) w from s t i j b j-in e .1)) ∙ sym (within-idle r t (inColumn j C t i) _ (λ c e. elsewhere t i _ ne))) (own-column t h ∙ within-same r t (C t j) _ (inColumn j C t j) (sym (there t _)));
+        entries = λ t i h b. by-place j (λ (x : ℕ). elem m (p .rows + (t * w + x)) ≡ within r t (inColumns j (j + 1) C t x) (elem d (p .rows + (t * w + x)))) i
+            (λ ne. q .off (p .rows + (t * w + i)) (λ s a e. ne (column-row (p .rows) w from s t i j b j-in e .1)) ∙ sym (within-idle r t (inColumns j (j + 1) C t i) _ (λ c e. elsewhere t i _ ne))) (own-column t h ∙ within-same r t (C t j) _ (inColumns j (j + 1) C t j) (sym (there t _)));
         sides = λ t h. q .off (p .right + t) (λ s a e. near t s a e) ∙ sym (within-idle r t (still t) _ (λ b c. refl));
       }
         where

@@ -1,12 +1,12 @@
 -- A region's rows and right side, number by number: what passes along the frames do to them. Assumes nothing.
 use mathlib.Core.Path.{_≡_}
-use mathlib.Core.Bool.{cond}
+use mathlib.Core.Bool.{true, false, cond}
 use mathlib.Core.Logic.{_≢_}
 use mathlib.Core.List.{List}
-use Prim.Native.Nat.{ℕ, _+_, _-_, _*_, _/_, _<_}
+use Prim.Native.Nat.{ℕ, _+_, _-_, _*_, _/_, _<_, _≤_, min}
 use lib.ListN.{length}
-use lib.Dec.{ltb, leb, eqb}
-use lib.Ieee.{Float}
+use lib.Dec.{ltb, leb}
+use lib.Ieee.{Float, eq}
 use Rattle.model.specs.Windows.{windowOf}
 use Rattle.mlpg_adjust.specs.Sums.{over}
 use Rattle.floats.specs.Numbers.{nought}
@@ -20,6 +20,12 @@ pub record Along (at step count : ℕ) (f : ℕ → Float → Float) (d m : List
   pub long : length m ≡ length d
   pub on : (t : ℕ) → t < count → elem m (at + t * step) ≡ f t (elem d (at + t * step))
   pub off : (i : ℕ) → ((t : ℕ) → t < count → i ≢ at + t * step) → elem m i ≡ elem d i
+
+-- two such passes one after the other, the second over the numbers `gap` behind those of the first
+pub record AlongPair (at gap step count : ℕ) (f g : ℕ → Float → Float) (d m : List Float) : Type 0 where
+  pub between : List Float
+  pub first : Along at step count f d between
+  pub second : Along (at + gap) step count g between m
 
 -- h, if t is one of a span's rows
 abbrev pub within : Span → ℕ → (Float → Float) → Float → Float
@@ -81,6 +87,23 @@ module _ (widths : List ℕ) (coefs : List Float) (p : Places) (n : ℕ) (d : Li
 abbrev pub still : ℕ → Float → Float
 still t y = y
 
--- f t j in column j alone
-abbrev pub inColumn : ℕ → (ℕ → ℕ → Float → Float) → ℕ → ℕ → Float → Float
-inColumn j f t i y = cond (eqb i j) (f t i y) y
+-- from one number to another
+abbrev pub span : ℕ → ℕ → Span
+span a b = record { from = a; to = b }
+
+-- f t i in the columns i from one to another
+abbrev pub inColumns : ℕ → ℕ → (ℕ → ℕ → Float → Float) → ℕ → ℕ → Float → Float
+inColumns a b f t i = within (span a b) i (f t i)
+
+-- i is the first place from one on whose tap is not zero, or the end
+pub record NextTap (taps : List Float) (from i : ℕ) : Type 0 where
+  pub behind : from ≤ i
+  pub inside : i ≤ length taps
+  pub zeros : (c : ℕ) → from ≤ c → c < i → eq (elem taps c) nought ≡ true
+  pub tap : i < length taps → eq (elem taps i) nought ≡ false
+
+-- of tap k's columns i is the next behind j that has a tap, and it takes all of a block's rows that stand at a frame
+pub record Partners (taps : List Float) (k j i n : ℕ) (block : Span) : Type 0 where
+  pub next : NextTap taps (k + j + 1) (k + i)
+  pub column : k + i < length taps
+  pub rows : min (block .to) (n - (length taps / 2 - k)) ≤ n - i

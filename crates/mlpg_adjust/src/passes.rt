@@ -9,7 +9,7 @@ ghost use Rattle.floats.specs.Numbers.{nought};
 ghost use Rattle.mlpg_adjust.specs.Rows.{elem, part};
 ghost use Rattle.mlpg_adjust.specs.Inner.{Taps};
 ghost use Rattle.mlpg_adjust.specs.Region.{Spaced, Laid, Rowed};
-ghost use Rattle.mlpg_adjust.specs.Passes.{Along, Moved, tapEntry, tapSide, windowEntry, windowSide, windowsEntry, windowsSide, wholeEntry, wholeSide, still, inColumn};
+ghost use Rattle.mlpg_adjust.specs.Passes.{Along, AlongPair, NextTap, Partners, Moved, tapEntry, tapSide, windowEntry, windowSide, windowsEntry, windowsSide, wholeEntry, wholeSide, still, inColumns};
 use super::mask::wide;
 use super::mlpg::el;
 use super::mlpg::part_at;
@@ -28,6 +28,35 @@ fn add_scaled(m: &mut [f64], at: usize, step: usize, u: usize, count: usize, c: 
     while t < count {
         let x = el(m, q) + c * el(m, u + t) * d;
         m[q] = x;
+        q += step;
+        t += 1;
+    }
+}
+
+// (c u) d is added to every `step`-th number from a place on, and (c u) e to the number `gap` behind each: c u is worked out once for both.
+fn add_scaled_pair(
+    m: &mut [f64],
+    at: usize,
+    gap: usize,
+    step: usize,
+    u: usize,
+    count: usize,
+    c: f64,
+    d: f64,
+    e: f64,
+)
+    requires { ⌜ (gap < step) × (step ≤ length (now m)) × (u + count ≤ at) × (at + gap + count * step < length (now m) + step) ⌝ }
+    ensures { λ _. ⌜ AlongPair at gap step count (λ t y. add binary64 y (mul binary64 (mul binary64 c (elem (now (m .entry)) (u + t))) d))
+        (λ t y. add binary64 y (mul binary64 (mul binary64 c (elem (now (m .entry)) (u + t))) e)) (now (m .entry)) (now (m .exit)) ⌝ }
+{
+    let mut t = 0;
+    let mut q = at;
+    while t < count {
+        let x = c * el(m, u + t);
+        let y = el(m, q) + x * d;
+        m[q] = y;
+        let z = el(m, q + gap) + x * e;
+        m[q + gap] = z;
         q += step;
         t += 1;
     }
@@ -102,13 +131,9 @@ fn add_column(
     w: usize,
     block: Span,
 )
-    requires { ⌜ (k + j < length (now taps)) × (length (now taps) ≤ w) × (eq (elem (now taps) k) nought ≡ false) × (u + n ≤ p .rows) × Spaced p n w (length (now m)) ⌝ }
-    ensures { λ _. ⌜ Moved p n w block (inColumn j (tapEntry (now (taps .entry)) (part u n (now (m .entry))) (part u n (now (m .entry))) n k)) still (now (m .entry)) (now (m .exit)) ⌝ }
+    requires { ⌜ (k + j < length (now taps)) × (length (now taps) ≤ w) × (eq (elem (now taps) k) nought ≡ false) × (eq (elem (now taps) (k + j)) nought ≡ false) × (u + n ≤ p .rows) × Spaced p n w (length (now m)) ⌝ }
+    ensures { λ _. ⌜ Moved p n w block (inColumns j (j + 1) (tapEntry (now (taps .entry)) (part u n (now (m .entry))) (part u n (now (m .entry))) n k)) still (now (m .entry)) (now (m .exit)) ⌝ }
 {
-    let d = el(taps, k + j);
-    if d == 0.0 {
-        return;
-    }
     let s = rows_of(taps.len(), k, n, block);
     let from = s.from;
     let to = lists::least(s.to, n - lists::least(n, j));
@@ -123,8 +148,103 @@ fn add_column(
         u + f,
         to - from,
         el(taps, k),
-        d,
+        el(taps, k + j),
     );
+}
+
+// Columns j to i of a block's rows with tap k's terms added: only j and i have any, and the same rows.
+fn add_pair(
+    m: &mut [f64],
+    taps: &[f64],
+    k: usize,
+    j: usize,
+    i: usize,
+    p: Places,
+    u: usize,
+    n: usize,
+    w: usize,
+    block: Span,
+)
+    requires { ⌜ (length (now taps) ≤ w) × (eq (elem (now taps) k) nought ≡ false) × (eq (elem (now taps) (k + j)) nought ≡ false) × Partners (now taps) k j i n block × (u + n ≤ p .rows) × Spaced p n w (length (now m)) ⌝ }
+    ensures { λ _. ⌜ Moved p n w block (inColumns j (i + 1) (tapEntry (now (taps .entry)) (part u n (now (m .entry))) (part u n (now (m .entry))) n k)) still (now (m .entry)) (now (m .exit)) ⌝ }
+{
+    let s = rows_of(taps.len(), k, n, block);
+    let from = s.from;
+    let to = s.to;
+    if to <= from {
+        return;
+    }
+    let f = from + taps.len() / 2 - k;
+    add_scaled_pair(
+        m,
+        p.rows + (from * w + j),
+        i - j,
+        w,
+        u + f,
+        to - from,
+        el(taps, k),
+        el(taps, k + j),
+        el(taps, k + i),
+    );
+}
+
+// The first place from one on whose tap is not zero, or the end.
+fn next_tap(taps: &[f64], from: usize) -> usize
+    requires { ⌜ from ≤ length (now taps) ⌝ }
+    ensures { λ r. ⌜ NextTap (now (taps .entry)) from r ⌝ }
+{
+    let mut i = from;
+    while i < taps.len() {
+        if el(taps, i) != 0.0 {
+            return i;
+        }
+        i += 1;
+    }
+    i
+}
+
+// The column that goes with column j in one pass: the next that has a tap, if its rows end where those of j do. Else j.
+fn partner(taps: &[f64], k: usize, j: usize, n: usize, block: Span) -> usize
+    requires { ⌜ k + j < length (now taps) ⌝ }
+    ensures { λ r. ⌜ (j ≤ r) × (j < r → Partners (now (taps .entry)) k j r n block) ⌝ }
+{
+    let next = next_tap(taps, k + j + 1);
+    if next >= taps.len() {
+        return j;
+    }
+    let i = next - k;
+    let s = rows_of(taps.len(), k, n, block);
+    if n - lists::least(n, i) < s.to {
+        return j;
+    }
+    i
+}
+
+// Column j of a block's rows with tap k's terms added, and its partner with it. The result is the column behind those that are done.
+fn add_next(
+    m: &mut [f64],
+    taps: &[f64],
+    k: usize,
+    j: usize,
+    p: Places,
+    u: usize,
+    n: usize,
+    w: usize,
+    block: Span,
+) -> usize
+    requires { ⌜ (k + j < length (now taps)) × (length (now taps) ≤ w) × (eq (elem (now taps) k) nought ≡ false) × (u + n ≤ p .rows) × Spaced p n w (length (now m)) ⌝ }
+    ensures { λ r. ⌜ (j < r) × (k + r ≤ length (now (taps .entry))) × Moved p n w block (inColumns j r (tapEntry (now (taps .entry)) (part u n (now (m .entry))) (part u n (now (m .entry))) n k)) still (now (m .entry)) (now (m .exit)) ⌝ }
+{
+    if el(taps, k + j) == 0.0 {
+        return j + 1;
+    }
+    let i = partner(taps, k, j, n, block);
+    if i <= j {
+        add_column(m, taps, k, j, p, u, n, w, block);
+        return j + 1;
+    }
+    add_pair(m, taps, k, j, i, p, u, n, w, block);
+    i + 1
 }
 
 // A block's rows with tap k's terms added.
@@ -144,8 +264,7 @@ fn add_columns(
     let end = taps.len() - k;
     let mut j = 0;
     while j < end {
-        add_column(m, taps, k, j, p, u, n, w, block);
-        j += 1;
+        j = add_next(m, taps, k, j, p, u, n, w, block);
     }
 }
 

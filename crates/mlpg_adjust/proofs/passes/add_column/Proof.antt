@@ -1,27 +1,12 @@
 -- `mlpg_adjust::passes::add_column` meets its contract. Assumes nothing.
-use mathlib.Core.Path.{_≡_, refl, sym, ap, _∙_}
+use mathlib.Core.Path.{_≡_, ap, _∙_}
 use Prim.Native.Nat.{ℕ, _+_, _-_, _*_, _/_, _<_, _≤_, min}
 use native.Mathlib.Omega.{arith}
 use lib.ListN.{length}
-use lib.Ieee.{nan}
-use Rattle.floats.specs.Numbers.{nought}
-use Rattle.mlpg_adjust.proofs.Terms.{same-at}
-use Rattle.mlpg_adjust.proofs.Taps.{zero-column, less-min, below, late, earlier, frames-end, column-starts, column-ends, row-narrow, column-idle, column-none, column-done}
+use Rattle.mlpg_adjust.proofs.Taps.{less-min, below, late, earlier, frames-end, column-starts, column-ends, row-narrow, column-none, column-done}
 use borrow.Author.Needs.{needs}
 use Rattle.mlpg_adjust.proofs.passes.add_column.Statement.{statement}
 use Rattle.mlpg_adjust.proofs.passes.add_column.Tie as tie
-
-add-el : tie.Need-add-el
-add-el c = search needs
-
-el-requires : tie.Need-el-requires
-el-requires c κs = search needs
-
-returns : tie.Need-returns
-returns c = let s = c .before .before .before .before in
-    let z = same-at (s .args .taps .now) (s .args .k + s .args .j) nought nan (s .pre .0) ∙ sym (c .before .el .ensures) in
-    column-idle (s .args .p) (s .args .n) (s .args .w) (s .args .block) (s .args .taps .now) (s .args .k) (s .args .u) (s .args .m .now) (omega (arith, s .pre .0)) (s .pre .2) (s .pre .3) (s .pre .4) _ refl (s .args .j) _ _ (s .pre .0) (s .pre .1) refl refl
-    (λ t y h a b. zero-column (s .args .taps .now) _ _ (s .args .n) (s .args .k) (omega (arith, s .pre .0)) t y h (s .args .j) (rw z (c .if1 .taken)))
 
 rows-of-requires : tie.Need-rows-of-requires
 rows-of-requires c κs = search needs
@@ -38,7 +23,7 @@ least-requires-2 c κs = search needs
 -- where the pass starts and ends
 module _ (c : tie.After-least2) where
   abbrev here : tie.Start
-  here = c .before .before .before .before .before .before .before
+  here = c .before .before .before .before .before
 
   abbrev half : ℕ
   half = length (here .args .taps .now) / 2
@@ -62,7 +47,7 @@ module _ (c : tie.After-least2) where
   j-in = omega (arith, here .pre .0, here .pre .1)
 
   room : here .args .p .rows + here .args .n * here .args .w ≤ length (here .args .m .now)
-  room = omega (arith, here .pre .4 .right-at, here .pre .4 .factors-at, here .pre .4 .values-at, here .pre .4 .room)
+  room = omega (arith, here .pre .5 .right-at, here .pre .5 .factors-at, here .pre .5 .values-at, here .pre .5 .room)
 
   within-n : to ≤ here .args .n
   within-n = below (here .args .n) (half - here .args .k) to ends
@@ -80,65 +65,67 @@ module _ (c : tie.After-least2) where
     asked = (
       omega (arith, j-in),
       row-narrow (here .args .p .rows) from to (here .args .n) (here .args .w) (here .args .j) (length (here .args .m .now)) l within-n j-in room,
-      omega (arith, here .pre .3, frames),
+      omega (arith, here .pre .4, frames),
       column-ends (here .args .p .rows) from to (here .args .n) (here .args .w) (here .args .j) (length (here .args .m .now)) l within-n j-in room,
     )
 
-returns-2 : tie.Need-returns-2
-returns-2 c = let s = c .before .before .before .before .before .before .before .before in
+returns : tie.Need-returns
+returns c = let s = c .before .before .before .before .before .before in
     let r = c .before .before .before .rows-of in
-    column-none (s .args .p) (s .args .n) (s .args .w) (s .args .block) (s .args .taps .now) (s .args .k) (s .args .u) (s .args .m .now) (omega (arith, s .pre .0)) (s .pre .2) (s .pre .3) (s .pre .4) _ (r .ensures .0) (s .args .j) _ _ (s .pre .0) (s .pre .1) (r .ensures .1) (end (c .before)) (c .if2 .taken)
+    column-none (s .args .p) (s .args .n) (s .args .w) (s .args .block) (s .args .taps .now) (s .args .k) (s .args .u) (s .args .m .now) (omega (arith, s .pre .0)) (s .pre .2) (s .pre .4) (s .pre .5) _ (r .ensures .0) (s .args .j) _ _ (s .pre .0) (s .pre .1) (r .ensures .1) (end (c .before)) (c .if1 .taken)
 
 add-f : tie.Need-add-f
-add-f c = omega (arith, within-n (c .before), c .if2 .left)
+add-f c = omega (arith, within-n (c .before), c .if1 .left)
 
 sub-f : tie.Need-sub-f
 sub-f c = omega (arith, starts (c .before))
 
 mul-add-scaled : tie.Need-mul-add-scaled
-mul-add-scaled c = omega (arith, column-at (c .before .before) (c .before .if2 .left))
+mul-add-scaled c = omega (arith, column-at (c .before .before) (c .before .if1 .left))
 
 add-add-scaled : tie.Need-add-add-scaled
-add-add-scaled c = omega (arith, column-at (c .before .before) (c .before .if2 .left))
+add-add-scaled c = omega (arith, column-at (c .before .before) (c .before .if1 .left))
 
 add-add-scaled-2 : tie.Need-add-add-scaled-2
-add-add-scaled-2 c = omega (arith, column-at (c .before .before .before) (c .before .before .if2 .left))
+add-add-scaled-2 c = omega (arith, column-at (c .before .before .before) (c .before .before .if1 .left))
 
 add-add-scaled-3 : tie.Need-add-add-scaled-3
-add-add-scaled-3 c = let s = c .before .before .before .before .before .before .before .before .before .before in
-    omega (arith, column-at (c .before .before .before) (c .before .before .if2 .left), s .pre .3, frames (c .before .before .before) (c .before .before .if2 .left))
+add-add-scaled-3 c = let s = c .before .before .before .before .before .before .before .before in
+    omega (arith, column-at (c .before .before .before) (c .before .before .if1 .left), s .pre .4, frames (c .before .before .before) (c .before .before .if1 .left))
 
 sub-add-scaled : tie.Need-sub-add-scaled
 sub-add-scaled c = search needs
+
+el-requires : tie.Need-el-requires
+el-requires c κs = search needs
+
+add-el : tie.Need-add-el
+add-el c = search needs
 
 el-requires-2 : tie.Need-el-requires-2
 el-requires-2 c κs = search needs
 
 add-scaled-requires : tie.Need-add-scaled-requires
-add-scaled-requires c κs = asked (c .before .before .before .before) (c .before .before .before .if2 .left)
+add-scaled-requires c κs = asked (c .before .before .before .before .before) (c .before .before .before .before .if1 .left)
 
 same-length : tie.Need-same-length
 same-length c = search needs
 
-returns-3 : tie.Need-returns-3
-returns-3 c = let s = c .before .before .before .before .before .before .before .before .before .before .before .before .before .before in
-    let r = c .before .before .before .before .before .before .before .before .before .rows-of in
-    let dd = c .before .before .before .before .before .before .before .before .before .before .before .el .ensures in
-    column-done (s .args .p) (s .args .n) (s .args .w) (s .args .block) (s .args .taps .now) (s .args .k) (s .args .u) (s .args .m .now) (omega (arith, s .pre .0)) (s .pre .2) (s .pre .3) (s .pre .4) _ (r .ensures .0) (s .args .j) _ _ (s .pre .0) (s .pre .1) (r .ensures .1) (end (c .before .before .before .before .before .before .before)) (rw dd at (c .before .before .before .before .before .before .before .before .before .before .if1 .left)) _
-    (rw (dd, c .before .before .before .el2 .ensures) at (c .before .before .add-scaled .ensures))
+returns-2 : tie.Need-returns-2
+returns-2 c = let s = c .before .before .before .before .before .before .before .before .before .before .before .before .before in
+    let r = c .before .before .before .before .before .before .before .before .before .before .rows-of in
+    column-done (s .args .p) (s .args .n) (s .args .w) (s .args .block) (s .args .taps .now) (s .args .k) (s .args .u) (s .args .m .now) (omega (arith, s .pre .0)) (s .pre .2) (s .pre .4) (s .pre .5) _ (r .ensures .0) (s .args .j) _ _ (s .pre .0) (s .pre .1) (r .ensures .1) (end (c .before .before .before .before .before .before .before .before)) (s .pre .3) _
+    (rw (c .before .before .before .before .el .ensures, c .before .before .before .el2 .ensures) at (c .before .before .add-scaled .ensures))
 
 pub add-column-spec : {M : Type 1} → statement M
 add-column-spec =
     tie.close
     (tie.spec
-    add-el
-    el-requires
-    returns
     rows-of-requires
     least-requires
     sub-least
     least-requires-2
-    returns-2
+    returns
     add-f
     sub-f
     mul-add-scaled
@@ -146,7 +133,9 @@ add-column-spec =
     add-add-scaled-2
     add-add-scaled-3
     sub-add-scaled
+    el-requires
+    add-el
     el-requires-2
     add-scaled-requires
     same-length
-    returns-3)
+    returns-2)
