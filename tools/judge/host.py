@@ -8,6 +8,7 @@ import os
 import platform
 import shutil
 import subprocess
+import sys
 from pathlib import Path
 
 from . import programs
@@ -50,7 +51,10 @@ def compiled(crate: str = "hejmirov") -> Path:
     built = programs.BUILT / f"{crate}.o"
     target = f"--target={platform.machine()}-unknown-linux-gnu"
     command = [programs.kit_tools() / "clang", target, "-O3", "-c", "-x", "ir", module, "-o", built]
-    subprocess.run(command, check=True)
+    # It warns at length that the module names x86-64's processor: that is for its failures to show.
+    done = subprocess.run(command, capture_output=True, text=True)
+    if done.returncode != 0:
+        sys.exit(done.stderr)
     return built
 
 

@@ -1,5 +1,5 @@
 -- Laws of the ordered sums `over` and `less`. Assumes nothing.
-use mathlib.Core.Path.{_≡_, refl, _∙_}
+use mathlib.Core.Path.{_≡_, refl, ap, _∙_}
 use mathlib.Core.Logic.{⊎-elim}
 use Prim.Native.Nat.{ℕ, zero, suc, _+_, _<_, _≤_}
 use Rattle.lists.proofs.Numbers.{le-or-lt}
@@ -12,6 +12,12 @@ module _ (g : ℕ → Float → Float) where
   pub over-step : (k : ℕ) (y : Float) → g k (over g k y) ≡ over g (k + 1) y
   unfolding over
   over-step k y = rw add-one
+
+  -- only what is done counts
+  pub over-same : (f : ℕ → Float → Float) (k : ℕ) (y : Float) → ((i : ℕ) (z : Float) → i < k → g i z ≡ f i z) → over g k y ≡ over f k y
+  unfolding over
+  over-same f zero y h = refl
+  over-same f (suc k) y h = h k (over g k y) (omega arith) ∙ ap (f k) (over-same f k y (λ i z l. h i z (omega arith)))
 
   -- numbers that do nothing may be left out
   pub over-idle : (a b : ℕ) (y : Float) → a ≤ b → ((f : ℕ) (z : Float) → a ≤ f → f < b → g f z ≡ z) → over g b y ≡ over g a y

@@ -15,37 +15,63 @@ use lib.Ieee.{Float, nan, inf, fin, binary64, add, neg, lt}
 use Rattle.lists.specs.Build.{build}
 use Rattle.lists.proofs.Fills.{build-length}
 use Rattle.lists.proofs.Rows.{row-in}
+use Rattle.floats.specs.Numbers.{nought}
 use Rattle.mlpg_adjust.specs.Frames.{count}
+use Rattle.mlpg_adjust.specs.Sums.{over}
 use Rattle.mlpg_adjust.specs.Rows.{elem, entry, part}
-use Rattle.mlpg_adjust.specs.Gv.{stepInit, meanOf, variOf, convGv, gradientAt, gradient, weightOf, hmmObj, gvObj, sizeAfter}
+use Rattle.mlpg_adjust.specs.Gv.{stepInit, meanOf, variOf, convGv, gradientAt, gradient, weightOf, hmmTerm, hmmObj, gvObj, sizeAfter}
 use Rattle.mlpg_adjust.specs.Parmgen.{iterate, State, state, valuesOf, nextAt, nextStep, objective, turn, parmgen}
 use Rattle.mlpg_adjust.specs.Region.{Spaced}
 use Rattle.mlpg_adjust.specs.GvInner.{Sized, Graded, Pulls, pulled, Turned}
 use Rattle.mlpg_adjust.specs.declared.solve.Places.{Places}
 use Rattle.mlpg_adjust.specs.declared.gv.MlpgGlobalVariance.{MlpgGlobalVariance}
 use Rattle.mlpg_adjust.specs.declared.gv.Pull.{Pull}
-use Rattle.lists.proofs.Builds.{build-same}
+use Rattle.lists.proofs.Builds.{build-at, build-same}
+use Rattle.mlpg_adjust.proofs.Orders.{over-step, over-same}
 use Rattle.mlpg_adjust.proofs.Readings.{part-elem, read-under, read-beyond}
 use Rattle.lists.proofs.Regions.{cut-length, returned, stored-behind, stored-before, stored-whole, stored-rule}
 
--- ---- the gradient: m is a region d with t rows of it
+-- ---- the gradient: m is a region d with t rows of it, h the sum of their terms
 
-pub graded-next : (p : Places) (n w size : ℕ) → 0 < w → Spaced p n w size → (d m : List Float) (t : ℕ) (x : Float) → t < n
-    → x ≡ gradientAt w (part (p .rows) (n * w) m) (part (p .values) n m) t → Graded p n w d m t → Graded p n w d (set m (p .factors + t) x) (t + 1)
-graded-next p n w size pos s d m t x h o e =
+pub graded-none : (p : Places) (n w : ℕ) (weight : Float) (d : List Float) → Graded p n w weight d d 0 nought
+unfolding build over
+graded-none p n w weight d = record { rows = refl; sum = refl }
+
+-- row t's gradient x is stored, and its term z is added, of the right side y and the value v
+pub graded-next : (p : Places) (n w size : ℕ) → 0 < w → Spaced p n w size → (weight : Float) (d m : List Float) (t : ℕ) (h x y v z : Float) → t < n
+    → x ≡ gradientAt w (part (p .rows) (n * w) m) (part (p .values) n m) t → y ≡ elem (set m (p .factors + t) x) (p .right + t) → v ≡ elem (set m (p .factors + t) x) (p .values + t) → z ≡ hmmTerm weight y x v
+    → Graded p n w weight d m t h → Graded p n w weight d (set m (p .factors + t) x) (t + 1) (add binary64 h z)
+graded-next p n w size pos s weight d m t h x y v z b ex ey ev ez q =
     let f = gradientAt w (part (p .rows) (n * w) d) (part (p .values) n d) in
     let long : length (build f t) ≡ t = build-length f t in
-    let rows : part (p .rows) (n * w) m ≡ part (p .rows) (n * w) d = ap (λ (l : List Float). part (p .rows) (n * w) l) e ∙ stored-behind (build f t) d (p .rows) (n * w) (p .factors) (omega arith) in
-    let values : part (p .values) n m ≡ part (p .values) n d = ap (λ (l : List Float). part (p .values) n l) e ∙ stored-before (build f t) d (p .values) n (p .factors) (omega (arith, mul-le-mul-left n pos)) in
-    stored-rule f d m (p .factors) t x (o ∙ rw (rows, values)) e
+    let longer : length (build f (t + 1)) ≡ t + 1 = build-length f (t + 1) in
+    let fit : n ≤ n * w = omega (arith, mul-le-mul-left n pos) in
+    let rows : part (p .rows) (n * w) m ≡ part (p .rows) (n * w) d = ap (λ (l : List Float). part (p .rows) (n * w) l) (q .rows) ∙ stored-behind (build f t) d (p .rows) (n * w) (p .factors) (omega arith) in
+    let values : part (p .values) n m ≡ part (p .values) n d = ap (λ (l : List Float). part (p .values) n l) (q .rows) ∙ stored-before (build f t) d (p .values) n (p .factors) (omega arith) in
+    let x-is : x ≡ f t = ex ∙ rw (rows, values) in
+    let next : set m (p .factors + t) x ≡ sets d (p .factors) (build f (t + 1)) = stored-rule f d m (p .factors) t x x-is (q .rows) in
+    let y-is : y ≡ elem (part (p .right) n d) t =
+    ey ∙ ap (λ (l : List Float). elem l (p .right + t)) next ∙ read-under (build f (t + 1)) d (p .factors) (p .right + t) (omega arith) ∙ part-elem (p .right) n t d b in
+    let v-is : v ≡ elem (part (p .values) n d) t =
+    ev ∙ ap (λ (l : List Float). elem l (p .values + t)) next ∙ read-beyond (build f (t + 1)) d (p .factors) (p .values + t) (omega arith) ∙ part-elem (p .values) n t d b in
+    record {
+      rows = next;
+      sum = rw (ez, x-is, y-is, v-is, q .sum) (over-step (λ i a. add binary64 a (hmmTerm weight (elem (part (p .right) n d) i) (f i) (elem (part (p .values) n d) i))) t nought);
+    }
 
 gradient-is : (p : Places) (n w : ℕ) (d : List Float) → p .values + n ≤ length d
     → gradient w (part (p .rows) (n * w) d) (part (p .values) n d) ≡ build (gradientAt w (part (p .rows) (n * w) d) (part (p .values) n d)) n
 unfolding gradient
 gradient-is p n w d h = rw (cut-length (p .values) n d h)
 
-pub graded-all : (p : Places) (n w : ℕ) (d m : List Float) → p .values + n ≤ length d → Graded p n w d m n → m ≡ sets d (p .factors) (gradient w (part (p .rows) (n * w) d) (part (p .values) n d))
-graded-all p n w d m h e = e ∙ rw (gradient-is p n w d h)
+-- all rows are done
+pub graded-all : (p : Places) (n w : ℕ) (weight v : Float) (d m : List Float) (h : Float) → p .values + n ≤ length d → weight ≡ v → Graded p n w weight d m n h
+    → (m ≡ sets d (p .factors) (gradient w (part (p .rows) (n * w) d) (part (p .values) n d)))
+    × (h ≡ hmmObj v (part (p .right) n d) (gradient w (part (p .rows) (n * w) d) (part (p .values) n d)) (part (p .values) n d))
+unfolding hmmObj
+graded-all p n w weight v d m h room e q =
+    let f = gradientAt w (part (p .rows) (n * w) d) (part (p .values) n d) in
+    (q .rows ∙ rw (gradient-is p n w d room), q .sum ∙ rw (gradient-is p n w d room, cut-length (p .values) n d room, e) (over-same _ _ n nought (λ i z l. rw (build-at f n i nan l))))
 
 -- ---- a frame's value after the step, in a region that has the gradient
 
@@ -76,7 +102,7 @@ module _ (g : MlpgGlobalVariance) (p : Places) (M : List Float) (z : Sized g p (
   fit : n ≤ n * w
   fit = omega (arith, mul-le-mul-left n (z .some))
 
-  pub X-long : length X ≡ n
+  X-long : length X ≡ n
   X-long = cut-length (p .values) n M (z .spaced .room)
 
   D-is : D ≡ build (gradientAt w B X) n
@@ -109,13 +135,13 @@ module _ (g : MlpgGlobalVariance) (p : Places) (M : List Float) (z : Sized g p (
     graded-rows : part (p .rows) (n * w) m₁ ≡ B
     graded-rows = let s = z .spaced in ap (λ (l : List Float). part (p .rows) (n * w) l) e₁ ∙ stored-behind D M (p .rows) (n * w) (p .factors) (omega arith)
 
-    pub graded-right : part (p .right) n m₁ ≡ Q
+    graded-right : part (p .right) n m₁ ≡ Q
     graded-right = let s = z .spaced in ap (λ (l : List Float). part (p .right) n l) e₁ ∙ stored-behind D M (p .right) n (p .factors) (omega arith)
 
-    pub graded-gradient : part (p .factors) n m₁ ≡ D
+    graded-gradient : part (p .factors) n m₁ ≡ D
     graded-gradient = let s = z .spaced in ap (λ (l : List Float). part (p .factors) n l) e₁ ∙ stored-whole D M (p .factors) n D-long (omega (arith, fit))
 
-    pub graded-values : part (p .values) n m₁ ≡ X
+    graded-values : part (p .values) n m₁ ≡ X
     graded-values = let s = z .spaced in ap (λ (l : List Float). part (p .values) n l) e₁ ∙ stored-before D M (p .values) n (p .factors) (omega (arith, D-long, fit))
 
     at-row : (t : ℕ) → t < n → elem m₁ (p .rows + t * w) ≡ entry w B t 0

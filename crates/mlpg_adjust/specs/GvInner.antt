@@ -8,8 +8,9 @@ use lib.Seq.{sets}
 use lib.Ieee.{Float, binary64, add, sub, mul, div, neg}
 use Rattle.lists.specs.Build.{build}
 use Rattle.mlpg_adjust.specs.Frames.{count}
-use Rattle.floats.specs.Numbers.{number}
-use Rattle.mlpg_adjust.specs.Gv.{W1, W2, two, gradientAt, weightOf, dvOf, nextG}
+use Rattle.floats.specs.Numbers.{nought, number}
+use Rattle.mlpg_adjust.specs.Sums.{over}
+use Rattle.mlpg_adjust.specs.Gv.{W1, W2, two, gradientAt, weightOf, hmmTerm, dvOf, nextG}
 use Rattle.mlpg_adjust.specs.Rows.{elem, part}
 use Rattle.mlpg_adjust.specs.Parmgen.{state, turn}
 use Rattle.mlpg_adjust.specs.Region.{Spaced}
@@ -41,9 +42,10 @@ pub record Sized (g : MlpgGlobalVariance) (p : Places) (size : ℕ) : Type 0 whe
   pub sets : g .windows ≤ 4
   pub spaced : Spaced p (g .length) (g .width) size
 
--- a region m is d with the gradient's first t rows where the factors were
-abbrev pub Graded : Places → ℕ → ℕ → List Float → List Float → ℕ → Type 0
-Graded p n w d m t = m ≡ sets d (p .factors) (build (gradientAt w (part (p .rows) (n * w) d) (part (p .values) n d)) t)
+-- a region m is d with the gradient's first t rows where the factors were, and h is the sum of their terms
+pub record Graded (p : Places) (n w : ℕ) (weight : Float) (d m : List Float) (t : ℕ) (h : Float) : Type 0 where
+  pub rows : m ≡ sets d (p .factors) (build (gradientAt w (part (p .rows) (n * w) d) (part (p .values) n d)) t)
+  pub sum : h ≡ over (λ i y. add binary64 y (hmmTerm weight (elem (part (p .right) n d) i) (gradientAt w (part (p .rows) (n * w) d) (part (p .values) n d) i) (elem (part (p .values) n d) i))) t nought
 
 -- the numbers of a step that are the same for every frame
 pub record Pulls (s : Pull) (windows n : ℕ) (gvMean gvVari average vari size : Float) : Type 0 where

@@ -182,7 +182,7 @@ fn gradient_by_entries(wuw: &[f64], par: &[f64], w: usize, t: usize) -> f64
     g
 }
 
-// The same for rows of width 3, the usual one, where two values stand to each side: nothing is tested, so that the compiler does several rows at once.
+// The same for rows of width 3, the usual one, where two values stand to each side: nothing is tested, so that a row is straight-line code.
 fn gradient_of_three(m: &[f64], p: Places, n: usize, t: usize) -> f64
     requires { ⌜ (2 ≤ t) × (t + 2 < n) × Spaced p n 3 (length (now m)) ⌝ }
     ensures { λ x. ⌜ x ≡ gradientAt 3 (part (p .rows) (n * 3) (now (m .entry))) (part (p .values) n (now (m .entry))) t ⌝ }
@@ -196,57 +196,60 @@ fn gradient_of_three(m: &[f64], p: Places, n: usize, t: usize) -> f64
         + m[q - 4] * m[v - 2]
 }
 
-// The gradient's rows from `from` to `end`, by their entries; they go where the factors were.
-fn rows_by_entries(m: &mut [f64], p: Places, n: usize, w: usize, from: usize, end: usize)
+fn hmm_term(weight: f64, m: f64, g: f64, p: f64) -> f64
+    ensures { λ r. ⌜ r ≡ hmmTerm weight m g p ⌝ }
+{
+    W1 * weight * p * (m - 0.5 * g)
+}
+
+// The gradient's rows from `from` to `end`, by their entries; they go where the factors were. The result is the objective's first part with their terms.
+fn rows_by_entries(
+    m: &mut [f64],
+    p: Places,
+    n: usize,
+    w: usize,
+    from: usize,
+    end: usize,
+    weight: f64,
+    hmm: f64,
+) -> f64
     requires { ⌜ (0 < w) × (w < 2 ^ 32) × Spaced p n w (length (now m)) × (from ≤ end) × (end ≤ n) ⌝ }
-    ensures { λ _. ⌜ ((d : List Float) → Graded p n w d (now (m .entry)) from → Graded p n w d (now (m .exit)) end) ⌝ }
+    ensures { λ r. ⌜ ((d : List Float) → Graded p n w weight d (now (m .entry)) from hmm → Graded p n w weight d (now (m .exit)) end r) ⌝ }
 {
     let rows = p.rows;
     let rows_end = rows + n * w;
     let values = p.values;
     let values_end = values + n;
     let to = p.factors;
+    let mut sum = hmm;
     let mut t = from;
     while t < end {
         let g = gradient_by_entries(&m[rows..rows_end], &m[values..values_end], w, t);
         m[to + t] = g;
+        sum = sum + hmm_term(weight, el(m, p.right + t), g, el(m, values + t));
         t += 1;
     }
+    sum
 }
 
-// The rows of width 3 between the first two and the last two.
-fn inner_rows_of_three(m: &mut [f64], p: Places, n: usize)
+// The same for the rows of width 3 between the first two and the last two.
+fn inner_rows_of_three(m: &mut [f64], p: Places, n: usize, weight: f64, hmm: f64) -> f64
     requires { ⌜ (4 ≤ n) × Spaced p n 3 (length (now m)) ⌝ }
-    ensures { λ _. ⌜ ((d : List Float) → Graded p n 3 d (now (m .entry)) 2 → Graded p n 3 d (now (m .exit)) (n - 2)) ⌝ }
+    ensures { λ r. ⌜ ((d : List Float) → Graded p n 3 weight d (now (m .entry)) 2 hmm → Graded p n 3 weight d (now (m .exit)) (n - 2) r) ⌝ }
 {
     let end = n - 2;
+    let right = p.right;
+    let values = p.values;
     let to = p.factors;
+    let mut sum = hmm;
     let mut t = 2;
     while t < end {
         let g = gradient_of_three(m, p, n, t);
         m[to + t] = g;
+        sum = sum + hmm_term(weight, el(m, right + t), g, el(m, values + t));
         t += 1;
     }
-}
-
-// The matrix times the values, which goes where the factors were.
-fn calc_gradient(m: &mut [f64], p: Places, n: usize, w: usize)
-    requires { ⌜ (0 < w) × (w < 2 ^ 32) × Spaced p n w (length (now m)) ⌝ }
-    ensures { λ _. ⌜ now (m .exit) ≡ sets (now (m .entry)) (p .factors) (gradient w (part (p .rows) (n * w) (now (m .entry))) (part (p .values) n (now (m .entry)))) ⌝ }
-{
-    if w == 3 && 5 <= n {
-        rows_by_entries(m, p, n, w, 0, 2);
-        inner_rows_of_three(m, p, n);
-        rows_by_entries(m, p, n, w, n - 2, n);
-    } else {
-        rows_by_entries(m, p, n, w, 0, n);
-    }
-}
-
-fn hmm_term(weight: f64, m: f64, g: f64, p: f64) -> f64
-    ensures { λ r. ⌜ r ≡ hmmTerm weight m g p ⌝ }
-{
-    W1 * weight * p * (m - 0.5 * g)
+    sum
 }
 
 // 1 / (number of windows × frames)
@@ -379,34 +382,21 @@ impl MlpgGlobalVariance {
         rescale(par, on, m.mean, ratio);
     }
 
-    // The objective's first part; the gradient is where the factors were.
-    fn calc_hmmobj(self, m: &[f64], p: Places) -> f64
-        requires { ⌜ Sized self p (length (now m)) ⌝ }
-        ensures { λ r. ⌜ r ≡ hmmObj (weightOf (self .windows) (self .length)) (part (p .right) (self .length) (now (m .entry))) (part (p .factors) (self .length) (now (m .entry))) (part (p .values) (self .length) (now (m .entry))) ⌝ }
-    {
-        let n = self.length;
-        let weight = weight_of(self.windows, n);
-        let right = p.right;
-        let gradient = p.factors;
-        let values = p.values;
-        let mut hmm = 0.0;
-        let mut t = 0;
-        while t < n {
-            let x = el(m, values + t);
-            hmm = hmm + hmm_term(weight, el(m, right + t), el(m, gradient + t), x);
-            t += 1;
-        }
-        hmm
-    }
-
-    // The matrix times the values, which goes where the factors were, and the objective's first part: two passes, as beside a sum rows would be done one by one.
+    // The matrix times the values, which goes where the factors were, and the objective's first part, in one pass over the rows.
     fn calc_hmmobj_derivative(self, m: &mut [f64], p: Places) -> f64
         requires { ⌜ Sized self p (length (now m)) ⌝ }
         ensures { λ r. ⌜ (now (m .exit) ≡ sets (now (m .entry)) (p .factors) (gradient (self .width) (part (p .rows) (self .length * self .width) (now (m .entry))) (part (p .values) (self .length) (now (m .entry)))))
             × (r ≡ hmmObj (weightOf (self .windows) (self .length)) (part (p .right) (self .length) (now (m .entry))) (gradient (self .width) (part (p .rows) (self .length * self .width) (now (m .entry))) (part (p .values) (self .length) (now (m .entry)))) (part (p .values) (self .length) (now (m .entry)))) ⌝ }
     {
-        calc_gradient(m, p, self.length, self.width);
-        self.calc_hmmobj(m, p)
+        let n = self.length;
+        let w = self.width;
+        let weight = weight_of(self.windows, n);
+        if w == 3 && 5 <= n {
+            let first = rows_by_entries(m, p, n, w, 0, 2, weight, 0.0);
+            let inner = inner_rows_of_three(m, p, n, weight, first);
+            return rows_by_entries(m, p, n, w, n - 2, n, weight, inner);
+        }
+        rows_by_entries(m, p, n, w, 0, n, weight, 0.0)
     }
 
     // What the next step is the same in for every frame.

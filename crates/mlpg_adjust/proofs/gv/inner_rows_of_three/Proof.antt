@@ -1,4 +1,4 @@
--- `mlpg_adjust::gv::inner_rows_of_three` meets its contract: where the first two rows had their gradient, those before t have it. Assumes nothing.
+-- `mlpg_adjust::gv::inner_rows_of_three` meets its contract: where the first two rows had their gradient and were in the sum, those before t have it and are in it. Assumes nothing.
 use mathlib.Core.Path.{_≡_, refl}
 use mathlib.Core.List.{List}
 use Prim.Native.Nat.{_-_, _≤_}
@@ -12,10 +12,10 @@ use Rattle.mlpg_adjust.proofs.gv.inner_rows_of_three.Statement.{stateme
 use Rattle.mlpg_adjust.proofs.gv.inner_rows_of_three.Tie as tie
 
 abbrev Inv-loop : tie.InvT-loop
-Inv-loop m₀ p n end to t₀ m t = (2 ≤ t) × (t ≤ end) × (length m ≡ length m₀) × ((d : List Float) → Graded p n 3 d m₀ 2 → Graded p n 3 d m t)
+Inv-loop m₀ p n weight hmm end right values to sum₀ t₀ m sum t = (2 ≤ t) × (t ≤ end) × (length m ≡ length m₀) × ((d : List Float) → Graded p n 3 weight d m₀ 2 hmm → Graded p n 3 weight d m t sum)
 
 abbrev μ-loop : tie.MeasureT-loop
-μ-loop m₀ p n end to t₀ m t = end - t
+μ-loop m₀ p n weight hmm end right values to sum₀ t₀ m sum t = end - t
 
 sub-end : tie.Need-sub-end Inv-loop μ-loop
 sub-end c = search needs
@@ -35,6 +35,21 @@ mul-m c = search needs
 slice-write-m : tie.Need-slice-write-m Inv-loop μ-loop
 slice-write-m c = search needs
 
+add-el : tie.Need-add-el Inv-loop μ-loop
+add-el c = search needs
+
+el-requires : tie.Need-el-requires Inv-loop μ-loop
+el-requires c κs = rw length-set (omega arith)
+
+add-el-2 : tie.Need-add-el-2 Inv-loop μ-loop
+add-el-2 c = search needs
+
+el-requires-2 : tie.Need-el-requires-2 Inv-loop μ-loop
+el-requires-2 c κs = rw length-set (omega arith)
+
+hmm-term-requires : tie.Need-hmm-term-requires Inv-loop μ-loop
+hmm-term-requires c κs = search needs
+
 add-t : tie.Need-add-t Inv-loop μ-loop
 add-t c = search needs
 
@@ -42,12 +57,14 @@ loop-less : tie.Need-loop-less Inv-loop μ-loop
 loop-less c = search needs
 
 loop-again : tie.Need-loop-again Inv-loop μ-loop
-loop-again c = let s = c .before .before .before .before .before .args in
-    let l = c .before .before .before .loop in (
+loop-again c = let s = c .before .before .before .before .before .before .before .before .before .before .args in
+    let q = c .before .before .before .before .before .before .before .before .before .before .pre in
+    let l = c .before .before .before .before .before .before .before .before .loop in (
       search needs,
       search needs,
       simp length-set (l .inv .2),
-      λ d k. graded-next (s .p) (s .n) 3 (length (s .m .now)) (omega arith) (c .before .before .before .before .before .pre .1) d (l .m) (l .t) _ (omega arith) (c .gradient-of-three .ensures) (l .inv .3 d k),
+      λ d k. graded-next (s .p) (s .n) 3 (length (s .m .now)) (omega arith) (q .1) (s .weight) d (l .m) (l .t) (l .sum) _ _ _ _ (omega arith)
+          (c .before .before .before .before .before .gradient-of-three .ensures) (c .before .before .before .el .ensures) (c .before .el2 .ensures) (c .hmm-term .ensures) (l .inv .3 d k),
     )
 
 same-length : tie.Need-same-length Inv-loop μ-loop
@@ -68,6 +85,11 @@ inner-rows-of-three-spec =
     add-m
     mul-m
     slice-write-m
+    add-el
+    el-requires
+    add-el-2
+    el-requires-2
+    hmm-term-requires
     add-t
     loop-less
     loop-again

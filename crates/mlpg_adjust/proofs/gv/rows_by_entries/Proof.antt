@@ -1,4 +1,4 @@
--- `mlpg_adjust::gv::rows_by_entries` meets its contract: where the rows before `from` had their gradient, those before t have it. Assumes nothing.
+-- `mlpg_adjust::gv::rows_by_entries` meets its contract: where the rows before `from` had their gradient and were in the sum, those before t have it and are in it. Assumes nothing.
 use mathlib.Core.Path.{_≡_, refl}
 use mathlib.Core.List.{List}
 use Prim.Native.Nat.{_+_, _-_, _*_, _≤_}
@@ -6,22 +6,18 @@ use native.Mathlib.Nat.{le-refl, add-sub-cancel-left}
 use native.Mathlib.Omega.{arith}
 use borrow.Rule.Slice.PartMut.{mid-len}
 use lib.ListN.{length, length-set}
-use lib.Seq.{sets}
 use lib.Ieee.{Float}
-use Rattle.lists.specs.Build.{build}
-use Rattle.mlpg_adjust.specs.Rows.{part}
-use Rattle.mlpg_adjust.specs.Gv.{gradientAt}
+use Rattle.mlpg_adjust.specs.GvInner.{Graded}
 use Rattle.mlpg_adjust.proofs.Turns.{graded-next}
 use borrow.Author.Needs.{needs}
 use Rattle.mlpg_adjust.proofs.gv.rows_by_entries.Statement.{statement}
 use Rattle.mlpg_adjust.proofs.gv.rows_by_entries.Tie as tie
 
 abbrev Inv-loop : tie.InvT-loop
-Inv-loop m₀ n w from end rows rows-end values values-end to t₀ m t =
-    (t ≤ end) × (length m ≡ length m₀) × ((d : List Float) → m₀ ≡ sets d to (build (gradientAt w (part rows (n * w) d) (part values n d)) from) → m ≡ sets d to (build (gradientAt w (part rows (n * w) d) (part values n d)) t))
+Inv-loop m₀ p n w from end weight hmm rows rows-end values values-end to sum₀ t₀ m sum t = (t ≤ end) × (length m ≡ length m₀) × ((d : List Float) → Graded p n w weight d m₀ from hmm → Graded p n w weight d m t sum)
 
 abbrev μ-loop : tie.MeasureT-loop
-μ-loop m₀ n w from end rows rows-end values values-end to t₀ m t = end - t
+μ-loop m₀ p n w from end weight hmm rows rows-end values values-end to sum₀ t₀ m sum t = end - t
 
 mul-rows-end : tie.Need-mul-rows-end Inv-loop μ-loop
 mul-rows-end c = search needs
@@ -76,6 +72,21 @@ mul-m c = search needs
 slice-write-m : tie.Need-slice-write-m Inv-loop μ-loop
 slice-write-m c = search needs
 
+add-el : tie.Need-add-el Inv-loop μ-loop
+add-el c = search needs
+
+el-requires : tie.Need-el-requires Inv-loop μ-loop
+el-requires c κs = rw length-set (omega arith)
+
+add-el-2 : tie.Need-add-el-2 Inv-loop μ-loop
+add-el-2 c = search needs
+
+el-requires-2 : tie.Need-el-requires-2 Inv-loop μ-loop
+el-requires-2 c κs = rw length-set (omega arith)
+
+hmm-term-requires : tie.Need-hmm-term-requires Inv-loop μ-loop
+hmm-term-requires c κs = search needs
+
 add-t : tie.Need-add-t Inv-loop μ-loop
 add-t c = search needs
 
@@ -83,13 +94,14 @@ loop-less : tie.Need-loop-less Inv-loop μ-loop
 loop-less c = search needs
 
 loop-again : tie.Need-loop-again Inv-loop μ-loop
-loop-again c = let s = c .before .before .before .before .before .before .before .args in
-    let q = c .before .before .before .before .before .before .before .pre in
-    let l = c .before .before .before .before .before .loop in (
+loop-again c = let s = c .before .before .before .before .before .before .before .before .before .before .before .before .before .args in
+    let q = c .before .before .before .before .before .before .before .before .before .before .before .before .before .pre in
+    let l = c .before .before .before .before .before .before .before .before .before .before .before .loop in (
       search needs,
       simp length-set (l .inv .1),
-      λ d k. graded-next (s .p) (s .n) (s .w) (length (s .m .now)) (q .0) (q .2) d (l .m) (l .t) _ (omega arith)
-          (rw (add-sub-cancel-left (s .p .rows) (s .n * s .w), add-sub-cancel-left (s .p .values) (s .n)) at (c .gradient-by-entries .ensures)) (l .inv .2 d k),
+      λ d k. graded-next (s .p) (s .n) (s .w) (length (s .m .now)) (q .0) (q .2) (s .weight) d (l .m) (l .t) (l .sum) _ _ _ _ (omega arith)
+          (rw (add-sub-cancel-left (s .p .rows) (s .n * s .w), add-sub-cancel-left (s .p .values) (s .n)) at (c .before .before .before .before .before .before .gradient-by-entries .ensures))
+          (c .before .before .before .el .ensures) (c .before .el2 .ensures) (c .hmm-term .ensures) (l .inv .2 d k),
     )
 
 same-length : tie.Need-same-length Inv-loop μ-loop
@@ -120,6 +132,11 @@ rows-by-entries-spec =
     add-m
     mul-m
     slice-write-m
+    add-el
+    el-requires
+    add-el-2
+    el-requires-2
+    hmm-term-requires
     add-t
     loop-less
     loop-again
