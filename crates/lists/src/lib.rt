@@ -122,8 +122,14 @@ pub fn little_endian(bytes: &[u8], at: usize, width: usize) -> u64
     number
 }
 
-// A number and a byte in 64 bits: a read that is widened by a call asks for its index alone.
-pub fn wide(x: u32) -> u64
+// A number as an index, in 64 bits, and a byte in 64 bits: a read that is widened by a call asks for its index alone.
+pub fn wide(x: u32) -> usize
+    ensures { λ r. ⌜ r ≡ x ⌝ }
+{
+    x as usize
+}
+
+pub fn long(x: u32) -> u64
     ensures { λ r. ⌜ r ≡ x ⌝ }
 {
     x as u64

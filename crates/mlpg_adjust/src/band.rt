@@ -8,7 +8,6 @@ ghost use Rattle.mlpg_adjust.specs.Inner.{Fits};
 ghost use Rattle.mlpg_adjust.specs.Ends.{filledOf};
 ghost use Rattle.mlpg_adjust.specs.BandPromise.{framesOf, setRefusal, BandSays};
 use super::Filled;
-use super::mask::wide;
 use super::mlpg::band_row;
 
 // x: a NaN that is handed out has the bits 0x7FF8000000000000.
@@ -112,7 +111,7 @@ pub fn band_rows(
     let Filled::Done(frames) = framed else {
         return framed;
     };
-    let n = wide(frames);
+    let n = lists::wide(frames);
     let w = model::voice::window::band_width(widths);
     let k = n * w;
     if rows.len() < k {

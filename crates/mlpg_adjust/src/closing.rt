@@ -13,7 +13,6 @@ ghost use Rattle.mlpg_adjust.specs.MaskStates.{shutEnds, stateMeans, sta
 ghost use Rattle.mlpg_adjust.specs.Region.{regionOf};
 use super::mask::Voicing;
 use super::mask::voiced_at;
-use super::mask::wide;
 use super::solve::Plan;
 use model::mean_vari::MeanVari;
 use model::voice::window::left_width;
@@ -43,7 +42,7 @@ pub(crate) fn count_voiced(records: &[f64], u: Voicing, durations: &[u32]) -> us
     let mut s = 0;
     let mut n = 0;
     while s < durations.len() {
-        n += closed_of(voiced_at(records, u, s), wide(durations[s]));
+        n += closed_of(voiced_at(records, u, s), lists::wide(durations[s]));
         s += 1;
     }
     n
@@ -65,7 +64,7 @@ pub(crate) fn close_up_switches(
     let mut s = 0;
     let mut k = 0;
     while s < durations.len() {
-        let closed = closed_of(voiced_at(records, u, s), wide(durations[s]));
+        let closed = closed_of(voiced_at(records, u, s), lists::wide(durations[s]));
         let e = k + closed;
         let x = wide_u8(switches[s]);
         lists::fill_u32(&mut out[k..e], closed, x);
@@ -91,7 +90,7 @@ fn reach_of(widths: &[u32], i: usize) -> Reach
             after: 0,
         };
     }
-    let width = wide(widths[i]);
+    let width = lists::wide(widths[i]);
     Reach {
         before: left_width(width),
         after: right_width(width),
@@ -201,8 +200,8 @@ pub(crate) fn close_state(
     let size = g.size;
     let ivars = g.places.ivars;
     let half = v * widths.len();
-    let from_begin = wide(left[f]);
-    let to_end = wide(right[f + d - 1]);
+    let from_begin = lists::wide(left[f]);
+    let to_end = lists::wide(right[f + d - 1]);
     let mut i = 0;
     let mut mean = s * u.size + first;
     let mut at = k;

@@ -20,7 +20,6 @@ use super::filling::fill_state;
 use super::gv::MlpgGlobalVariance;
 use super::mask::Voicing;
 use super::mask::voiced_at;
-use super::mask::wide;
 use super::solve::Plan;
 use super::solve::solve;
 
@@ -53,7 +52,7 @@ fn close_up_group(
     let mut f = 0;
     let mut k = 0;
     while s < durations.len() {
-        let d = wide(durations[s]);
+        let d = lists::wide(durations[s]);
         let closed = closed_of(voiced_at(records, u, s), d);
         close_state(
             records,

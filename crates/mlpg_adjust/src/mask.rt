@@ -13,13 +13,6 @@ ghost use Rattle.mlpg_adjust.specs.MaskPromise.{framesRefusal, MaskSays,
 use super::Filled;
 use model::voice::model::msd;
 
-// A count in the width of an index: a read that is widened by a call asks for its index alone.
-pub(crate) fn wide(x: u32) -> usize
-    ensures { λ r. ⌜ r ≡ x ⌝ }
-{
-    x as usize
-}
-
 // How states are voiced: by the weights of their records, of `size` numbers each.
 pub(crate) struct Voicing {
     pub(crate) size: usize,
@@ -53,7 +46,7 @@ pub(crate) fn mark_states(records: &[f64], u: Voicing, durations: &[u32], out: &
     let mut s = 0;
     let mut f = 0;
     while s < durations.len() {
-        let d = wide(durations[s]);
+        let d = lists::wide(durations[s]);
         let e = f + d;
         let x = flag_of(voiced_at(records, u, s));
         lists::fill_u32(&mut out[f..e], d, x);
@@ -163,7 +156,7 @@ pub fn mask(weights: &[f64], threshold: f64, durations: &[u32], voiced: &mut [u3
     let Filled::Done(frames) = framed else {
         return framed;
     };
-    let n = wide(frames);
+    let n = lists::wide(frames);
     if voiced.len() < n {
         return Filled::Refused(6);
     }
@@ -205,7 +198,7 @@ pub fn mask_with_distances(
     let Filled::Done(frames) = framed else {
         return framed;
     };
-    let n = wide(frames);
+    let n = lists::wide(frames);
     if voiced.len() < n {
         return Filled::Refused(6);
     }

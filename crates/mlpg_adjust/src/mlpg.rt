@@ -9,7 +9,6 @@ ghost use Rattle.mlpg_adjust.specs.Rows.{elem, part, entry};
 ghost use Rattle.mlpg_adjust.specs.Paper.{added, term, rightTerm, rightSum, entryOf};
 ghost use Rattle.mlpg_adjust.specs.Solve.{reduced, forwardAt, backwardAt};
 ghost use Rattle.mlpg_adjust.specs.Inner.{onRow, Fits};
-use super::mask::wide;
 
 // Element i.
 pub(crate) fn el(m: &[f64], i: usize) -> f64
@@ -136,7 +135,7 @@ pub(crate) fn band_row(
     let mut o = 0;
     let mut b = 0;
     while i < widths.len() {
-        let m = wide(widths[i]);
+        let m = lists::wide(widths[i]);
         right = add_window(
             part_at(coefficients, o, m),
             part_at(ivars, b, n),

@@ -10,7 +10,6 @@ ghost use Rattle.mlpg_adjust.specs.Rows.{elem, part};
 ghost use Rattle.mlpg_adjust.specs.Inner.{Taps};
 ghost use Rattle.mlpg_adjust.specs.Region.{Spaced, Laid, Rowed};
 ghost use Rattle.mlpg_adjust.specs.Passes.{Along, AlongPair, NextTap, Partners, Moved, tapEntry, tapSide, windowEntry, windowSide, windowsEntry, windowsSide, wholeEntry, wholeSide, still, inColumns};
-use super::mask::wide;
 use super::mlpg::el;
 use super::mlpg::part_at;
 use super::solve::Places;
@@ -349,7 +348,7 @@ fn pass_windows(
     let mut o = 0;
     let mut b = 0;
     while i < widths.len() {
-        let width = wide(widths[i]);
+        let width = lists::wide(widths[i]);
         pass_window(
             m,
             part_at(coefficients, o, width),

@@ -5,7 +5,6 @@ ghost use lib.ListN.{length};
 ghost use Rattle.mlpg_adjust.specs.TrajectoryPromise.{outOfRange, gvDisagrees, disagree, short, createRefusal};
 use super::GlobalVariance;
 use super::Stream;
-use super::mask::wide;
 
 // Whether there are too many states, or v is out of range.
 fn is_out_of_range(v: u32, states: usize) -> bool
@@ -29,7 +28,7 @@ fn gv_disagrees(stream: Stream, states: usize, gv: usize, switches: usize) -> bo
     let GlobalVariance::On(_) = variance else {
         return false;
     };
-    if gv != 2 * wide(stream.v) {
+    if gv != 2 * lists::wide(stream.v) {
         return true;
     }
     switches != states
@@ -62,7 +61,7 @@ fn is_short(v: u32, frames: usize, out: usize, work: usize, marks: usize) -> boo
     requires { ⌜ (v ≤ 64) × (frames ≤ 65536) ⌝ }
     ensures { λ r. ⌜ r ≡ short v frames out work marks ⌝ }
 {
-    if out < frames * wide(v) {
+    if out < frames * lists::wide(v) {
         return true;
     }
     if work < frames * 48 {

@@ -28,7 +28,7 @@ pub fn place(frame: u32, component: u32, v: u32) -> Placed
     if v <= component {
         return Placed::Refused(10);
     }
-    Placed::At(number_of(lists::wide(frame), lists::wide(component), lists::wide(v)) * 8)
+    Placed::At(number_of(lists::long(frame), lists::long(component), lists::long(v)) * 8)
 }
 
 // The part of the lent trajectory that a state has; the empty part of it on a refusal.
@@ -68,7 +68,7 @@ pub fn excerpt_span(trajectory: &[f64], durations: &[u32], v: u32, state: u32) -
     let at = lists::least(state as usize, states);
     let first = frames_of(&durations[..at]);
     let frames = first + frames_of(&durations[at..]);
-    let width = lists::wide(v);
+    let width = lists::long(v);
     if trajectory.len() as u64 != frames * width {
         return Span::Refused(4);
     }
@@ -80,7 +80,7 @@ pub fn excerpt_span(trajectory: &[f64], durations: &[u32], v: u32, state: u32) -
     }
     Span::Numbers(
         number_of(first, 0, width),
-        lists::wide(durations[at]) * width,
+        lists::long(durations[at]) * width,
     )
 }
 

@@ -35,7 +35,7 @@ fn each_width_fits(widths: &[u32]) -> bool
 {
     let mut i = 0;
     while i < widths.len() {
-        if !is_between(1, 15, wide(widths[i])) {
+        if !is_between(1, 15, lists::wide(widths[i])) {
             return false;
         }
         i += 1;
@@ -76,12 +76,6 @@ fn is_finite(x: f64) -> bool
     false
 }
 
-fn wide(x: u32) -> usize
-    ensures { λ r. ⌜ r ≡ x ⌝ }
-{
-    x as usize
-}
-
 // The longest window's length.
 fn longest_of(widths: &[u32]) -> usize
     ensures { λ r. ⌜ r ≡ longest (now (widths .entry)) ⌝ }
@@ -89,7 +83,7 @@ fn longest_of(widths: &[u32]) -> usize
     let mut found = 0;
     let mut i = 0;
     while i < widths.len() {
-        found = lists::larger(found, wide(widths[i]));
+        found = lists::larger(found, lists::wide(widths[i]));
         i += 1;
     }
     found
@@ -131,7 +125,7 @@ pub fn width(widths: &[u32], i: usize) -> usize
     ensures { λ r. ⌜ r ≡ widthOf (take 4 (now (widths .entry))) i ⌝ }
 {
     if i < lists::least(4, widths.len()) {
-        return wide(widths[i]);
+        return lists::wide(widths[i]);
     }
     0
 }

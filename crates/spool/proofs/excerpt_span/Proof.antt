@@ -60,11 +60,11 @@ frames-of-requires-2 c κs = search needs
 add-frames : tie.Need-add-frames
 add-frames c = search needs
 
-wide-requires : tie.Need-wide-requires
-wide-requires c κs = search needs
+long-requires : tie.Need-long-requires
+long-requires c κs = search needs
 
 -- what is known once the durations are summed
-module _ (c : tie.After-wide) where
+module _ (c : tie.After-long) where
   abbrev ds : List ℕ
   ds = c .before .before .before .before .before .before .before .before .before .before .before .args .durations .now
 
@@ -80,8 +80,8 @@ module _ (c : tie.After-wide) where
   width : outside v ≡ false
   width = sym (c .before .before .before .before .before .before .before .out-of-range .ensures) ∙ c .before .before .before .before .before .before .if2 .left
 
-  narrow : c .wide .result ≤ 64
-  narrow = omega (arith, in-range v width .1, c .wide .ensures)
+  narrow : c .long .result ≤ 64
+  narrow = omega (arith, in-range v width .1, c .long .ensures)
 
   few : length ds ≤ 4096
   few = c .before .before .before .before .before .before .before .before .if1 .left
@@ -89,12 +89,12 @@ module _ (c : tie.After-wide) where
   frames : c .before .before .before .frames-of .result + c .before .frames-of2 .result ≡ total ds
   frames = total-split ds _ _ _ (c .before .before .before .frames-of .ensures .sum) (c .before .frames-of2 .ensures .sum)
 
-  numbers : (c .before .before .before .frames-of .result + c .before .frames-of2 .result) * c .wide .result ≡ total ds * v
-  numbers = ap (λ (n : ℕ). n * c .wide .result) frames ∙ ap (λ (n : ℕ). total ds * n) (c .wide .ensures)
+  numbers : (c .before .before .before .frames-of .result + c .before .frames-of2 .result) * c .long .result ≡ total ds * v
+  numbers = ap (λ (n : ℕ). n * c .long .result) frames ∙ ap (λ (n : ℕ). total ds * n) (c .long .ensures)
 
 mul-if3 : tie.Need-mul-if3
 mul-if3 c =
-    let p = product-fits 35184372080640 (c .before .before .before .frames-of .result + c .before .frames-of2 .result) (c .wide .result) (omega arith) (narrow c) in
+    let p = product-fits 35184372080640 (c .before .before .before .frames-of .result + c .before .frames-of2 .result) (c .long .result) (omega arith) (narrow c) in
     omega (arith, p)
 
 returns-3 : tie.Need-returns-3
@@ -125,22 +125,22 @@ returns-5 c =
 number-of-requires : tie.Need-number-of-requires
 number-of-requires c κs =
     let b = c .before .before .before in
-    let p = product-fits 65536 (b .before .before .before .frames-of .result) (b .wide .result) (omega (arith, c .before .if4 .left)) (narrow b) in
+    let p = product-fits 65536 (b .before .before .before .frames-of .result) (b .long .result) (omega (arith, c .before .if4 .left)) (narrow b) in
     omega (arith, p)
 
-mul-wide : tie.Need-mul-wide
-mul-wide c = search needs
+mul-long : tie.Need-mul-long
+mul-long c = search needs
 
-shared-slice-read-wide : tie.Need-shared-slice-read-wide
-shared-slice-read-wide c = search needs
+shared-slice-read-long : tie.Need-shared-slice-read-long
+shared-slice-read-long c = search needs
 
-wide-requires-2 : tie.Need-wide-requires-2
-wide-requires-2 c κs = search needs
+long-requires-2 : tie.Need-long-requires-2
+long-requires-2 c κs = search needs
 
 mul-t23 : tie.Need-mul-t23
 mul-t23 c =
     let b = c .before .before .before .before .before .before in
-    let p = product-fits 4294967295 (c .wide2 .result) (b .wide .result) (omega (arith, c .wide2 .ensures, c .before .shared-slice-known3 .given (b .before .before .before .before .before .least .result))) (narrow b) in
+    let p = product-fits 4294967295 (c .long2 .result) (b .long .result) (omega (arith, c .long2 .ensures, c .before .shared-slice-known3 .given (b .before .before .before .before .before .least .result))) (narrow b) in
     omega (arith, p)
 
 returns-6 : tie.Need-returns-6
@@ -150,12 +150,12 @@ returns-6 c =
     let at = b .before .before .before .before .before .least in
     accepted _ _ _
     (excerpt-0 (count b) (ds b) (v b) (state b) (none (d .before)) (omega (arith, at .ensures, d .if5 .left)))
-    (span-values (ds b) (v b) (state b) (at .result) (b .before .before .before .frames-of .result) (b .wide .result) (c .before .before .number-of .result) (c .wide2 .result * b .wide .result)
+    (span-values (ds b) (v b) (state b) (at .result) (b .before .before .before .frames-of .result) (b .long .result) (c .before .before .number-of .result) (c .long2 .result * b .long .result)
     (omega (arith, at .ensures, d .if5 .left))
     (b .before .before .before .frames-of .ensures .sum)
-    (b .wide .ensures)
+    (b .long .ensures)
     (c .before .before .number-of .ensures)
-    (ap (λ (n : ℕ). n * b .wide .result) (c .wide2 .ensures)))
+    (ap (λ (n : ℕ). n * b .long .result) (c .long2 .ensures)))
 
 pub excerpt-span-spec : {M : Type 1} → statement M
 excerpt-span-spec =
@@ -173,14 +173,14 @@ excerpt-span-spec =
     part-frames-of-end
     frames-of-requires-2
     add-frames
-    wide-requires
+    long-requires
     mul-if3
     returns-3
     returns-4
     returns-5
     number-of-requires
-    mul-wide
-    shared-slice-read-wide
-    wide-requires-2
+    mul-long
+    shared-slice-read-long
+    long-requires-2
     mul-t23
     returns-6)

@@ -25,23 +25,23 @@ returns-2 c =
     let a = c .before .before .before .args in
     refused-as 9 _ _ (place-10 (a .component) (a .v) (sym (c .before .before .out-of-range .ensures) ∙ c .before .if1 .left) (c .if2 .taken))
 
-wide-requires : tie.Need-wide-requires
-wide-requires c κs = search needs
+long-requires : tie.Need-long-requires
+long-requires c κs = search needs
 
-wide-requires-2 : tie.Need-wide-requires-2
-wide-requires-2 c κs = search needs
+long-requires-2 : tie.Need-long-requires-2
+long-requires-2 c κs = search needs
 
-wide-requires-3 : tie.Need-wide-requires-3
-wide-requires-3 c κs = search needs
+long-requires-3 : tie.Need-long-requires-3
+long-requires-3 c κs = search needs
 
-module _ (c : tie.After-wide3) where
+module _ (c : tie.After-long3) where
   width : outside (c .before .before .before .before .before .before .args .v) ≡ false
   width = sym (c .before .before .before .before .before .out-of-range .ensures) ∙ c .before .before .before .before .if1 .left
 
-  small : placeOf (c .before .before .wide .result) (c .before .wide2 .result) (c .wide3 .result) ≤ 2199023255544
+  small : placeOf (c .before .before .long .result) (c .before .long2 .result) (c .long3 .result) ≤ 2199023255544
   small =
       let w = in-range (c .before .before .before .before .before .before .args .v) width in
-      place-most (c .before .before .wide .result) (c .before .wide2 .result) (c .wide3 .result)
+      place-most (c .before .before .long .result) (c .before .long2 .result) (c .long3 .result)
       (omega arith)
       (omega (arith, c .before .before .before .if2 .left))
       (omega (arith, w .1))
@@ -57,7 +57,7 @@ returns-3 c =
     let b = c .before in
     let a = b .before .before .before .before .before .before .args in
     accepted _ _ _ (place-0 (a .component) (a .v) (width b) (b .before .before .before .if2 .left))
-    (rw (c .number-of .ensures, b .before .before .wide .ensures, b .before .wide2 .ensures, b .wide3 .ensures))
+    (rw (c .number-of .ensures, b .before .before .long .ensures, b .before .long2 .ensures, b .long3 .ensures))
 
 pub place-spec : {M : Type 1} → statement M
 place-spec =
@@ -66,9 +66,9 @@ place-spec =
     out-of-range-requires
     returns
     returns-2
-    wide-requires
-    wide-requires-2
-    wide-requires-3
+    long-requires
+    long-requires-2
+    long-requires-3
     number-of-requires
     mul-t10
     returns-3)
