@@ -14,6 +14,13 @@ module _ {A : Type 0} where
   take-min (suc m) [] = rw min-zero
   take-min (suc m) (x ∷ xs) = rw suc-min-suc (ap (λ (r : List A). x ∷ r) (take-min m xs))
 
+  -- a part of a part from the front
+  pub take-both : (m n : ℕ) (l : List A) → take m (take n l) ≡ take (min m n) l
+  take-both zero n l = rw zero-min
+  take-both (suc m) zero l = rw (min-zero (suc m))
+  take-both (suc m) (suc n) [] = rw suc-min-suc
+  take-both (suc m) (suc n) (x ∷ xs) = rw suc-min-suc (ap (λ (r : List A). x ∷ r) (take-both m n xs))
+
   -- the three ways to end a part of count from a place on: past the list, at its end, within it
   module _ (l : List A) (from count : ℕ) where
     pub part-past : length l ≤ from → take (length l - length l) (drop (length l) l) ≡ take count (drop from l)

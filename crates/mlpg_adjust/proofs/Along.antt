@@ -1,5 +1,5 @@
 -- Laws of passes along the frames: what each does to the rows and the right side. Assumes nothing.
-use mathlib.Core.Path.{_≡_, refl, sym, ap, subst, _∙_}
+use mathlib.Core.Path.{_≡_, refl, sym, ap, _∙_}
 use mathlib.Core.Bool.{Bool, true, false, cond}
 use mathlib.Core.List.{List}
 use mathlib.Core.Logic.{⊎-elim, _≢_}
@@ -10,20 +10,13 @@ use lib.Dec.{ltb, leb}
 use lib.ListN.{length, set, drop, length-set, length-drop}
 use lib.Seq.{ext-getD, getD-set-same, getD-set-other, length-take-le}
 use lib.Ieee.{Float, nan}
-use Rattle.lists.proofs.Numbers.{le-or-lt}
+use Rattle.lists.proofs.Numbers.{le-or-lt, by-place}
 use Rattle.lists.proofs.Rows.{row-fits, row-in}
 use Rattle.mlpg_adjust.specs.Rows.{elem, part}
 use Rattle.mlpg_adjust.specs.Passes.{Along, AlongPair, Moved, within, span}
 use Rattle.mlpg_adjust.specs.declared.solve.Places.{Places}
 use Rattle.mlpg_adjust.specs.declared.passes.Span.{Span}
 use Rattle.mlpg_adjust.proofs.Readings.{part-elem}
-
--- a number itself, or another
-pub by-place : (j : ℕ) (P : ℕ → Type 0) (i : ℕ) → (i ≢ j → P i) → P j → P i
-by-place j P i a b = ⊎-elim
-    (λ (g : i ≤ j). ⊎-elim (λ (q : j ≤ i). let e : i ≡ j = omega arith in subst P (sym e) b) (λ (q : i < j). a (λ e. omega arith)) (le-or-lt j i))
-    (λ (g : j < i). a (λ e. omega arith))
-    (le-or-lt i j)
 
 -- ---- numbers at every step-th place
 

@@ -9,7 +9,7 @@ use native.Mathlib.Omega.{arith}
 use borrow.Author.Tests.{lt-ltb, le-ltb, le-leb, lt-leb}
 use lib.ListN.{length, getD}
 use lib.Ieee.{Float, nan, binary64, add, mul, eq}
-use Rattle.lists.proofs.Numbers.{le-or-lt}
+use Rattle.lists.proofs.Numbers.{le-or-lt, by-place}
 use Rattle.lists.proofs.Rows.{row-fits, row-in}
 use Rattle.floats.specs.Numbers.{nought}
 use Rattle.mlpg_adjust.specs.Rows.{elem, part}
@@ -20,7 +20,7 @@ use Rattle.mlpg_adjust.specs.declared.solve.Places.{Places}
 use Rattle.mlpg_adjust.specs.declared.passes.Span.{Span}
 use Rattle.mlpg_adjust.proofs.Readings.{part-elem}
 use Rattle.mlpg_adjust.proofs.Terms.{same-at, W-own, W-tap, term-idle, right-idle}
-use Rattle.mlpg_adjust.proofs.Along.{within-on, within-idle, within-same, by-place, moved-none, one-row}
+use Rattle.mlpg_adjust.proofs.Along.{within-on, within-idle, within-same, moved-none, one-row}
 
 -- ---- the frame that row t's tap k stands at
 

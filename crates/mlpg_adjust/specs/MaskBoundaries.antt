@@ -3,7 +3,8 @@ use mathlib.Core.Bool.{Bool, true, false, cond, _||_}
 use mathlib.Core.List.{List, [], _∷_}
 use Prim.Native.Nat.{ℕ, suc}
 use lib.Dec.{ltb}
-use lib.Ieee.{Float, binary64, ofBits}
+use lib.Ieee.{Float}
+use Rattle.floats.specs.Numbers.{nought}
 
 -- how many frames from here on are voiced without a gap
 unfoldable pub ahead : List Bool → ℕ
@@ -28,7 +29,7 @@ rights (false ∷ bs) = 0 ∷ rights bs
 -- 01, Mask and boundaries: "a frame whose left distance is below half the window's length .., or whose right distance is below length − half − 1, has its
 -- inverse variance set to 0": of a window that reaches so far before and after a frame, the inverse variance v at distances l and r
 abbrev pub shut : ℕ → ℕ → ℕ → ℕ → Float → Float
-shut before after l r v = cond (ltb l before || ltb r after) (ofBits binary64 0) v
+shut before after l r v = cond (ltb l before || ltb r after) nought v
 
 -- "Voiced frames are then closed up": their inverse variances, l voiced frames having just gone by
 unfoldable pub closeUp : ℕ → ℕ → ℕ → List Bool → List Float → List Float

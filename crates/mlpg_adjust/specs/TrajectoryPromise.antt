@@ -5,10 +5,11 @@ use mathlib.Core.List.{List}
 use Prim.Native.Nat.{ℕ, zero, suc, _*_}
 use lib.ListN.{length, replicate}
 use lib.Dec.{ltb, eqb}
-use lib.Ieee.{Float, binary64, ofBits}
+use lib.Ieee.{Float}
 use Rattle.lists.specs.Totals.{total}
 use Rattle.lists.specs.Refusals.{orElse}
 use Rattle.lists.specs.Answers.{written}
+use Rattle.floats.specs.Numbers.{nought}
 use Rattle.model.specs.Windows.{widthsFit, allFinite}
 use Rattle.mlpg_adjust.specs.Trajectory.{gvOn, sizeOf, numbersOf}
 use Rattle.mlpg_adjust.specs.declared.Stream.{Stream}
@@ -34,7 +35,7 @@ marksAFrame = 4
 
 -- 01, Refusal numbers: an accepted call "zeros the work space it is entitled to"
 abbrev pub zeroFloats : ℕ → List Float
-zeroFloats frames = replicate (frames * floatsAFrame) (ofBits binary64 0)
+zeroFloats frames = replicate (frames * floatsAFrame) nought
 
 abbrev pub zeroMarks : ℕ → List ℕ
 zeroMarks frames = replicate (frames * marksAFrame) 0

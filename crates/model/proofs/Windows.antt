@@ -1,9 +1,8 @@
 -- Laws of window sets. Assumes nothing.
 use mathlib.Core.Path.{_≡_, refl, sym, ap, _∙_}
-use mathlib.Core.List.{List, [], _∷_}
+use mathlib.Core.List.{List}
 use mathlib.Core.Bool.{Bool, true, false, not, _&&_, true≢false}
-use Prim.Native.Nat.{ℕ, zero, suc, _+_, _^_, _<_, _≤_, min}
-use native.Mathlib.Nat.{zero-min, min-zero, suc-min-suc}
+use Prim.Native.Nat.{ℕ, _+_, _^_, _<_, _≤_, min}
 use native.Mathlib.Numerals.{add-one}
 use native.Mathlib.Omega.{arith}
 use borrow.Author.Tests.{le-leb, lt-leb, leb-true, eq-eqb, ne-eqb, not-true, not-false}
@@ -12,7 +11,7 @@ use lib.ListN.{length, take, drop, getD, drop-of-length-le, length-take, List·g
 use lib.Seq.{drop-cons, getD-take}
 use lib.Ieee.{Float, nan, inf, fin, lt}
 use Rattle.lists.specs.Totals.{total}
-use Rattle.lists.proofs.Parts.{take-min}
+use Rattle.lists.proofs.Parts.{take-min, take-both}
 use Rattle.lists.proofs.Sums.{total-whole}
 use Rattle.model.specs.Windows.{between, allOf, finite, widthsFit, allFinite, windowRefusal, widthOf, startOf}
 
@@ -57,13 +56,6 @@ module _ (low high n : ℕ) where
   between-from h = rw (le-leb low n h)
 
 -- ---- one window of a set
-
--- a part of a part from the front
-take-both : {A : Type 0} (m n : ℕ) (l : List A) → take m (take n l) ≡ take (min m n) l
-take-both zero n l = rw zero-min
-take-both (suc m) zero l = rw (min-zero (suc m))
-take-both (suc m) (suc n) [] = rw suc-min-suc
-take-both (suc m) (suc n) (x ∷ xs) = rw suc-min-suc (ap (λ (r : List _). x ∷ r) (take-both m n xs))
 
 module _ (ws : List ℕ) (i : ℕ) where
   pub width-at : i < min 4 (length ws) → getD ws i 0 ≡ widthOf (take 4 ws) i
