@@ -51,12 +51,12 @@ def build_oracle(src: Path, paper: bool = False) -> Program:
     return Program(name, (built.stdout.strip(),))
 
 
-def link(compiler: list[str], objects: list[str], name: str) -> str:
-    """The driver with the calls; `--whole-archive` since its symbols are weak."""
+def link(compiler: list[str], objects: list[str], name: str, source: str = "subject.c") -> str:
+    """A driver with the calls; `--whole-archive` since the subject's symbols are weak."""
     BUILT.mkdir(parents=True, exist_ok=True)
     built = BUILT / name
     whole = ["-Wl,--whole-archive", *objects, "-Wl,--no-whole-archive"]
-    command = [*compiler, "-std=c11", "-O1", "-o", built, TOOLS / "subject.c", *whole]
+    command = [*compiler, "-std=c11", "-O1", "-o", built, TOOLS / source, *whole]
     subprocess.run(command, check=True)
     return str(built)
 
@@ -70,12 +70,16 @@ def kit_tools() -> Path:
     return kit() / "on" / platform.machine() / "toolchain/bin"
 
 
-def build_subject(archive: Path) -> Program:
-    """The archive that ships: x86-64, so on other machines by cross compiler and emulator."""
+def with_archive(archive: Path, name: str, source: str) -> tuple[str, ...]:
+    """A driver of the archive that ships: x86-64, so on other machines by cross compiler and emulator."""
     if platform.machine() == "x86_64":
-        return Program("the C call", (link(["gcc"], [str(archive)], "subject"),))
-    built = link(["x86_64-linux-gnu-gcc", "-static"], [str(archive)], "subject")
-    return Program("the C call", (str(kit_tools() / "qemu-x86_64"), built))
+        return (link(["gcc"], [str(archive)], name, source),)
+    built = link(["x86_64-linux-gnu-gcc", "-static"], [str(archive)], name, source)
+    return (str(kit_tools() / "qemu-x86_64"), built)
+
+
+def build_subject(archive: Path) -> Program:
+    return Program("the C call", with_archive(archive, "subject", "subject.c"))
 
 
 def kinds_there(subject: Program) -> set[str]:
