@@ -24,6 +24,7 @@ FAULTS = [
     Fault("adding 0.5 and cutting, for rounding", IEEE, HALF,
           "    if math.floor(abs(x) + 0.5) > whole:",
           "it differs at 0.49999999999999994 alone, which is at least 1 after both"),
+    Fault("the half cut off with the rest of the fraction", IEEE, HALF, "    if abs(x) - whole >= 1:"),
     Fault("negative halves rounded up", IEEE, HALF,
           "    if abs(x) - whole >= (0.5 if x > 0 else math.nextafter(0.5, 1)):",
           "negative numbers become 1 after both"),

@@ -1,7 +1,7 @@
 -- Rounding to the nearest whole number, halves upward. Assumes nothing.
 use mathlib.Core.Path.{_≡_, refl, sym, ap, _∙_}
-use Prim.Native.Nat.{ℕ, zero, suc, _+_, _*_, _/_, _%_, _^_, _≤_, _<_}
-use native.Mathlib.Nat.{mul-assoc, mul-comm, mul-left-comm, add-mul, mul-pos, add-div-right, div-div-eq-div-mul, div-eq-of-lt, le-div-iff-mul-le, pow-succ'}
+use Prim.Native.Nat.{ℕ, zero, suc, _+_, _*_, _/_, _≤_, _<_}
+use native.Mathlib.Nat.{mul-assoc, mul-comm, mul-left-comm, add-mul, mul-pos, add-div-right, div-div-eq-div-mul, div-eq-of-lt, le-div-iff-mul-le}
 use native.Mathlib.Omega.{arith}
 use lib.Ieee.Nearest.{div-same}
 use mathlib.Core.Bool.{true}
@@ -34,20 +34,13 @@ half-large n a c C h =
     let e : n * (2 * c) ≡ 2 * (n * c) = simp mul-left-comm in
     le-div-iff-mul-le (mul-pos two-pos C) .1 (omega arith)
 
--- twice the number, cut, is what the bits taken off and the last of them say
+-- it is worked out from twice the number, cut: one more of that, halved
 pub half-cut : (a c : ℕ) → 0 < c → nearestHalf a c ≡ (2 * a / c + 1) / 2
 unfolding nearestHalf
 half-cut a c C =
     ap (λ (k : ℕ). (2 * a + c) / k) (mul-comm 2 c)
     ∙ sym (div-div-eq-div-mul (2 * a + c) c 2)
     ∙ ap (λ (k : ℕ). k / 2) (add-div-right (2 * a) C)
-
-pub bit-off : (w b l : ℕ) → b < 2 → (2 * w + b) / 2 ^ suc l ≡ (2 * (w / 2) + w % 2) / 2 ^ l
-bit-off w b l h =
-    let e : (2 * w + b) / 2 ≡ 2 * (w / 2) + w % 2 = omega arith in
-    ap (λ (k : ℕ). (2 * w + b) / k) (pow-succ' 2 l)
-    ∙ sym (div-div-eq-div-mul (2 * w + b) 2 (2 ^ l))
-    ∙ ap (λ (k : ℕ). k / 2 ^ l) e
 
 -- ---- how many frames a whole number that is not below zero gives
 abbrev pub frames : ℕ → ℕ

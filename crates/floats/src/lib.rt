@@ -9,20 +9,16 @@ ghost use Rattle.floats.specs.Rounding.{roundedOf, nearestHalf};
 ghost use Rattle.floats.specs.Order.{absOf, costBelow};
 ghost use Rattle.floats.specs.Root.{nearestRoot, sqrtOf, IsScaled};
 
-// digits / 2 ^ places to the nearest whole number, a half upward: the fraction goes off one bit at a time, the last one off rounds.
+// digits / 2 ^ places to the nearest whole number, a half upward: one shift leaves the halves, and an odd one rounds up.
 fn without_fraction(digits: u64, places: u64) -> u64
     requires { ⌜ digits < 2 ^ 53 ⌝ }
     ensures { λ r. ⌜ r ≡ nearestHalf digits (2 ^ places) ⌝ }
 {
-    let mut left = places;
-    let mut whole = digits;
-    let mut last = 0;
-    while left > 0 {
-        last = whole % 2;
-        whole = whole / 2;
-        left -= 1;
+    if places > 63 {
+        return 0;
     }
-    whole + last
+    let halves = (2 * digits) >> places;
+    (halves + 1) / 2
 }
 
 // How many frames x stands for: the nearest whole number, halves away from zero, at least 1; 65,537 for all above 65,536.
