@@ -12,10 +12,13 @@ pub struct Fitted {
 }
 
 impl Fitted {
-    /// The durations' total.
+    /// The durations' total, at most 65,536 of what a call answered.
     #[must_use]
-    pub fn frames(&self) -> u32 {
-        self.durations.iter().sum()
+    pub fn frames(&self) -> u64 {
+        self.durations
+            .iter()
+            .map(|&frames| u64::from(frames))
+            .fold(0, u64::saturating_add)
     }
 }
 

@@ -270,7 +270,10 @@ impl Stream<'_> {
     /// stream. Component c of window w is number v × w + c.
     #[must_use]
     pub fn record_len(&self) -> usize {
-        2 * self.windows.widths.len() * self.v as usize + usize::from(self.masked)
+        let pairs = self.windows.widths.len().saturating_mul(self.v as usize);
+        pairs
+            .saturating_mul(2)
+            .saturating_add(usize::from(self.masked))
     }
 
     /// The stream's numbers, frame after frame.

@@ -262,7 +262,7 @@ fn label(nstate: usize) -> Result<Fitted, Refusal> {
 }
 
 /// A job of so many states of one frame each.
-fn job(states: usize) -> Result<u32, Refusal> {
+fn job(states: usize) -> Result<u64, Refusal> {
     let mut bytes = b"SPJ\x01\0".to_vec();
     bytes.extend(u16::try_from(states).unwrap().to_le_bytes());
     bytes.extend(1.0_f64.to_le_bytes());
@@ -300,10 +300,7 @@ fn limits_are_the_last_accepted() {
         Err(Refusal::TooManyFrames)
     );
 
-    assert_eq!(
-        job(MAX_JOB_STATES),
-        Ok(u32::try_from(MAX_JOB_STATES).unwrap())
-    );
+    assert_eq!(job(MAX_JOB_STATES), Ok(MAX_JOB_STATES as u64));
     assert_eq!(job(MAX_JOB_STATES + 1), Err(Refusal::JobDamaged));
 }
 

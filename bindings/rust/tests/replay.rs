@@ -114,7 +114,7 @@ fn jobs() {
         assert_eq!(fitted.durations.len(), stored.u32() as usize);
         assert_eq!(
             (fitted.frames(), fitted.changes),
-            (stored.u32(), stored.u32())
+            (stored.u32().into(), stored.u32())
         );
         assert_eq!(fitted.durations, stored.u32s());
     });

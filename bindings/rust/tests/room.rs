@@ -1,6 +1,7 @@
-//! The forms that own their memory never lack room, whatever lengths and sizes they are given.
+//! The forms that own their memory never lack room, whatever lengths and sizes they are given; and
+//! what is asked of a value is answered, whatever its fields are.
 
-use hejmirov::{Refusal, Stream, Windows};
+use hejmirov::{Fitted, Refusal, Stream, Trajectory, Windows};
 
 /// Whole numbers from a seed: splitmix64.
 struct Seed(u64);
@@ -85,4 +86,47 @@ fn frames() {
         has_room(trajectory);
     }
     assert!(accepted > 100, "{accepted} accepted");
+}
+
+#[test]
+fn values_of_any_fields() {
+    let most = u64::from(u32::MAX);
+    let fitted = Fitted {
+        durations: vec![u32::MAX; 3],
+        changes: u32::MAX,
+    };
+    assert_eq!(fitted.frames(), 3 * most);
+
+    let windows = Windows {
+        widths: &[u32::MAX; 5],
+        coefficients: &[],
+    };
+    assert_eq!(windows.band_width() as u64, most);
+    assert_eq!(Windows::default().band_width(), 1);
+    let stream = Stream {
+        v: u32::MAX,
+        windows,
+        masked: true,
+        threshold: f64::NAN,
+        fill: f64::NAN,
+        gv: None,
+    };
+    assert_eq!(stream.record_len() as u64, 10 * most + 1);
+    assert_eq!(
+        stream.trajectory(&[], &[u32::MAX]),
+        Err(Refusal::BadWindows)
+    );
+
+    for v in [0, 1, 2, 65, u32::MAX] {
+        let numbers = vec![1.0; 3];
+        let trajectory = Trajectory { v, numbers };
+        assert_eq!(trajectory.frames().count(), 3 / (v as usize).max(1));
+        for state in [0, 3, u32::MAX] {
+            assert_eq!(
+                trajectory.excerpt(&[1, 1, 1], state).is_ok(),
+                v == 1 && state == 0
+            );
+            assert!(trajectory.excerpt(&[u32::MAX; 2], state).is_err());
+        }
+    }
 }
