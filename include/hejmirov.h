@@ -212,17 +212,28 @@ uint32_t hejmirov_band_rows(const uint32_t *widths, size_t n_widths,
  *   threshold      a state is voiced where its weight is greater
  *   fill           stands for every number of an unvoiced frame
  *   gv_on          not 0: global variance; 0: gv_weight, gv and switches are not looked at
- *   gv_weight      the GV means are multiplied by it
+ *   gv_weight      the GV means are multiplied by it; 1 takes them as they are
  *   widths         each window's number of coefficients
  *   coefficients   the windows' coefficients, window after window
  *   records        one record a state: windows x v means, as many variances and, where masked, the
  *                  weight; component c of window w is number v x w + c
  *   durations      one number of frames a state, 0 too; F is their total
- *   gv             v GV means, then v GV variances
- *   switches       one byte a state: whether its frames count for global variance, 0 for no
+ *   gv             v GV means, then v GV variances: a component's numbers have a variance over an
+ *                  utterance, and these are its mean and its variance, as a voice gives them
+ *   switches       one byte a state: whether its frames count for global variance, 0 for no; of the
+ *                  voiced ones, since others have no number to count
  *   out            afterwards F x v numbers, component c of frame t at t x v + c
  *   work           F x 48 numbers; afterwards F x 48 zeros
  *   marks          F x 4 numbers; afterwards F x 4 zeros
+ *
+ * Global variance. The numbers of the frames that count are scaled about their mean, so that their
+ * variance is the target, GV mean x gv_weight; five steps of every voiced frame follow. In these the
+ * GV variance multiplies the pull to the target. It is used as given, not inverted, so a larger one
+ * holds the variance nearer to the target: two states of means 1 and 3 and variance 1, two frames
+ * each, have a variance of 1; with a GV mean of 2 it becomes 2.249 for a GV variance of 1e-6, 2.090
+ * for 1, and 2.000 for 1e6. In a stream of log F0 a GV mean is of the order of 0.06 and a GV variance
+ * of the order of 4e-4, which pulls hardly at all: the scaling decides. Where no frame counts, the
+ * numbers are those without global variance.
  *
  * Refused with 1: n_widths is not 1 to 4, or a width not 1 to 15. 2: a coefficient is infinite or
  * NaN. 3: n_durations above 4,096, or v out of range. 4: the widths' sum is not n_coefficients,

@@ -216,13 +216,46 @@ pub fn band_rows_into(
 }
 
 /// Global variance of a stream.
+///
+/// The numbers of the frames that count are scaled about their mean, so that their variance is the
+/// target: the component's GV mean × weight. Five steps follow, of every voiced frame. In these the
+/// GV variance multiplies the pull to the target; it is used as given, not inverted, so a larger one
+/// holds the variance nearer to the target.
+///
+/// In a stream of log F0 a GV mean is of the order of 0.06 and a GV variance of the order of 4e-4,
+/// which pulls hardly at all: the scaling decides.
+///
+/// ```
+/// use hejmirov::{GlobalVariance, Refusal, Stream, Windows};
+///
+/// /// The variance of two states, means 1 and 3, variance 1, two frames each, drawn to 2.
+/// fn drawn(vari: f64) -> Result<f64, Refusal> {
+///     let stream = Stream {
+///         v: 1,
+///         windows: Windows { widths: &[1], coefficients: &[1.0] },
+///         masked: false,
+///         threshold: 0.0,
+///         fill: 0.0,
+///         gv: Some(GlobalVariance { weight: 1.0, pairs: &[2.0, vari], switches: &[true, true] }),
+///     };
+///     let numbers = stream.trajectory(&[1.0, 1.0, 3.0, 1.0], &[2, 2])?.numbers;
+///     let mean = numbers.iter().sum::<f64>() / 4.0;
+///     Ok(numbers.iter().map(|number| (number - mean).powi(2)).sum::<f64>() / 4.0)
+/// }
+///
+/// assert!((drawn(1e-6)? - 2.249).abs() < 0.001);
+/// assert!((drawn(1.0)? - 2.090).abs() < 0.001);
+/// assert!((drawn(1e6)? - 2.000).abs() < 0.001);
+/// # Ok::<(), Refusal>(())
+/// ```
 #[derive(Clone, Copy, Debug, PartialEq)]
 pub struct GlobalVariance<'a> {
-    /// The means are multiplied by it.
+    /// The GV means are multiplied by it; 1 takes them as they are.
     pub weight: f64,
-    /// One mean a component, then one variance a component.
+    /// One GV mean a component, then one GV variance a component: the component's numbers have a
+    /// variance over an utterance, and these are its mean and its variance, as a voice gives them.
     pub pairs: &'a [f64],
-    /// One a state: whether its frames count.
+    /// One a state: whether its frames count, of the voiced ones.
     pub switches: &'a [bool],
 }
 
