@@ -227,13 +227,13 @@ uint32_t hejmirov_band_rows(const uint32_t *widths, size_t n_widths,
  *   marks          F x 4 numbers; afterwards F x 4 zeros
  *
  * Global variance. The numbers of the frames that count are scaled about their mean, so that their
- * variance is the target, GV mean x gv_weight; five steps of every voiced frame follow. In these the
- * GV variance multiplies the pull to the target. It is used as given, not inverted, so a larger one
- * holds the variance nearer to the target: two states of means 1 and 3 and variance 1, two frames
- * each, have a variance of 1; with a GV mean of 2 it becomes 2.249 for a GV variance of 1e-6, 2.090
- * for 1, and 2.000 for 1e6. In a stream of log F0 a GV mean is of the order of 0.06 and a GV variance
- * of the order of 4e-4, which pulls hardly at all: the scaling decides. Where no frame counts, the
- * numbers are those without global variance.
+ * variance is the target, GV mean x gv_weight; five steps of every voiced frame follow. In these
+ * the GV variance multiplies the pull to the target. It is used as given, not inverted, so a larger
+ * one holds the variance nearer to the target: two states of means 1 and 3 and variance 1, two
+ * frames each, have a variance of 1; with a GV mean of 2 it becomes 2.249 for a GV variance of
+ * 1e-6, 2.090 for 1, and 2.000 for 1e6. In a stream of log F0 a GV mean is of the order of 0.06 and
+ * a GV variance of the order of 4e-4, which pulls hardly at all: the scaling decides. Where no
+ * frame counts, the numbers are those without global variance.
  *
  * Refused with 1: n_widths is not 1 to 4, or a width not 1 to 15. 2: a coefficient is infinite or
  * NaN. 3: n_durations above 4,096, or v out of range. 4: the widths' sum is not n_coefficients,

@@ -1,1 +1,1 @@
-"""The judge: cases, the second reading of document 01, the programs that answer, the comparison."""
+"""The judge: cases, the second reading of the rules, the programs that answer, the comparison."""

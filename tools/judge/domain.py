@@ -8,7 +8,7 @@ from .reading.refusals import band_frames
 
 
 class Judge(Enum):
-    RUST = auto()  # inside 01's differential domain
+    RUST = auto()  # the Rust follows the rules
     PAPER = auto()  # terms that the Rust's `break` would drop: its twin by the paper's rule
     READING = auto()  # the second reading alone
 

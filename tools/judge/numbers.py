@@ -1,4 +1,4 @@
-"""Random floats around the limits that 01 names."""
+"""Random floats around the limits that the rules name."""
 
 import math
 import struct
@@ -18,7 +18,7 @@ EXTREMES = [math.inf, -math.inf, NAN, LARGEST, -LARGEST, 1e300, 1e15]
 TINY = [5e-324, -5e-324, 2.2250738585072014e-308, 1e-310, 1e-300]
 SPECIAL = [0.0, -0.0, 1.0, -1.0, *CLAMPS, *ROUNDING, *EXTREMES, *TINY]
 
-# Other NaNs than 01's: outside the Rust's domain, but one NaN all the same.
+# NaNs of other bits than the one that is handed out: all are one.
 ODD_NANS = [
     struct.unpack("<d", struct.pack("<Q", bits))[0]
     for bits in (0x7FF8000000000001, 0xFFF8000000000000, 0x7FFFFFFFFFFFFFFF, 0x7FF0000000000001)

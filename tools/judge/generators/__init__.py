@@ -1,4 +1,4 @@
-"""Random cases around every limit of 01. A case comes from its seed, kind and index alone."""
+"""Random cases around every limit of the rules. A case comes from its seed, kind and index alone."""
 
 from collections.abc import Callable
 from random import Random

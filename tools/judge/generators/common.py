@@ -46,7 +46,7 @@ def to_the_limit(rng: Random, durations: list[int], over: int) -> list[int]:
 
 
 def with_odd_nan(rng: Random, case: Case) -> Case:
-    """One float of the input made a NaN that isn't 01's."""
+    """One float of the input made a NaN of other bits than the one that is handed out."""
     floats = [name for name, form in KINDS[case.kind].inputs if form in ("f64", "f64s")]
     names = [name for name in floats if name != "coefficients" and case[name] != []]
     if not names:

@@ -1,7 +1,7 @@
-"""A second reading: document 01's text as a plain program, whole numbers and IEEE doubles only.
+"""A second reading: the rules (docs/RULES.md) as a plain program, whole numbers and IEEE doubles only.
 
-`answer` gives what 01 says of a case: its refusal number, and the values if there is none.
-`at_exit` adds what 01 says of everything lent.
+`answer` gives what the rules say of a case: its refusal number, and the values if there is none.
+`at_exit` adds what they say of everything lent.
 """
 
 from ..formats import Case, Fields

@@ -1,4 +1,4 @@
-"""01, 'Durations': estimate, fit, speed, alignment."""
+"""RULES, Durations: estimate, fit, speed, alignment."""
 
 from dataclasses import dataclass
 

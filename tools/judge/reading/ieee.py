@@ -66,7 +66,7 @@ def total_from_first(numbers: list[float]) -> float:
 
 
 def one_nan(value: Any) -> Any:
-    """The same fields with every NaN handed out as 01's."""
+    """The same fields with every NaN as the one that is handed out."""
     if isinstance(value, float):
         return value if value == value else NAN
     if isinstance(value, list):

@@ -1,4 +1,4 @@
-"""01, 'Places and the job file': the job."""
+"""RULES, Job file: what the bytes say, and what a job comes to."""
 
 import struct
 from dataclasses import dataclass

@@ -1,4 +1,4 @@
-"""01, 'Pairs': with_ivar, a state's record, mul, mul_add_assign."""
+"""RULES, Pairs: with_ivar, a state's record, mul, mul_add_assign."""
 
 from ..formats import Case, Fields
 from . import ieee

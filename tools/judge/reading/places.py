@@ -1,4 +1,4 @@
-"""01, 'Places and the job file': the spool place and the excerpt of one state."""
+"""RULES, Places: the spool place and the excerpt of one state."""
 
 from ..formats import Case, Fields
 

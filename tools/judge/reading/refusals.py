@@ -1,4 +1,4 @@
-"""01, 'Refusal numbers': those that are known before the work starts."""
+"""RULES, Refusals: those that are known before the work starts."""
 
 import math
 from collections.abc import Callable

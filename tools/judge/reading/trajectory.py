@@ -1,4 +1,4 @@
-"""01, 'Mask and boundaries', 'Band rows and solving', 'Global variance'."""
+"""RULES, Mask, Band rows, Global variance."""
 
 from ..formats import Case, Fields
 from . import ieee, pairs

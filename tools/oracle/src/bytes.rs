@@ -50,7 +50,7 @@ impl<'a> Reader<'a> {
 #[derive(Default)]
 pub struct Writer {
     pub bytes: Vec<u8>,
-    /// NaNs as the machine made them, instead of 01's one.
+    /// NaNs as the machine made them, instead of the one that is handed out.
     pub raw_nans: bool,
 }
 
@@ -63,7 +63,7 @@ impl Writer {
         self.bytes.extend(number.to_le_bytes());
     }
 
-    /// All NaNs are one, with the bits that 01 gives.
+    /// All NaNs are one.
     pub fn f64(&mut self, number: f64) {
         let one_nan = number.is_nan() && !self.raw_nans;
         let bits = if one_nan { 0x7FF8_0000_0000_0000 } else { number.to_bits() };

@@ -10,7 +10,7 @@ use std::panic::{self, AssertUnwindSafe};
 
 use bytes::{Reader, Writer};
 
-/// A case that the caller says 01 refuses: it is passed over.
+/// A case that the caller says is refused: it is passed over.
 const REFUSED: u8 = 1;
 
 const ANSWERED: u8 = 0;
