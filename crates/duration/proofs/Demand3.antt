@@ -8,9 +8,9 @@ use native.Mathlib.Nat.{not-suc-le-zero, le-max-left, suc-mul}
 use native.Mathlib.Omega.{arith}
 use lib.Dec.{ltb, leb}
 use lib.IntN.{pos, negsuc}
-use lib.ListN.{length, getD, take, drop, length-take, length-drop}
+use lib.ListN.{length, getD, take, drop, replicate, length-take, length-drop, length-replicate}
 use lib.Ieee.{Float, eq, le}
-use borrow.Author.Tests.{le-ltb, lt-leb, ne-eqb, ltb-false}
+use borrow.Author.Tests.{le-ltb, le-leb, lt-leb, ne-eqb, ltb-false}
 use Rattle.lists.specs.Totals.{total, gap}
 use Rattle.lists.specs.Refusals.{orElse}
 use Rattle.lists.proofs.Numbers.{le-or-lt}
@@ -20,14 +20,14 @@ use Rattle.duration.specs.declared.Fitted.{Fitted}
 use Rattle.duration.specs.declared.Fitted.the-variants.{Done, Refused}
 use Rattle.duration.specs.declared.Aligned.{Aligned}
 use Rattle.duration.specs.declared.Aligned.the-variants.{Written, Denied}
-use Rattle.duration.specs.Estimate.{estimates}
-use Rattle.duration.specs.Steps.{Outcome, settle}
+use Rattle.duration.specs.Estimate.{shortest, estimates}
+use Rattle.duration.specs.Steps.{Outcome, unchanged, settle}
 use Rattle.duration.specs.Fit.{mostFrames, rhoOf, startOf, fitTo, refusalTo}
 use Rattle.duration.specs.Speed.{naturals, targetAt, fitAt, refusalAt}
 use Rattle.duration.specs.Align.{endIf, Group, closing, groups, within, targetOf, fitOf, fitAlong, refusalOf, refusalAlong}
 use Rattle.lists.specs.Answers.{Answer, answerOf}
 use Rattle.duration.specs.Promise.{fitted, aligned, refusalOfLists, refusalOfLabels, Says, FitSays, SpeedSays, AlignSays}
-use Rattle.duration.specs.Fitting.{distance, Under, Fair, FairAlong, Ample, Accepted, AcceptedAlong}
+use Rattle.duration.specs.Fitting.{distance, Under, Fair, FairGroup, FairAlong, Ample, Accepted, AcceptedAlong}
 use Rattle.duration.specs.Fitting.FairAlong.{ended, next}
 use Rattle.duration.proofs.Refusals.{lists-fit, cond-none, labelled}
 use Rattle.duration.proofs.Estimates.{length-estimates}
@@ -195,9 +195,23 @@ part-lengths a n ms vs e = length-take n (drop a vs) ∙ rw (length-drop a vs, e
 part-some : (a n : ℕ) (ms : List Float) → 0 < n → a < length ms → 0 < length (take n (drop a ms))
 part-some a n ms h k = rw (length-take n (drop a ms), length-drop a ms) (omega arith)
 
-group-fair : (ms vs : List Float) (g : Group) (frames : ℕ) → refusalOf ms vs g frames ≡ 0 → length (within g vs) ≡ length (within g ms) → 0 < length (within g ms) → length (within g ms) < targetOf g frames → Fair (within g ms) (within g vs) (targetOf g frames) (fitOf ms vs g frames)
+-- a target that is not above the count
+plain-fit : (ms vs : List Float) (t : ℕ) → 0 < length ms → t ≤ length ms → fitTo ms vs t ≡ unchanged (replicate (length ms) shortest)
+unfolding fitTo
+plain-fit ms vs t some h = rw (ne-eqb (length ms) 0 (λ q. omega arith), le-leb t (length ms) h)
+
+group-fair : (ms vs : List Float) (g : Group) (frames : ℕ) → refusalOf ms vs g frames ≡ 0 → length (within g vs) ≡ length (within g ms) → 0 < length (within g ms) → FairGroup ms vs g frames (fitOf ms vs g frames)
 unfolding refusalOf
-group-fair ms vs g frames r e z a = fair-fit (within g ms) (within g vs) (targetOf g frames) z e a (or-none (refusalTo (within g ms) (within g vs) (targetOf g frames)) _ r .0)
+group-fair ms vs g frames r e z =
+    let n : ℕ = length (within g ms) in
+    let t : ℕ = targetOf g frames in
+    let above : n < t → Fair (within g ms) (within g vs) t (fitOf ms vs g frames) = λ a. fair-fit (within g ms) (within g vs) t z e a (or-none (refusalTo (within g ms) (within g vs) t) _ r .0) in
+    let plain : t ≤ n → fitOf ms vs g frames ≡ unchanged (replicate n shortest) = plain-fit (within g ms) (within g vs) t z in
+    record {
+      count = ⊎-elim (λ (h : t ≤ n). ap (λ (o : Outcome). length (o .durations)) (plain h) ∙ length-replicate n shortest) (λ (h : n < t). above h .count) (le-or-lt t n);
+      above = above;
+      otherwise = plain;
+    }
 
 module _ (ms vs : List Float) (agree : length vs ≡ length ms) (k : ℕ) (some : 1 ≤ k) where
   along-fair : (done first frames : ℕ) (ends : List Float) → done ≤ first → first + length ends * k ≤ length ms → refusalAlong ms vs (groups k done first ends) frames ≡ 0

@@ -3,7 +3,7 @@ use mathlib.Core.Path.{_≡_}
 use mathlib.Core.Logic.{_⊎_}
 use mathlib.Core.List.{List, [], _∷_, _++_}
 use Prim.Native.Nat.{ℕ, _+_, _≤_, _<_}
-use lib.ListN.{length, getD, drop}
+use lib.ListN.{length, getD, drop, replicate}
 use lib.Ieee.{Float}
 use Rattle.lists.specs.Totals.{total, gap}
 use Rattle.duration.specs.declared.Fitted.{Fitted}
@@ -11,7 +11,7 @@ use Rattle.duration.specs.declared.Fitted.the-variants.{Done}
 use Rattle.duration.specs.declared.Aligned.{Aligned}
 use Rattle.duration.specs.declared.Aligned.the-variants.{Written}
 use Rattle.duration.specs.Estimate.{shortest}
-use Rattle.duration.specs.Steps.{Outcome, Settles}
+use Rattle.duration.specs.Steps.{Outcome, unchanged, Settles}
 use Rattle.duration.specs.Fit.{mostFrames, rhoOf, startOf}
 use Rattle.duration.specs.Align.{Group, within, targetOf}
 
@@ -36,11 +36,17 @@ pub record Fair (ms vs : List Float) (t : ℕ) (o : Outcome) : Type 0 where
   pub by-states : o .changes ≡ distance (startOf ms vs t) (o .durations)
   pub nearest : (es : List ℕ) → length es ≡ length ms → total es ≡ t → distance (startOf ms vs t) (o .durations) ≤ distance (startOf ms vs t) es
 
--- group after group, from the frames so far: where a group's target is above its count, its outcome is fair
+-- a group's outcome after so many frames: fair where its target is above its count, and else the shortest duration for each state and no change
+pub record FairGroup (ms vs : List Float) (g : Group) (frames : ℕ) (o : Outcome) : Type 0 where
+  pub count : length (o .durations) ≡ length (within g ms)
+  pub above : length (within g ms) < targetOf g frames → Fair (within g ms) (within g vs) (targetOf g frames) o
+  pub otherwise : targetOf g frames ≤ length (within g ms) → o ≡ unchanged (replicate (length (within g ms)) shortest)
+
+-- group after group, from the frames so far
 pub data FairAlong (ms vs : List Float) : List Group → ℕ → List ℕ → ℕ → Type 0 where
   ended : {frames : ℕ} → FairAlong ms vs [] frames [] 0
   next : {g : Group} {gs : List Group} {frames c k : ℕ} {ds es : List ℕ}
-      → (length (within g ms) < targetOf g frames → Fair (within g ms) (within g vs) (targetOf g frames) (record { durations = ds; changes = c }))
+      → FairGroup ms vs g frames (record { durations = ds; changes = c })
       → FairAlong ms vs gs (frames + total ds) es k
       → FairAlong ms vs (g ∷ gs) frames (ds ++ es) (c + k)
 
