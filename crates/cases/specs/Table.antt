@@ -9,7 +9,7 @@ use Rattle.duration.specs.declared.Aligned.the-variants.{Written}
 use Rattle.floats.specs.Numbers.{one, number}
 use Rattle.duration.specs.Fit.{startOf}
 use Rattle.duration.specs.Promise.{FitSays, SpeedSays, AlignSays}
-use Rattle.duration.proofs.Cases.{two-three, one-one, sevens, nines, cleared, half, unset}
+use Rattle.duration.specs.Inputs.{two-three, one-one, sevens, nines, cleared, half, unset}
 use Rattle.mlpg_adjust.specs.Trajectory.{recordSize, matrix, side}
 
 -- a float by its bits

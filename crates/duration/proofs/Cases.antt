@@ -1,10 +1,7 @@
 -- 01, "Table of proved cases", 1 to 9, by computation: calls with an output of sevens and a work space of nines. Assumes nothing.
 use mathlib.Core.Path.{_≡_, refl}
-use mathlib.Core.List.{List, [], _∷_}
-use mathlib.Core.Bool.{false}
-use Prim.Native.Nat.{ℕ}
-use lib.IntN.{negsuc}
-use lib.Ieee.{Float, fin, binary64, ofBits, ofInt, add, sub, mul, div, neg, lt, le, eq, isNan}
+use mathlib.Core.List.{[], _∷_}
+use lib.Ieee.{binary64, ofBits, ofInt, add, sub, mul, div, neg, lt, le, eq, isNan}
 use Rattle.lists.specs.Totals.{total}
 use Rattle.lists.specs.Build.{foldFrom}
 use Rattle.floats.specs.Rounding.{roundedOf}
@@ -18,29 +15,8 @@ use Rattle.duration.specs.Steps.{keyOf, keys, leastOf, step, settle}
 use Rattle.duration.specs.Fit.{startOf, fitTo, refusalTo}
 use Rattle.duration.specs.Speed.{naturals, targetAt, fitAt, refusalAt}
 use Rattle.duration.specs.Align.{groups, fitAlong, refusalOf, refusalAlong}
+use Rattle.duration.specs.Inputs.{two-three, one-one, sevens, nines, cleared, half, unset}
 use Rattle.duration.specs.Promise.{workOf, refusalOfLists, refusalOfLabels, FitSays, SpeedSays, AlignSays}
-
-abbrev pub two-three : List Float
-two-three = number 2 ∷ number 3 ∷ []
-
-abbrev pub one-one : List Float
-one-one = number 1 ∷ number 1 ∷ []
-
-abbrev pub sevens : List ℕ
-sevens = 7 ∷ 7 ∷ 7 ∷ []
-
-abbrev pub nines : List ℕ
-nines = 9 ∷ 9 ∷ 9 ∷ []
-
-abbrev pub cleared : List ℕ
-cleared = 0 ∷ 0 ∷ 9 ∷ []
-
--- n / 2, and an end that is open
-abbrev pub half : ℕ → Float
-half n = fin false n (negsuc 0)
-
-abbrev pub unset : Float
-unset = neg (number 1)
 
 pub case-1-start : startOf two-three one-one 8 ≡ 4 ∷ 5 ∷ []
 unfolding startOf estimates roundedOf sumOf foldFrom pairsOf ofBits ofInt add sub mul div

@@ -10,3 +10,5 @@ pub mod Align
 pub mod Promise
 pub mod Fitting
 pub mod Inner
+pub mod Inputs
+pub mod CallCases
