@@ -18,3 +18,5 @@ pub mod Alone
 pub mod Demand3
 pub mod Speeds
 pub mod Cases
+pub mod Roundings
+pub mod Uncapped

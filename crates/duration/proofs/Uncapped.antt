@@ -1,0 +1,237 @@
+-- `framesOf` says 65,537 for all that is above 65,536. That shows nowhere: each call promises the same with counts of frames that have no cap. Assumes nothing.
+use mathlib.Core.Path.{_≡_, refl, sym, ap, _∙_, subst}
+use mathlib.Core.Bool.{Bool, true, false, cond, _||_}
+use mathlib.Core.Logic.{⊎-elim, _↔_}
+use mathlib.Core.List.{List, [], _∷_}
+use Prim.Native.Nat.{ℕ, zero, suc, _+_, _≤_, _<_, min, max, zero-le}
+use native.Mathlib.Omega.{arith}
+use lib.Dec.{ltb, leb, eqb}
+use lib.IntN.{pos, negsuc}
+use lib.ListN.{length, replicate}
+use lib.Ieee.{Float, binary64, div, eq}
+use borrow.Author.Tests.{lt-ltb, le-ltb, ltb-false}
+use Rattle.lists.specs.Totals.{total}
+use Rattle.lists.specs.Refusals.{orElse}
+use Rattle.lists.specs.Answers.{Answer}
+use Rattle.lists.proofs.Numbers.{le-or-lt}
+use Rattle.lists.proofs.Refusals.{or-none}
+use Rattle.floats.specs.Rounding.{Integral, undefined, endless, whole, toIntegral, framesOf, roundedOf}
+use Rattle.floats.specs.Numbers.{nought, one, number}
+use Rattle.duration.specs.declared.Fitted.{Fitted}
+use Rattle.duration.specs.declared.Aligned.{Aligned}
+use Rattle.duration.specs.Estimate.{shortest, estimates}
+use Rattle.duration.specs.Steps.{Outcome, unchanged, settle}
+use Rattle.duration.specs.Fit.{mostFrames, rhoOf, startOf, fitTo, refusalTo}
+use Rattle.duration.specs.Speed.{naturals, targetAt, fitAt, refusalAt}
+use Rattle.duration.specs.Align.{Group, groups, within, targetOf, fitOf, fitAlong, refusalOf, refusalAlong}
+use Rattle.duration.specs.Promise.{fitted, aligned, refusalOfLists, refusalOfLabels, Says, FitSays, SpeedSays, AlignSays}
+use Rattle.duration.proofs.Roundings.{estimatesBy, startBy, fitToBy, refusalToBy, naturalsBy, targetAtBy, fitAtBy, refusalAtBy, targetOfBy, fitOfBy, fitAlongBy, refusalOfBy, refusalAlongBy, FitSaysBy, SpeedSaysBy, AlignSaysBy}
+
+-- ---- a number and its cap
+
+abbrev Caps : ℕ → ℕ → Type 0
+Caps s t = min 65537 s ≡ t
+
+caps-same : (s t : ℕ) → Caps s t → t ≤ mostFrames → s ≡ t
+caps-same s t c h = omega arith
+
+caps-over : (s t : ℕ) → Caps s t → mostFrames < t → mostFrames < s
+caps-over s t c h = omega arith
+
+data Capped : List ℕ → List ℕ → Type 0 where
+  nil : Capped [] []
+  cons : {s t : ℕ} {ss ts : List ℕ} → Caps s t → Capped ss ts → Capped (s ∷ ss) (t ∷ ts)
+
+capped-below : {ss ts : List ℕ} → Capped ss ts → total ts ≤ total ss
+unfolding total
+capped-below nil = zero-le
+capped-below (cons c p) = omega (arith, capped-below p)
+
+capped-same : {ss ts : List ℕ} → Capped ss ts → total ts ≤ mostFrames → ss ≡ ts
+unfolding total
+capped-same nil h = refl
+capped-same (cons {s = s} {t = t} c p) h =
+    let e : s ≡ t = caps-same s t c (omega arith) in
+    let f = capped-same p (omega arith) in
+    cc
+
+capped-over : {ss ts : List ℕ} → Capped ss ts → ltb mostFrames (total ss) ≡ ltb mostFrames (total ts)
+capped-over {ss} {ts} p = ⊎-elim
+    (λ (h : total ts ≤ mostFrames). ap (λ (l : List ℕ). ltb mostFrames (total l)) (capped-same p h))
+    (λ (h : mostFrames < total ts). lt-ltb mostFrames (total ss) (omega (arith, capped-below p)) ∙ sym (lt-ltb mostFrames (total ts) h))
+    (le-or-lt (total ts) mostFrames)
+
+-- ---- two ways to the same answer
+
+-- of two refusals and outcomes: the refusals are the same number, and where it is 0 the outcomes are the same
+pub record Alike (j k : ℕ) (o p : Outcome) : Type 0 where
+  pub refusal : j ≡ k
+  pub outcome : k ≡ 0 → o ≡ p
+
+back : {j k : ℕ} {o p : Outcome} → Alike j k o p → Alike k j p o
+back a = record { refusal = sym (a .refusal); outcome = λ e. sym (a .outcome (sym (a .refusal) ∙ e)) }
+
+module _ (values : Outcome → List ℕ) (n : ℕ) (out work : List ℕ) (a : Answer) (out′ work′ : List ℕ) where
+  -- a promise whose tests of the lists give b
+  abbrev Said : ℕ → ℕ → Outcome → Type 0
+  Said b k o = Says (orElse b k) (values o) (o .durations) n out work a out′ work′
+
+  said-same : (b k : ℕ) (o p : Outcome) → (k ≡ 0 → o ≡ p) → Said b k o → Said b k p
+  said-same (suc b) k o p e f = record { answer = f .answer; output = f .output; workspace = f .workspace }
+  said-same zero zero o p e f = subst (Said 0 0) (e refl) f
+  said-same zero (suc k) o p e f = record { answer = f .answer; output = f .output; workspace = f .workspace }
+
+  said-alike : (b : ℕ) {j k : ℕ} {o p : Outcome} → Alike j k o p → Said b j o → Said b k p
+  said-alike b {j} {k} {o} {p} l f = said-same b k o p (l .outcome) (subst (λ (m : ℕ). Said b m o) (l .refusal) f)
+
+  said-both : (b : ℕ) {j k : ℕ} {o p : Outcome} → Alike j k o p → Said b k p ↔ Said b j o
+  said-both b l = (said-alike b (back l), said-alike b l)
+
+-- ---- with a rounding whose cap is `roundedOf`
+
+-- a fit that is accepted has no state, a target not above the count, or a start that is not too long
+tests-same : (a b c d : Bool) (l o p : Outcome) → _≡_ {A = ℕ} (cond a 0 (cond b 7 (cond c 0 (cond d 8 0)))) 0 → (d ≡ false → o ≡ p) → cond (a || c) l o ≡ cond (a || c) l p
+tests-same true b c d l o p e f = refl
+tests-same false true c d l o p e f = absurd (omega arith)
+tests-same false false true d l o p e f = refl
+tests-same false false false true l o p e f = absurd (omega arith)
+tests-same false false false false l o p e f = f refl
+
+-- with a target that is too large a fit is accepted where there is no state
+tests-over : (a c d : Bool) (l o p : Outcome) → _≡_ {A = ℕ} (cond a 0 7) 0 → cond (a || c) l o ≡ cond (a || d) l p
+tests-over true c d l o p e = refl
+tests-over false c d l o p e = absurd (omega arith)
+
+or-same : (j k : ℕ) (x y : ℕ) → j ≡ k → (k ≡ 0 → x ≡ y) → orElse j x ≡ orElse k y
+or-same j zero x y e f = rw e (f refl)
+or-same j (suc k) x y e f = rw e
+
+module _ (rounding : Float → ℕ) (caps : (x : Float) → Caps (rounding x) (roundedOf x)) where
+  estimates-capped : (rho : Float) (ms vs : List Float) → Capped (estimatesBy rounding rho ms vs) (estimates rho ms vs)
+  unfolding estimates estimatesBy
+  estimates-capped rho [] vs = nil
+  estimates-capped rho (m ∷ ms) [] = nil
+  estimates-capped rho (m ∷ ms) (v ∷ vs) = cons (caps _) (estimates-capped rho ms vs)
+
+  start-capped : (ms vs : List Float) (t : ℕ) → Capped (startBy rounding ms vs t) (startOf ms vs t)
+  unfolding startBy startOf
+  start-capped ms vs t = estimates-capped (rhoOf ms vs t) ms vs
+
+  module _ (ms vs : List Float) where
+    same-target : (t : ℕ) → Alike (refusalToBy rounding ms vs t) (refusalTo ms vs t) (fitToBy rounding ms vs t) (fitTo ms vs t)
+    unfolding refusalToBy refusalTo fitToBy fitTo
+    same-target t =
+        let p = start-capped ms vs t in
+        record {
+          refusal = rw (capped-over p);
+          outcome = λ e. tests-same (eqb (length ms) 0) (ltb mostFrames t) (leb t (length ms)) (ltb mostFrames (total (startOf ms vs t))) (unchanged (replicate (length ms) shortest)) _ _ e
+              (λ h. ap (settle mostFrames (rhoOf ms vs t) ms vs t) (capped-same p (ltb-false mostFrames (total (startOf ms vs t)) h)));
+        }
+
+    -- of any target and its cap
+    fit-alike : (s t : ℕ) → Caps s t → Alike (refusalToBy rounding ms vs s) (refusalTo ms vs t) (fitToBy rounding ms vs s) (fitTo ms vs t)
+    unfolding refusalToBy refusalTo fitToBy fitTo
+    fit-alike s t c = ⊎-elim
+        (λ (h : t ≤ mostFrames). subst (λ (x : ℕ). Alike (refusalToBy rounding ms vs x) (refusalTo ms vs t) (fitToBy rounding ms vs x) (fitTo ms vs t)) (sym (caps-same s t c h)) (same-target t))
+        (λ (h : mostFrames < t).
+        let a : ltb mostFrames t ≡ true = lt-ltb mostFrames t h in
+        let b : ltb mostFrames s ≡ true = lt-ltb mostFrames s (caps-over s t c h) in
+        record {
+          refusal = rw (a, b);
+          outcome = λ e. tests-over (eqb (length ms) 0) (leb s (length ms)) (leb t (length ms)) (unchanged (replicate (length ms) shortest)) _ _ (rw a at e);
+        })
+        (le-or-lt t mostFrames)
+
+    -- at a speed
+    speed-alike : (speed : Float) → Alike (refusalAtBy rounding ms vs speed) (refusalAt ms vs speed) (fitAtBy rounding ms vs speed) (fitAt ms vs speed)
+    unfolding refusalAtBy refusalAt fitAtBy fitAt targetAtBy targetAt naturalsBy naturals
+    speed-alike speed =
+        let p = estimates-capped nought ms vs in
+        let N : List ℕ = naturals ms vs in
+        ⊎-elim
+        (λ (h : total N ≤ mostFrames).
+        let f = fit-alike (rounding (div binary64 (number (total N)) speed)) (targetAt ms vs speed) (caps _) in
+        rw (capped-same p h, le-ltb mostFrames (total N) h)
+        ((elim (eq speed one) as (λ s. Alike (cond s 0 (refusalToBy rounding ms vs (rounding (div binary64 (number (total N)) speed)))) (cond s 0 (refusalTo ms vs (targetAt ms vs speed))) (cond s (unchanged N) (fitToBy rounding ms vs (rounding (div binary64 (number (total N)) speed)))) (cond s (unchanged N) (fitTo ms vs (targetAt ms vs speed)))) [
+          | true ↦ record { refusal = refl; outcome = λ e. refl }
+          | false ↦ f
+        ])))
+        (λ (h : mostFrames < total N).
+        let a : ltb mostFrames (total N) ≡ true = lt-ltb mostFrames (total N) h in
+        let b : ltb mostFrames (total (naturalsBy rounding ms vs)) ≡ true = capped-over p ∙ a in
+        record { refusal = rw (a, b); outcome = λ e. absurd (let z : _≡_ {A = ℕ} 8 0 = rw a at e in omega arith) })
+        (le-or-lt (total N) mostFrames)
+
+  -- of a group, and of an alignment
+  module _ (ms vs : List Float) where
+    group-alike : (g : Group) (frames : ℕ) → Alike (refusalOfBy rounding ms vs g frames) (refusalOf ms vs g frames) (fitOfBy rounding ms vs g frames) (fitOf ms vs g frames)
+    unfolding refusalOfBy refusalOf
+    group-alike g frames =
+        let f = fit-alike (within g ms) (within g vs) (targetOfBy rounding g frames) (targetOf g frames) (caps _) in
+        record {
+          refusal = or-same (refusalToBy rounding (within g ms) (within g vs) (targetOfBy rounding g frames)) (refusalTo (within g ms) (within g vs) (targetOf g frames)) _ _ (f .refusal) (λ e. ap (λ (o : Outcome). cond (ltb mostFrames (frames + total (o .durations))) 8 0) (f .outcome e));
+          outcome = λ e. f .outcome (or-none (refusalTo (within g ms) (within g vs) (targetOf g frames)) _ e .0);
+        }
+
+    along-alike : (gs : List Group) (frames : ℕ) → Alike (refusalAlongBy rounding ms vs gs frames) (refusalAlong ms vs gs frames) (fitAlongBy rounding ms vs gs frames) (fitAlong ms vs gs frames)
+    unfolding refusalAlongBy refusalAlong fitAlongBy fitAlong
+    along-alike [] frames = record { refusal = refl; outcome = λ e. refl }
+    along-alike (g ∷ gs) frames =
+        let f = group-alike g frames in
+        let later = along-alike gs (frames + total (fitOf ms vs g frames .durations)) in
+        record {
+          refusal = or-same (refusalOfBy rounding ms vs g frames) (refusalOf ms vs g frames) _ _ (f .refusal) (λ e. ap (λ (o : Outcome). refusalAlongBy rounding ms vs gs (frames + total (o .durations))) (f .outcome e) ∙ later .refusal);
+          outcome = λ e. (let z = or-none (refusalOf ms vs g frames) _ e in rw (f .outcome (z .0), later .outcome (z .1)));
+        }
+
+-- ---- the count of frames with no cap
+
+-- rounded, at least 1; NaN gives 1, minus infinity too, and plus infinity `big`
+abbrev pub uncapped : ℕ → Integral → ℕ
+uncapped big undefined = 1
+uncapped big (endless s) = cond s 1 big
+uncapped big (whole (pos n)) = max 1 n
+uncapped big (whole (negsuc n)) = 1
+
+-- `framesOf` caps it
+pub uncapped-caps : (big : ℕ) → mostFrames < big → (i : Integral) → min 65537 (uncapped big i) ≡ framesOf i
+unfolding framesOf
+uncapped-caps big h undefined = refl
+uncapped-caps big h (endless true) = refl
+uncapped-caps big h (endless false) = omega arith
+uncapped-caps big h (whole (pos n)) = omega arith
+uncapped-caps big h (whole (negsuc n)) = refl
+
+unfoldable pub counted : ℕ → Float → ℕ
+counted big x = uncapped big (toIntegral x)
+
+-- Whatever number above 65,536 stands for plus infinity: the promise with the cap and the one without it hold of the same outcomes.
+module _ (big : ℕ) (above : mostFrames < big) where
+  counted-caps : (x : Float) → Caps (counted big x) (roundedOf x)
+  unfolding counted roundedOf
+  counted-caps x = uncapped-caps big above (toIntegral x)
+
+  -- what is not too large is the same number
+  pub target-uncapped : (x : Float) → roundedOf x ≤ mostFrames → counted big x ≡ roundedOf x
+  target-uncapped x h = caps-same (counted big x) (roundedOf x) (counted-caps x) h
+
+  pub start-uncapped : (ms vs : List Float) (t : ℕ) → total (startOf ms vs t) ≤ mostFrames → startBy (counted big) ms vs t ≡ startOf ms vs t
+  start-uncapped ms vs t h = capped-same (start-capped (counted big) counted-caps ms vs t) h
+
+  module _ (ms vs : List Float) (x : Float) (out work : List ℕ) (r : Fitted) (out′ work′ : List ℕ) where
+    abbrev Told : ℕ → Outcome → Type 0
+    Told = Said (λ o. o .changes ∷ []) (length ms) out work (fitted r) out′ work′ (refusalOfLists (length ms) (length vs) (length out) (length work))
+
+    told-both : {j k : ℕ} {o p : Outcome} → Alike j k o p → Told k p ↔ Told j o
+    told-both = said-both (λ o. o .changes ∷ []) (length ms) out work (fitted r) out′ work′ (refusalOfLists (length ms) (length vs) (length out) (length work))
+
+    pub fit-uncapped : FitSays ms vs x out work r out′ work′ ↔ FitSaysBy (counted big) ms vs x out work r out′ work′
+    fit-uncapped = told-both (fit-alike (counted big) counted-caps ms vs (counted big x) (roundedOf x) (counted-caps x))
+
+    pub speed-uncapped : SpeedSays ms vs x out work r out′ work′ ↔ SpeedSaysBy (counted big) ms vs x out work r out′ work′
+    speed-uncapped = told-both (speed-alike (counted big) counted-caps ms vs x)
+
+  pub align-uncapped : (ms vs : List Float) (nstate : ℕ) (ends : List Float) (out work : List ℕ) (r : Aligned) (out′ work′ : List ℕ) → AlignSays ms vs nstate ends out work r out′ work′ ↔ AlignSaysBy (counted big) ms vs nstate ends out work r out′ work′
+  align-uncapped ms vs nstate ends out work r out′ work′ =
+      said-both (λ o. length (o .durations) ∷ o .changes ∷ []) (length ms) out work (aligned r) out′ work′ (refusalOfLabels nstate (length ends) (length ms) (length vs) (length out) (length work))
+      (along-alike (counted big) counted-caps ms vs (groups nstate 0 0 ends) 0)
