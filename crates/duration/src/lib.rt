@@ -70,16 +70,16 @@ fn refusal_of_labels(
     refusal_of_lists(states, varis, out, work)
 }
 
-// Hands out the n durations at the front of work, unless they are refused, and clears it.
-fn hand_out(answer: Fitted, n: usize, out: &mut [u32], work: &mut [u32]) -> Fitted
-    ensures { λ r. ⌜ HandsOut answer n (now (out .entry)) (now (work .entry)) r (now (out .exit)) (now (work .exit)) ⌝ }
+// Hands out the durations of count states at the front of work, unless they are refused, and clears it.
+fn hand_out(answer: Fitted, count: usize, out: &mut [u32], work: &mut [u32]) -> Fitted
+    ensures { λ r. ⌜ HandsOut answer count (now (out .entry)) (now (work .entry)) r (now (out .exit)) (now (work .exit)) ⌝ }
 {
     let Fitted::Done(_) = answer else {
-        lists::fill_u32(work, n, 0);
+        lists::fill_u32(work, count, 0);
         return answer;
     };
-    lists::copy_u32(work, n, out);
-    lists::fill_u32(work, n, 0);
+    lists::copy_u32(work, count, out);
+    lists::fill_u32(work, count, 0);
     answer
 }
 

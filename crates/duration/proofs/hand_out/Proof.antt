@@ -18,7 +18,7 @@ same-length : tie.Need-same-length
 same-length c = search needs
 
 returns : tie.Need-returns
-returns c = search needs
+returns c = record { same = refl; output = search needs; workspace = c .before .before .fill-u32 .ensures }
 
 copy-u32-requires : tie.Need-copy-u32-requires
 copy-u32-requires c κs = search needs
