@@ -1,4 +1,4 @@
--- 01's table of proved cases. Each case was computed where its definitions are. Assumes nothing.
+-- The table of ten cases. Each was computed where its definitions are. Assumes nothing.
 use Rattle.cases.specs.Table.{Table}
 use Rattle.duration.proofs.Cases as fits
 use Rattle.mlpg_adjust.specs.TrajectoryCases as rows

@@ -1,2 +1,2 @@
--- 01's table.
+-- The table of ten cases.
 pub mod Table

@@ -1,4 +1,4 @@
--- 01, "Table of proved cases": one statement. The calls of 1 to 9 are made with an output of sevens and a work space of nines, so that what they leave is said too.
+-- RULES, Cases: the table of ten cases as one statement. The calls of 1 to 9 are made with an output of sevens and a work space of nines, so that what they leave is said too.
 use mathlib.Core.Path.{_≡_}
 use mathlib.Core.Bool.{false}
 use mathlib.Core.List.{List, [], _∷_, map}

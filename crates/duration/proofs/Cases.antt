@@ -1,4 +1,4 @@
--- 01, "Table of proved cases", 1 to 9, by computation: calls with an output of sevens and a work space of nines. Assumes nothing.
+-- RULES, Cases: 1 to 9 of the table by computation, calls with an output of sevens and a work space of nines. Assumes nothing.
 use mathlib.Core.Path.{_≡_, refl}
 use mathlib.Core.List.{[], _∷_}
 use lib.Ieee.{binary64, ofBits, ofInt, add, sub, mul, div, neg, lt, le, eq, isNan}
@@ -63,7 +63,7 @@ pub case-7-two : SpeedSays two-three one-one (number 2) sevens nines (Done 0) (1
 unfolding workOf refusalOfLists refusalAt fitAt targetAt naturals eq refusalTo fitTo settle step keys keyOf leastOf costBelow absOf total startOf estimates roundedOf sumOf foldFrom pairsOf ofBits ofInt add sub mul div lt isNan
 case-7-two = record { answer = refl; output = refl; workspace = refl }
 
--- the job of 01, "Places and the job file"
+-- RULES, Job file: the worked job
 pub case-job : SpeedSays two-three one-one (half 1) sevens nines (Done 1) (4 ∷ 6 ∷ 7 ∷ []) cleared
 unfolding workOf refusalOfLists refusalAt fitAt targetAt naturals eq refusalTo fitTo settle step keys keyOf leastOf costBelow absOf total startOf estimates roundedOf sumOf foldFrom pairsOf ofBits ofInt add sub mul div lt isNan
 case-job = record { answer = refl; output = refl; workspace = refl }

@@ -15,7 +15,7 @@ use Rattle.duration.specs.Steps.{Outcome, unchanged}
 use Rattle.duration.specs.Fit.{mostFrames, fitTo, refusalTo}
 use Rattle.lists.specs.Refusals.{orElse}
 
--- 01, Durations: "each label's end is a time in frames or open. Ends below zero and NaN are open; -0 is given."
+-- RULES, Durations: an end at or above 0, -0 too, is a time in frames; one below 0, and NaN, is open
 abbrev pub endIf : Bool → Float → End
 endIf true x = At x
 endIf false x = Open
@@ -24,7 +24,7 @@ endIf false x = Open
 abbrev pub endOf : Float → End
 endOf x = endIf (le nought x) x
 
--- 01, Some places: "A label record by value, made from the lent list of numbers, holds the end as an enum beside the label's first state"
+-- RULES, Forms: a label is a record by value, made from a lent number: its first state, and its end as an enum
 abbrev pub labelOf : ℕ → Float → Label
 labelOf first x = record { first = first; end = endOf x }
 
@@ -34,7 +34,7 @@ pub record Group : Type 0 where
   pub to : ℕ
   pub end : Float
 
--- 01, Durations: "A label with an end closes a group of all states since the last closed one"; `rest` are the groups after it
+-- RULES, Durations: a label with an end closes all states that no label before it has closed; `rest` are the groups after it
 abbrev pub closing : ℕ → ℕ → End → (ℕ → List Group) → List Group
 closing done next (At x) rest = record { from = done; to = next; end = x } ∷ rest next
 closing done next Open rest = rest done
@@ -48,7 +48,7 @@ groups k done first (x ∷ xs) = closing done (labelOf first x .first + k) (labe
 abbrev pub within : Group → List Float → List Float
 within g xs = take (g .to - g .from) (drop (g .from) xs)
 
--- 01, Durations: "the group is fitted to end − frames so far"
+-- RULES, Durations: a group's target is its end less the frames before it, rounded
 abbrev pub targetOf : Group → ℕ → ℕ
 targetOf g frames = roundedOf (sub binary64 (g .end) (number frames))
 
@@ -56,11 +56,11 @@ targetOf g frames = roundedOf (sub binary64 (g .end) (number frames))
 abbrev pub fitOf : List Float → List Float → Group → ℕ → Outcome
 fitOf ms vs g frames = fitTo (within g ms) (within g vs) (targetOf g frames)
 
--- 01, Durations: "States after the last given end receive no durations"
+-- RULES, Durations: states that no end closes get no durations
 abbrev pub tail : Outcome
 tail = unchanged []
 
--- group after group, from the frames so far: the durations written, and "the groups' changes summed"
+-- group after group, from the frames so far: the durations written, and the changes of all groups
 unfoldable pub fitAlong : List Float → List Float → List Group → ℕ → Outcome
 fitAlong ms vs [] frames = tail
 fitAlong ms vs (g ∷ gs) frames =
@@ -68,7 +68,7 @@ fitAlong ms vs (g ∷ gs) frames =
     let later = fitAlong ms vs gs (frames + total (o .durations)) in
     record { durations = o .durations ++ later .durations; changes = o .changes + later .changes }
 
--- 01, refusal numbers: 8, "or an alignment's running total"; "by label target, estimate, running total"
+-- RULES, Refusals: of a group its target is tested first (7), then its start (8), then the total with the groups before it (8)
 unfoldable pub refusalOf : List Float → List Float → Group → ℕ → ℕ
 refusalOf ms vs g frames =
     orElse (refusalTo (within g ms) (within g vs) (targetOf g frames))

@@ -11,19 +11,19 @@ use Rattle.floats.specs.Numbers.{number}
 use Rattle.duration.specs.Estimate.{shortest, estimates}
 use Rattle.duration.specs.Steps.{Outcome, unchanged, settle}
 
--- 01, Sizes: "0 to 65,536 frames in an utterance"
+-- RULES, Sizes: an utterance has at most 65,536 frames
 abbrev pub mostFrames : ℕ
 mostFrames = 65536
 
--- 01, Durations: "rho = (T − summed means) / summed variances, sums from zero left to right"
+-- RULES, Durations: rho is the target less the sum of the means, over the sum of the variances; each sum runs from zero, left to right
 abbrev pub rhoOf : List Float → List Float → ℕ → Float
 rhoOf ms vs t = div binary64 (sub binary64 (number t) (sumOf ms vs .0)) (sumOf ms vs .1)
 
--- 01, Durations: "the estimate with rho is the start"
+-- RULES, Durations: a fit starts from the estimate with rho
 unfoldable pub startOf : List Float → List Float → ℕ → List ℕ
 startOf ms vs t = estimates (rhoOf ms vs t) ms vs
 
--- 01, Durations: "an empty list answers empty with 0 changes, whatever the length"; "If T ≤ count, all ones and 0 changes"
+-- RULES, Durations: with no state, or a target not above their number, each state gets one frame and nothing is changed
 abbrev pub plain : ℕ → ℕ → Bool
 plain n t = eqb n 0 || leb t n
 
@@ -31,7 +31,7 @@ plain n t = eqb n 0 || leb t n
 unfoldable pub fitTo : List Float → List Float → ℕ → Outcome
 fitTo ms vs t = cond (plain (length ms) t) (unchanged (replicate (length ms) shortest)) (settle mostFrames (rhoOf ms vs t) ms vs t (startOf ms vs t))
 
--- 01, refusal numbers: 7, "a rounded target above 65,536 (state list not empty)", and 8, "an estimate's total above 65,536", in the work order
+-- RULES, Refusals: where there are states, 7 for a target above 65,536 frames, then 8 for a start above them
 unfoldable pub refusalTo : List Float → List Float → ℕ → ℕ
 refusalTo ms vs t =
     cond (eqb (length ms) 0) 0

@@ -27,7 +27,7 @@ abbrev pub aligned : Aligned → Answer
 aligned (Written count changes) = record { number = 0; values = count ∷ changes ∷ [] }
 aligned (Denied number) = record { number = number; values = [] }
 
--- 01, Refusal numbers: an accepted call "zeros the work space it is entitled to (the same part that 7 and 8 zero)"; the others leave it untouched
+-- RULES, Refusals: an accepted call, 7 and 8 zero the call's part of the work space; any other refusal leaves it as it was
 abbrev pub clears : ℕ → Bool
 clears k = eqb k 0 || (eqb k 7 || eqb k 8)
 
@@ -35,7 +35,7 @@ clears k = eqb k 0 || (eqb k 7 || eqb k 8)
 unfoldable pub workOf : ℕ → ℕ → List ℕ → List ℕ
 workOf k n work = cond (clears k) (replicate n 0 ++ drop n work) work
 
--- 01, Refusal numbers, 3, 4 and 6: of n states and v variances, with room for o and w numbers
+-- RULES, Refusals: 3, 4 and 6, of n states and v variances, with room for o and w numbers
 unfoldable pub refusalOfLists : ℕ → ℕ → ℕ → ℕ → ℕ
 refusalOfLists n v o w = cond (ltb 4096 n) 3 (cond (not (eqb v n)) 4 (cond (ltb o n) 6 (cond (ltb w n) 6 0)))
 

@@ -9,7 +9,7 @@ use Rattle.duration.specs.declared.costs.Entry.{Entry}
 use Rattle.duration.specs.Steps.{Key, keyOf}
 use Rattle.duration.specs.Steps.Key.{Fixed, Cost}
 
--- 01, Sizes: "0 to 4,096 states"
+-- RULES, Sizes: a list has at most 4,096 states
 abbrev pub mostStates : ℕ
 mostStates = 4096
 
@@ -22,7 +22,7 @@ rank (Cost x) = toBits binary64 x
 unfoldable pub keyAt : Bool → Float → List Float → List Float → List ℕ → ℕ → ℕ
 keyAt w rho ms vs ds p = rank (keyOf w rho (getD ms p nan) (getD vs p nan) (getD ds p 0))
 
--- 01, Durations: "Equal costs take the first state": the key decides, and where keys are equal the place
+-- RULES, Durations: of equal costs the first state is taken: the key decides, and where keys are equal the place
 abbrev pub score : ℕ → ℕ → ℕ
 score key place = key * mostStates + place
 

@@ -11,18 +11,18 @@ use Rattle.duration.specs.Estimate.{estimates}
 use Rattle.duration.specs.Steps.{Outcome, unchanged}
 use Rattle.duration.specs.Fit.{mostFrames, fitTo, refusalTo}
 
--- 01, Durations: "the estimate with rho 0"
+-- RULES, Durations: a speed's first estimate has rho 0
 unfoldable pub naturals : List Float → List Float → List ℕ
 naturals ms vs = estimates nought ms vs
 
--- 01, Durations: "its total / speed", as a fit's target
+-- RULES, Durations: the frames of that estimate over the speed, rounded as a length is
 unfoldable pub targetAt : List Float → List Float → Float → ℕ
 targetAt ms vs speed = roundedOf (div binary64 (number (total (naturals ms vs))) speed)
 
--- 01, Durations: "the estimate with rho 0 and 0 changes; if speed is not 1.0, fit to its total / speed"
+-- RULES, Durations: at speed 1 that estimate stands, with 0 changes; at any other speed the states are fitted to the target
 unfoldable pub fitAt : List Float → List Float → Float → Outcome
 fitAt ms vs speed = cond (eq speed one) (unchanged (naturals ms vs)) (fitTo ms vs (targetAt ms vs speed))
 
--- 01, Durations: "Refusals 7 and 8 apply to both"; refusal numbers: "a speed's first estimate, then by label target, estimate"
+-- RULES, Refusals: 8 for a first estimate above 65,536 frames, then the refusals of the fit
 unfoldable pub refusalAt : List Float → List Float → Float → ℕ
 refusalAt ms vs speed = cond (ltb mostFrames (total (naturals ms vs))) 8 (cond (eq speed one) 0 (refusalTo ms vs (targetAt ms vs speed)))

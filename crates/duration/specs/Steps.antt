@@ -11,11 +11,11 @@ use Rattle.floats.specs.Order.{absOf, costBelow}
 use Rattle.floats.specs.Numbers.{number}
 use Rattle.duration.specs.Estimate.{shortest}
 
--- 01, Durations: "Cost is the absolute value of rho − (d − mean)/variance."
+-- RULES, Durations: a state's cost at d frames is how far (d - mean) / variance is from rho
 abbrev pub costOf : Float → Float → Float → ℕ → Float
 costOf rho m v d = absOf (sub binary64 rho (div binary64 (sub binary64 (number d) m) v))
 
--- 01, Durations: "add 1" (true) and "take 1" (false)
+-- RULES, Durations: a step gives a state one frame (true) or takes one (false)
 abbrev pub moved : Bool → ℕ → ℕ
 moved true d = d + 1
 moved false d = d - 1
@@ -25,7 +25,7 @@ pub data Key : Type 0 where
   Fixed : Key
   Cost : Float → Key
 
--- 01, Durations: "cost at its duration + 1", and of a "state above 1" the "cost at duration − 1"; a state of 1 is fixed
+-- RULES, Durations: a step costs what its state costs after it; a state of one frame has no step down, and is fixed
 unfoldable pub keyOf : Bool → Float → Float → Float → ℕ → Key
 keyOf true rho m v d = Cost (costOf rho m v (d + 1))
 keyOf false rho m v d = cond (ltb shortest d) (Cost (costOf rho m v (d - 1))) Fixed
@@ -37,13 +37,13 @@ keys w rho (m ∷ ms) [] ds = []
 keys w rho (m ∷ ms) (v ∷ vs) [] = []
 keys w rho (m ∷ ms) (v ∷ vs) (d ∷ ds) = keyOf w rho m v d ∷ keys w rho ms vs ds
 
--- 01, Durations: "All NaN costs are equal and come after infinity"; a fixed state comes after all costs
+-- RULES, Durations: NaN costs are all equal, and more than infinity; a fixed state comes after all costs
 abbrev pub sooner : Key → Key → Bool
 sooner Fixed b = false
 sooner (Cost x) Fixed = true
 sooner (Cost x) (Cost y) = costBelow x y
 
--- 01, Durations: "Equal costs take the first state": the first key, unless the first least of the others is sooner
+-- RULES, Durations: of equal costs the first state is taken: the first key, unless the first least of the others is sooner
 unfoldable pub leastOf : List Key → ℕ
 leastOf [] = 0
 leastOf (x ∷ xs) = let i = leastOf xs in cond (sooner (getD xs i Fixed) x) (suc i) 0
@@ -52,8 +52,8 @@ leastOf (x ∷ xs) = let i = leastOf xs in cond (sooner (getD xs i Fixed) x) (su
 unfoldable pub step : Bool → Float → List Float → List Float → List ℕ → List ℕ
 step w rho ms vs ds = let i = leastOf (keys w rho ms vs ds) in set ds i (moved w (getD ds i 0))
 
--- 01, Durations: "while the total is below T, add 1 to the state whose cost at its duration + 1 is least; while above T, take 1 from the state
--- above 1 whose cost at duration − 1 is least": from the durations ds the rule ends at es, after k steps
+-- RULES, Durations: as long as the total is below the target, the state whose step up costs least takes it; as long as it is above, the state whose step
+-- down costs least, of those that have one: from the durations ds the rule ends at es, after k steps
 pub data Settles (rho : Float) (ms vs : List Float) (t : ℕ) : List ℕ → List ℕ → ℕ → Type 0 where
   there : {ds : List ℕ} → total ds ≡ t → Settles rho ms vs t ds ds 0
   below : {ds es : List ℕ} {k : ℕ} → total ds < t → Settles rho ms vs t (step true rho ms vs ds) es k → Settles rho ms vs t ds es (suc k)
