@@ -4,6 +4,7 @@ ghost use Prim.Native.Nat.{_^_, min, max};
 ghost use lib.ListN.{take, drop, replicate};
 ghost use lib.Seq.{sets};
 ghost use Rattle.lists.specs.Totals.{total};
+ghost use Rattle.lists.specs.Parts.{PartSays};
 ghost use Rattle.lists.specs.Bytes.{little, bytesOf, startsWith};
 
 // The first n numbers become v.
@@ -90,7 +91,7 @@ pub fn total_u32(s: &[u32]) -> u64
 
 // As many as count floats from a place on, as far as there are any: a part of the lent list itself.
 pub fn part_f64<'a>(s: &'a [f64], from: usize, count: usize) -> &'a [f64]
-    ensures { λ r. ⌜ now r ≡ take count (drop from (now (s .entry))) ⌝ }
+    ensures { λ r. ⌜ PartSays 8 (s .entry) from count r ⌝ }
 {
     let n = s.len();
     if n <= from {

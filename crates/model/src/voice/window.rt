@@ -2,7 +2,8 @@
 // A set has four windows at most, so the answers on one window look at the first four widths.
 ghost use mathlib.Core.Path.{_≡_};
 ghost use lib.ListN.{take};
-ghost use Rattle.model.specs.Windows.{between, allOf, finite, widthsFit, allFinite, windowRefusal, longest, maxWidth, bandWidth, leftWidth, rightWidth, widthOf, startOf, windowOf};
+ghost use Rattle.lists.specs.Parts.{PartSays};
+ghost use Rattle.model.specs.Windows.{between, allOf, finite, widthsFit, allFinite, windowRefusal, longest, maxWidth, bandWidth, leftWidth, rightWidth, widthOf, startOf};
 
 // Why a set is refused, and 0 where it isn't.
 pub fn refusal(widths: &[u32], coefficients: &[f64]) -> u8
@@ -140,7 +141,7 @@ pub fn start(widths: &[u32], i: usize) -> usize
 
 // Window i's coefficients: a part of the lent list itself, empty where there is no such window.
 pub fn coefficients_of<'a>(widths: &[u32], coefficients: &'a [f64], i: usize) -> &'a [f64]
-    ensures { λ r. ⌜ now r ≡ windowOf (take 4 (now (widths .entry))) (now (coefficients .entry)) i ⌝ }
+    ensures { λ r. ⌜ PartSays 8 (coefficients .entry) (startOf (take 4 (now (widths .entry))) i) (widthOf (take 4 (now (widths .entry))) i) r ⌝ }
 {
     lists::part_f64(coefficients, start(widths, i), width(widths, i))
 }

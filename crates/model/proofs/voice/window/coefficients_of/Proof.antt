@@ -1,6 +1,5 @@
 -- `model::voice::window::coefficients_of` meets its contract. Assumes nothing.
 use borrow.Author.Needs.{needs}
-use mathlib.Core.Path.{_∙_}
 use Rattle.model.proofs.voice.window.coefficients_of.Statement.{statement}
 use Rattle.model.proofs.voice.window.coefficients_of.Tie as tie
 
@@ -14,7 +13,7 @@ part-f64-requires : tie.Need-part-f64-requires
 part-f64-requires c κs = search needs
 
 returns : tie.Need-returns
-returns c = c .part-f64 .ensures ∙ rw (c .before .width .ensures, c .before .before .start .ensures)
+returns c = rw (c .before .width .ensures, c .before .before .start .ensures) at (c .part-f64 .ensures)
 
 pub coefficients-of-spec : {M : Type 1} → statement M
 coefficients-of-spec = tie.close (tie.spec start-requires width-requires part-f64-requires returns)
