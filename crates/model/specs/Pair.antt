@@ -1,7 +1,9 @@
 -- 01, Pairs: "`MeanVari` is a mean and a variance, passed and returned whole".
+use mathlib.Core.Path.{_≡_, refl}
 use mathlib.Core.List.{List, [], _∷_}
-use mathlib.Core.Bool.{cond}
-use lib.Ieee.{Float, binary64, ofBits, add, mul, div, lt}
+use mathlib.Core.Bool.{false, cond}
+use Prim.Native.Nat.{_^_}
+use lib.Ieee.{Float, binary64, ofBits, round, add, mul, div, lt}
 use Rattle.lists.specs.Build.{foldFrom}
 use Rattle.floats.specs.Numbers.{nought, one}
 use Rattle.floats.specs.Order.{absOf}
@@ -11,17 +13,28 @@ use Rattle.model.specs.declared.mean_vari.MeanVari.{MeanVari}
 abbrev pub pair : Float → Float → MeanVari
 pair m v = record { 0 = m; 1 = v }
 
--- the format's nearest to 1e19
+-- 1e19, 1e-19 and 1e38 as floats
 abbrev pub highBound : Float
 highBound = ofBits binary64 0x43e1_58e4_6091_3d00
 
--- the format's nearest to 1e-19
 abbrev pub lowBound : Float
 lowBound = ofBits binary64 0x3bfd_83c9_4fb6_d2ac
 
--- the format's nearest to 1e38
 abbrev pub largestIvar : Float
 largestIvar = ofBits binary64 0x47d2_ced3_2a16_a1b1
+
+-- each is the format's nearest to the decimal number, by computation
+pub high-bound : highBound ≡ round binary64 false (10 ^ 19) 1
+unfolding ofBits round
+high-bound = refl
+
+pub low-bound : lowBound ≡ round binary64 false 1 (10 ^ 19)
+unfolding ofBits round
+low-bound = refl
+
+pub largest-ivar : largestIvar ≡ round binary64 false (10 ^ 38) 1
+unfolding ofBits round
+largest-ivar = refl
 
 -- 01, Pairs: "variance above 1e19 in absolute value gives 0; below 1e-19 gives 1e38; both bounds exclusive; else 1/variance"
 unfoldable pub ivarOf : Float → Float
