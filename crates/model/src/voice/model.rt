@@ -56,7 +56,7 @@ pub fn parameter(lin: &[f64], number: usize) -> Found
     if number < pairs {
         let mean = lin[number];
         let vari = lin[pairs + number];
-        return Found::At(MeanVari(mean, vari));
+        return Found::At(MeanVari::new(mean, vari));
     }
     Found::Missing
 }

@@ -20,8 +20,11 @@ mul-vari c = search needs
 shared-slice-read-vari : tie.Need-shared-slice-read-vari
 shared-slice-read-vari c = search needs
 
+new-requires : tie.Need-new-requires
+new-requires c κs = search needs
+
 returns : tie.Need-returns
-returns c = sym (pair-found _ _ (c .before .before .if1 .taken))
+returns c = rw (c .new .ensures) (sym (pair-found _ _ (c .before .before .before .if1 .taken)))
 
 returns-2 : tie.Need-returns-2
 returns-2 c = sym (pair-missing _ _ (c .if1 .left))
@@ -35,5 +38,6 @@ parameter-spec =
     add-vari
     mul-vari
     shared-slice-read-vari
+    new-requires
     returns
     returns-2)
