@@ -162,6 +162,16 @@ pub fn sqrt(x: f64) -> f64
     finite_root(bits)
 }
 
+// x, as it is stored in a lent list: every NaN has the bits 0x7FF8000000000000, which are what the division gives.
+pub fn one_nan(x: f64) -> f64
+    ensures { λ r. ⌜ r ≡ x ⌝ }
+{
+    if x != x {
+        return 0.0 / 0.0;
+    }
+    x
+}
+
 // The bit pattern of x, with one pattern for every NaN.
 pub fn bits_of(x: f64) -> u64
     ensures { λ r. ⌜ r ≡ toBits binary64 x ⌝ }

@@ -80,7 +80,7 @@ pub fn mul(lin: &[f64], weight: f64, out: &mut [f64]) -> Written
     }
     let mut i = 0;
     while i < lin.len() {
-        out[i] = lin[i] * weight;
+        out[i] = floats::one_nan(lin[i] * weight);
         i += 1;
     }
     Written::Done
@@ -107,7 +107,7 @@ fn add_scaled(lhs: &mut [f64], weight: f64, rhs: &[f64])
     let end = lists::least(lhs.len(), rhs.len());
     let mut i = 0;
     while i < end {
-        lhs[i] = lhs[i] + weight * rhs[i];
+        lhs[i] = floats::one_nan(lhs[i] + weight * rhs[i]);
         i += 1;
     }
 }

@@ -23,20 +23,23 @@ least-requires c κs = search needs
 loop-holds : tie.Need-loop-holds Inv-loop μ-loop
 loop-holds c = (omega arith, refl, refl)
 
+mul-one-nan : tie.Need-mul-one-nan Inv-loop μ-loop
+mul-one-nan c = search needs
+
+slice-read-one-nan : tie.Need-slice-read-one-nan Inv-loop μ-loop
+slice-read-one-nan c = search needs
+
+mul-one-nan-2 : tie.Need-mul-one-nan-2 Inv-loop μ-loop
+mul-one-nan-2 c = search needs
+
+shared-slice-read-one-nan : tie.Need-shared-slice-read-one-nan Inv-loop μ-loop
+shared-slice-read-one-nan c = search needs
+
+one-nan-requires : tie.Need-one-nan-requires Inv-loop μ-loop
+one-nan-requires c κs = search needs
+
 mul-lhs : tie.Need-mul-lhs Inv-loop μ-loop
 mul-lhs c = search needs
-
-slice-read-lhs : tie.Need-slice-read-lhs Inv-loop μ-loop
-slice-read-lhs c = search needs
-
-mul-lhs-2 : tie.Need-mul-lhs-2 Inv-loop μ-loop
-mul-lhs-2 c = search needs
-
-shared-slice-read-lhs : tie.Need-shared-slice-read-lhs Inv-loop μ-loop
-shared-slice-read-lhs c = search needs
-
-mul-lhs-3 : tie.Need-mul-lhs-3 Inv-loop μ-loop
-mul-lhs-3 c = search needs
 
 slice-write-lhs : tie.Need-slice-write-lhs Inv-loop μ-loop
 slice-write-lhs c = search needs
@@ -49,11 +52,11 @@ loop-less c = search needs
 
 loop-again : tie.Need-loop-again Inv-loop μ-loop
 loop-again c =
-    let l = c .before .before .before .loop in
-    let a = c .before .before .before .before .before .before .before .args in
-    let e = c .before .before .before .before .least .ensures in
-    let t = c .before .before .loop-test .taken in
-    (omega arith, shorter-next (moreBy (a .weight)) (a .rhs .now) _ (l .lhs) (l .i) (l .inv .1) nan (omega (arith, e, l .inv .2)) (omega (arith, e)), length-set (l .lhs) (l .i) _ ∙ l .inv .2)
+    let l = c .before .before .before .before .loop in
+    let a = c .before .before .before .before .before .before .before .before .args in
+    let e = c .before .before .before .before .before .least .ensures in
+    let t = c .before .before .before .loop-test .taken in
+    (omega arith, rw (c .one-nan .ensures) (shorter-next (moreBy (a .weight)) (a .rhs .now) _ (l .lhs) (l .i) (l .inv .1) nan (omega (arith, e, l .inv .2)) (omega (arith, e))), length-set (l .lhs) (l .i) _ ∙ l .inv .2)
 
 same-length : tie.Need-same-length Inv-loop μ-loop
 same-length c = c .before .loop .inv .2
@@ -72,11 +75,12 @@ add-scaled-spec =
     μ-loop
     least-requires
     loop-holds
+    mul-one-nan
+    slice-read-one-nan
+    mul-one-nan-2
+    shared-slice-read-one-nan
+    one-nan-requires
     mul-lhs
-    slice-read-lhs
-    mul-lhs-2
-    shared-slice-read-lhs
-    mul-lhs-3
     slice-write-lhs
     add-i
     loop-less

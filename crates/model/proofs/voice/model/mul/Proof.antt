@@ -2,7 +2,7 @@
 use borrow.Author.Needs.{needs}
 use native.Mathlib.Omega.{arith}
 use Prim.Native.Nat.{_-_, min}
-use mathlib.Core.Path.{_≡_, sym}
+use mathlib.Core.Path.{_≡_, sym, _∙_}
 use mathlib.Core.List.{map}
 use lib.ListN.{length, length-map, List·getD-map}
 use lib.Ieee.{nan}
@@ -18,8 +18,11 @@ Inv-loop lin weight out₀ i₀ out i = Storing (map (times weight) lin) out₀ 
 abbrev μ-loop : tie.MeasureT-loop
 μ-loop lin weight out₀ i₀ out i = length lin - i
 
+abbrev entry : tie.At-loop Inv-loop μ-loop → tie.Start Inv-loop μ-loop
+entry c = c .before .before .before .before
+
 -- how far the loop goes
-far : (c : tie.At-loop Inv-loop μ-loop) → length (c .before .before .args .lin .now) ≡ min (length (map (times (c .before .before .args .weight)) (c .before .before .args .lin .now))) (length (c .before .before .args .out .now))
+far : (c : tie.At-loop Inv-loop μ-loop) → length (entry c .args .lin .now) ≡ min (length (map (times (entry c .args .weight)) (entry c .args .lin .now))) (length (entry c .args .out .now))
 far c = rw length-map (omega (arith, c .before .if1 .left))
 
 returns : tie.Need-returns Inv-loop μ-loop
@@ -28,14 +31,17 @@ returns c = mul-refused _ _ _ (c .if1 .taken)
 loop-holds : tie.Need-loop-holds Inv-loop μ-loop
 loop-holds c = storing _ _ _
 
+mul-one-nan : tie.Need-mul-one-nan Inv-loop μ-loop
+mul-one-nan c = search needs
+
+shared-slice-read-one-nan : tie.Need-shared-slice-read-one-nan Inv-loop μ-loop
+shared-slice-read-one-nan c = search needs
+
+one-nan-requires : tie.Need-one-nan-requires Inv-loop μ-loop
+one-nan-requires c κs = search needs
+
 mul-out : tie.Need-mul-out Inv-loop μ-loop
 mul-out c = search needs
-
-shared-slice-read-out : tie.Need-shared-slice-read-out Inv-loop μ-loop
-shared-slice-read-out c = search needs
-
-mul-out-2 : tie.Need-mul-out-2 Inv-loop μ-loop
-mul-out-2 c = search needs
 
 slice-write-out : tie.Need-slice-write-out Inv-loop μ-loop
 slice-write-out c = search needs
@@ -48,9 +54,9 @@ loop-less c = search needs
 
 loop-again : tie.Need-loop-again Inv-loop μ-loop
 loop-again c =
-    let a = c .before .before .before .before .args in
-    let l = c .before .before .loop in
-    storing-next _ _ _ _ _ (far (c .before .before)) (l .inv) _ _ (c .before .loop-test .taken) (sym (List·getD-map (times (a .weight)) (a .lin .now) (l .i) nan))
+    let at = c .before .before .before in
+    let stored = c .one-nan .ensures ∙ sym (List·getD-map (times (entry at .args .weight)) (entry at .args .lin .now) (at .loop .i) nan) in
+    storing-next _ _ _ _ _ (far at) (at .loop .inv) _ _ (c .before .before .loop-test .taken) stored
 
 same-length : tie.Need-same-length Inv-loop μ-loop
 same-length c = c .before .loop .inv .long
@@ -66,9 +72,10 @@ mul-spec =
     μ-loop
     returns
     loop-holds
+    mul-one-nan
+    shared-slice-read-one-nan
+    one-nan-requires
     mul-out
-    shared-slice-read-out
-    mul-out-2
     slice-write-out
     add-i
     loop-less
