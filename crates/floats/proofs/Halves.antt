@@ -1,8 +1,9 @@
 -- Rounding to the nearest whole number, halves upward. Assumes nothing.
 use mathlib.Core.Path.{_≡_, refl, sym, ap, _∙_}
-use Prim.Native.Nat.{ℕ, zero, suc, _+_, _*_, _/_, _≤_, _<_}
-use native.Mathlib.Nat.{mul-assoc, mul-comm, mul-left-comm, add-mul, mul-pos, add-div-right, div-div-eq-div-mul, div-eq-of-lt, le-div-iff-mul-le}
+use Prim.Native.Nat.{ℕ, zero, suc, _+_, _*_, _/_, _^_, _≤_, _<_}
+use native.Mathlib.Nat.{mul-assoc, mul-comm, mul-left-comm, add-mul, mul-pos, add-div-right, div-div-eq-div-mul, div-eq-of-lt, le-div-iff-mul-le, le-of-eq, lt-of-le-of-lt, lt-of-lt-of-le, pow-succ'}
 use native.Mathlib.Omega.{arith}
+use lib.Pow.{pow-mono, shl-lt}
 use lib.Ieee.Nearest.{div-same}
 use mathlib.Core.Bool.{true}
 use lib.IntN.{pos}
@@ -26,6 +27,12 @@ half-same a b c d B D e = div-same (2 * a + b) (2 * b) (2 * c + d) (2 * d) (mul-
 pub half-small : (a c : ℕ) → 2 * a < c → nearestHalf a c ≡ 0
 unfolding nearestHalf
 half-small a c h = div-eq-of-lt (omega arith)
+
+-- q * 2 ^ k is below half of 2 ^ p, for a q of at most 53 digits
+pub under-half : (q k p : ℕ) → q < 2 ^ 53 → 53 + suc k ≤ p → 2 * (q * 2 ^ k) < 2 ^ p
+under-half q k p h g =
+    let e : 2 * (q * 2 ^ k) ≡ q * 2 ^ suc k = sym (mul-assoc 2 q (2 ^ k)) ∙ ap (λ (z : ℕ). z * 2 ^ k) (mul-comm 2 q) ∙ mul-assoc q 2 (2 ^ k) ∙ ap (λ (z : ℕ). q * z) (sym (pow-succ' 2 k)) in
+    lt-of-le-of-lt (le-of-eq e) (lt-of-lt-of-le (shl-lt 53 (suc k) h) (pow-mono g))
 
 -- from n on it is at least n
 pub half-large : (n a c : ℕ) → 0 < c → n * c ≤ a → n ≤ nearestHalf a c

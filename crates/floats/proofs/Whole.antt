@@ -2,12 +2,12 @@
 use mathlib.Core.Path.{_≡_, refl, sym, ap, _∙_, subst}
 use mathlib.Core.Bool.{Bool, true, false, cond, true≢false}
 use Prim.Native.Nat.{ℕ, zero, suc, _+_, _-_, _*_, _/_, _%_, _^_, _≤_, _<_}
-use native.Mathlib.Nat.{mod-lt, mod-eq-of-lt, mul-assoc, mul-comm, le-trans, le-of-eq, lt-of-lt-of-le, lt-of-le-of-lt, mul-le-mul-right, le-add-right, pow-succ'}
+use native.Mathlib.Nat.{mod-lt, mod-eq-of-lt, mul-assoc, le-trans, le-of-eq, lt-of-le-of-lt, mul-le-mul-right, le-add-right}
 use native.Mathlib.Omega.{arith}
 use lib.IntN.{ℤ, pos}
 use lib.Dec.{T, leb, eqb, le→leb, lit≤}
 use lib.Arith.{lt→nleb}
-use lib.Pow.{pow-pos, pow-mono, pow-add, shl-lt}
+use lib.Pow.{pow-pos, pow-mono, pow-add}
 use lib.Bits.{bitAnd, bitOr, and-mask, or-shifted-r}
 use lib.Count.{trailingZeros}
 use lib.Ieee.{Float, nan, inf, fin, binary64, up, down, minus, odd, fits, isNan, ofFields, toBits}
@@ -15,7 +15,7 @@ use lib.Ieee.Fits.{down-pos}
 use lib.Ieee.Bits.{ofBits-toBits, is-true, is-false}
 use lib.Ieee.Exact.{HasValue, odd-sign}
 use Rattle.floats.specs.Rounding.{roundedOf, toIntegral, framesOf, nearestHalf}
-use Rattle.floats.proofs.Halves.{half-same, half-small, half-large, half-some, frames, frames-none, frames-many, frames-below}
+use Rattle.floats.proofs.Halves.{half-same, half-small, under-half, half-large, half-some, frames, frames-none, frames-many, frames-below}
 use Rattle.floats.proofs.Fields.{by-fields, normal-is}
 
 -- `roundedOf` sees only the value
@@ -59,16 +59,10 @@ with-lead t h = omega arith
 normal : (j t : ℕ) → j < 2046 → roundedOf (ofFields binary64 false (suc j) t) ≡ frames (nearestHalf ((2 ^ 52 + t) * 2 ^ j) (2 ^ 1074))
 normal j t h = ap roundedOf (normal-is j t h) ∙ odd-rounded (2 ^ 52 + t) j
 
--- q * 2 ^ k is below half of 2 ^ 1074
-under-half : (q k : ℕ) → q < 2 ^ 53 → 53 + suc k ≤ 1074 → 2 * (q * 2 ^ k) < 2 ^ 1074
-under-half q k h g =
-    let e : 2 * (q * 2 ^ k) ≡ q * 2 ^ suc k = sym (mul-assoc 2 q (2 ^ k)) ∙ ap (λ (z : ℕ). z * 2 ^ k) (mul-comm 2 q) ∙ mul-assoc q 2 (2 ^ k) ∙ ap (λ (z : ℕ). q * z) (sym (pow-succ' 2 k)) in
-    lt-of-le-of-lt (le-of-eq e) (lt-of-lt-of-le (shl-lt 53 (suc k) h) (pow-mono g))
-
 small : (x t : ℕ) → t < 2 ^ 52 → x < 1022 → roundedOf (ofFields binary64 false x t) ≡ 1
 unfolding ofFields
-small zero t h g = odd-rounded t 0 ∙ ap frames (half-small (t * 2 ^ 0) (2 ^ 1074) (under-half t 0 (omega arith) (omega arith))) ∙ frames-none
-small (suc j) t h g = normal j t (omega arith) ∙ ap frames (half-small ((2 ^ 52 + t) * 2 ^ j) (2 ^ 1074) (under-half (2 ^ 52 + t) j (with-lead t h) (omega arith))) ∙ frames-none
+small zero t h g = odd-rounded t 0 ∙ ap frames (half-small (t * 2 ^ 0) (2 ^ 1074) (under-half t 0 1074 (omega arith) (omega arith))) ∙ frames-none
+small (suc j) t h g = normal j t (omega arith) ∙ ap frames (half-small ((2 ^ 52 + t) * 2 ^ j) (2 ^ 1074) (under-half (2 ^ 52 + t) j 1074 (with-lead t h) (omega arith))) ∙ frames-none
 
 past : (j t : ℕ) → 1039 ≤ j → 131072 * 2 ^ 1074 ≤ (2 ^ 52 + t) * 2 ^ j
 past j t h =
