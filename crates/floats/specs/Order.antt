@@ -8,7 +8,7 @@ absOf nan = nan
 absOf (inf s) = inf false
 absOf (fin s m e) = fin false m e
 
--- 01, Durations: "All NaN costs are equal and come after infinity." Whether a comes strictly before b.
+-- RULES, Durations: whether the cost a comes strictly before b; all NaN costs are one, and after infinity
 unfoldable pub costBelow : Float → Float → Bool
 unfolding isNan lt
 costBelow a b = not (isNan a) && (isNan b || lt a b)

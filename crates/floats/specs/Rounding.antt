@@ -1,4 +1,4 @@
--- IEEE 754-2019, 5.9, roundToIntegralTiesToAway, said over fractions, and document 01's count of frames from it. Assumes nothing.
+-- IEEE 754-2019, 5.9, roundToIntegralTiesToAway, said over fractions, and the count of frames from it. Assumes nothing.
 use mathlib.Core.Path.{_≡_}
 use mathlib.Core.Bool.{Bool, cond}
 use Prim.Native.Nat.{ℕ, _+_, _*_, _/_, _≤_, _<_, min, max}
@@ -27,7 +27,7 @@ toIntegral nan = undefined
 toIntegral (inf s) = endless s
 toIntegral (fin s m e) = whole (signed s (nearestHalf (m * up e) (down e)))
 
--- 01, Durations: "then at least 1. NaN gives 1; minus infinity gives 1". 65,537 stands for all that is above 65,536.
+-- RULES, Durations: at least 1 frame, and 1 for NaN and minus infinity; 65,537 stands for all that is above 65,536
 unfoldable pub framesOf : Integral → ℕ
 framesOf undefined = 1
 framesOf (endless s) = cond s 1 65537

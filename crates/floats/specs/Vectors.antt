@@ -10,7 +10,7 @@ pub integralAt : ℕ → Integral
 unfolding toIntegral ofBits
 integralAt b = toIntegral (ofBits binary64 b)
 
--- 01, Durations: "0.49999999999999994 rounds to 0, 2.5 to 3, -2.5 to -3"
+-- RULES, Durations: the number next below a half gives 0, 2.5 gives 3 and -2.5 gives -3
 pub below-half : integralAt 0x3fdf_ffff_ffff_ffff ≡ whole (pos 0)
 unfolding integralAt
 below-half = refl

@@ -25,7 +25,7 @@ use Rattle.spool.specs.Promise.{placed, spanned, PlaceSays, SpanSays}
 use Rattle.spool.specs.declared.Placed.{Placed}
 use Rattle.spool.specs.declared.Span.{Span}
 
--- 01, Refusal numbers: "A refusal carries its number only": value i of an answer is handed out where there is one, and what was there stays where not
+-- RULES, Refusals: a refusal has a number and nothing else; so value i of an answer is handed out where there is one, and what was there stays where not
 abbrev pub handed : List ℕ → ℕ → ℕ → ℕ
 handed values i old = getD values i old
 

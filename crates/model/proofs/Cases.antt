@@ -1,4 +1,4 @@
--- 01's worked cases of an inverse variance, and the bounds themselves, computed from the definition. Assumes nothing.
+-- Worked cases of an inverse variance, and the bounds themselves, computed from the definition. Assumes nothing.
 use mathlib.Core.Path.{_≡_, refl}
 use Prim.Native.Nat.{ℕ}
 use lib.Ieee.{binary64, ofBits, toBits, lt, div}
@@ -10,7 +10,7 @@ unfolding ivarOf ofBits toBits absOf lt div
 ivar bits = toBits binary64 (ivarOf (ofBits binary64 bits))
 
 record Ivars : Type 0 where
-  -- 01, Pairs: "0 gives 1e38, -4 gives -0.25, and NaN stays NaN"
+  -- RULES, Pairs: 0 has 1e38, -4 has -0.25, and NaN has NaN
   pub nought : ivar 0 ≡ 0x47d2_ced3_2a16_a1b1
   pub minus-four : ivar 0xc010_0000_0000_0000 ≡ 0xbfd0_0000_0000_0000
   pub no-number : ivar 0x7ff8_0000_0000_0000 ≡ 0x7ff8_0000_0000_0000

@@ -1,4 +1,4 @@
--- 01, Pairs: "`MeanVari` is a mean and a variance, passed and returned whole".
+-- RULES, Pairs: a mean and a variance that go together.
 use mathlib.Core.Path.{_≡_, refl}
 use mathlib.Core.List.{List, [], _∷_}
 use mathlib.Core.Bool.{false, cond}
@@ -36,19 +36,19 @@ pub largest-ivar : largestIvar ≡ round binary64 false (10 ^ 38) 1
 unfolding ofBits round
 largest-ivar = refl
 
--- 01, Pairs: "variance above 1e19 in absolute value gives 0; below 1e-19 gives 1e38; both bounds exclusive; else 1/variance"
+-- RULES, Pairs: 0 where the variance's size is above 1e19, 1e38 where it is below 1e-19, and else 1 / variance, at both bounds too
 unfoldable pub ivarOf : Float → Float
 ivarOf v = cond (lt highBound (absOf v)) nought (cond (lt (absOf v) lowBound) largestIvar (div binary64 one v))
 
--- 01, Pairs: the pair with the inverse of its variance
+-- RULES, Pairs: the pair with the inverse of its variance
 abbrev pub withIvar : MeanVari → MeanVari
 withIvar p = pair (p .0) (ivarOf (p .1))
 
--- 01, Mask and boundaries: a pair "has its inverse variance set to 0"
+-- RULES, Mask: the pair of a frame near a boundary, with inverse variance 0
 abbrev pub with0 : MeanVari → MeanVari
 with0 p = pair (p .0) nought
 
--- 01, Pairs: "scales every number"; the Rust's order, the number times the weight
+-- RULES, Pairs: both numbers times the factor; in the Rust's order, the number first
 abbrev pub weightedBy : MeanVari → Float → MeanVari
 weightedBy p w = pair (mul binary64 (p .0) w) (mul binary64 (p .1) w)
 
@@ -62,7 +62,7 @@ pairsOf [] vs = []
 pairsOf (m ∷ ms) [] = []
 pairsOf (m ∷ ms) (v ∷ vs) = pair m v ∷ pairsOf ms vs
 
--- 01, Durations: "sums from zero left to right"
+-- RULES, Pairs: a sum of pairs starts from (0, 0) and goes from left to right
 unfoldable pub sumOf : List Float → List Float → MeanVari
 unfolding foldFrom pairsOf
 sumOf means varis = foldFrom plus (pair nought nought) (pairsOf means varis)

@@ -12,12 +12,12 @@ use Rattle.model.specs.declared.voice.model.Written.the-variants.{Done, 
 use Rattle.model.specs.Record.{fromLinear, toLinear}
 use Rattle.model.specs.Mixing.{scaled, added}
 
--- 01, Refusal numbers: 6, and 0 for none
+-- RULES, Refusals: 6 for no room, and 0 for none
 abbrev pub numberOf : Written → ℕ
 numberOf Done = 0
 numberOf TooShort = 6
 
--- 01, Refusal numbers: 6, "output .. too short"
+-- RULES, Refusals: 6 where the output is shorter than the record
 abbrev pub mulRefusal : List Float → List Float → ℕ
 mulRefusal lin out = cond (ltb (length out) (length lin)) 6 0
 

@@ -10,20 +10,20 @@ use Rattle.model.specs.declared.voice.model.Found.{Found}
 use Rattle.model.specs.declared.voice.model.Found.the-variants.{At, Missing}
 use Rattle.model.specs.Pair.{pairsOf}
 
--- 01, Pairs: pairs and a weight "given as a number or absent"; the Rust's `ModelParameter`
+-- RULES, Pairs: a state's pairs and its voicing weight; the Rust's `ModelParameter`
 pub record Parameter : Type 0 where
   pub parameters : List MeanVari
   pub msd : Weight
 
--- 01, Pairs: "A state's record is its means, then as many variances, then, in a masked stream, one weight"
+-- RULES, Pairs: a record has its means first
 abbrev pub meansOf : List Float → List Float
 meansOf lin = take (length lin / 2) lin
 
--- "as many variances"
+-- then as many variances
 abbrev pub varisOf : List Float → List Float
 varisOf lin = take (length lin / 2) (drop (length lin / 2) lin)
 
--- one weight, or nothing
+-- then its weight, or nothing
 abbrev pub restOf : List Float → List Float
 restOf lin = drop (2 * (length lin / 2)) lin
 
@@ -46,7 +46,7 @@ weights Absent = []
 unfoldable pub toLinear : Parameter → List Float
 toLinear p = map (λ (q : MeanVari). q .0) (p .parameters) ++ (map (λ (q : MeanVari). q .1) (p .parameters) ++ weights (p .msd))
 
--- 01, Pairs: "Pair number is v × window + component"
+-- RULES, Pairs: which pair belongs to a window and a component
 abbrev pub pairNumber : ℕ → ℕ → ℕ → ℕ
 pairNumber v window component = v * window + component
 

@@ -18,7 +18,7 @@ unfoldable pub allOf : {A : Type 0} → (A → Bool) → List A → Bool
 allOf p [] = true
 allOf p (x ∷ xs) = p x && allOf p xs
 
--- 01, Sizes: "1 to 4 windows, each 1 to 15 .. coefficients"
+-- RULES, Sizes: a set has 1 to 4 windows, and each 1 to 15 coefficients
 unfoldable pub widthsFit : List ℕ → Bool
 unfolding allOf
 widthsFit widths = between 1 4 (length widths) && allOf (between 1 15) widths
@@ -29,12 +29,12 @@ finite nan = false
 finite (inf s) = false
 finite (fin s m e) = true
 
--- 01, Refusal numbers: not 2, "a coefficient is infinite or NaN"
+-- RULES, Refusals: what 2 asks of the coefficients
 unfoldable pub allFinite : List Float → Bool
 unfolding allOf finite
 allFinite coefficients = allOf finite coefficients
 
--- 01, Refusal numbers: 1, 2 and 4, the smallest that applies, and 0 for none
+-- RULES, Refusals: 1, 2 and 4, the smallest that applies, and 0 for none
 unfoldable pub windowRefusal : List ℕ → List Float → ℕ
 unfolding total widthsFit allFinite
 windowRefusal widths coefficients =
@@ -45,19 +45,19 @@ unfoldable pub longest : List ℕ → ℕ
 unfolding foldFrom
 longest widths = foldFrom max 0 widths
 
--- 01, Band rows and solving: "longest window / 2, rounded down"
+-- RULES, Band rows: half of the longest window, rounded down
 abbrev pub maxWidth : List ℕ → ℕ
 maxWidth widths = longest widths / 2
 
--- 01, Band rows and solving: "Band width is 2 × (longest window / 2, rounded down) + 1"
+-- RULES, Band rows: the width of the band is twice that, and 1
 abbrev pub bandWidth : List ℕ → ℕ
 bandWidth widths = 2 * maxWidth widths + 1
 
--- 01, Mask and boundaries: "half the window's length (rounded down)"
+-- RULES, Mask: half of the window's length, rounded down
 abbrev pub leftWidth : ℕ → ℕ
 leftWidth width = width / 2
 
--- 01, Mask and boundaries: "length − half − 1"
+-- RULES, Mask: the length less that half, less 1
 abbrev pub rightWidth : ℕ → ℕ
 rightWidth width = width - leftWidth width - 1
 

@@ -7,7 +7,7 @@ use Rattle.spool.specs.Place.{placeOf}
 use Rattle.spool.specs.Excerpt.{excerptOf}
 use Rattle.spool.specs.Refusal.{outside, placeRefusal, trajectoryRefusal, excerptRefusal}
 
--- 01, Places: "With v = 40: frame 13,421,772, component 32 is 4,294,967,296; frame 13,421,773, component 0 is 4,294,967,360."
+-- RULES, Places: with 40 components a frame, two places just past 32 bits
 around-4-gib : (placeOf 13421772 32 40 ≡ 4294967296) × (placeOf 13421773 0 40 ≡ 4294967360)
 around-4-gib = (refl, refl)
 

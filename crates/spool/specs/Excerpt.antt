@@ -5,18 +5,18 @@ use lib.ListN.{take, drop, getD}
 use Rattle.lists.specs.Totals.{total}
 use Rattle.spool.specs.Place.{numberOf}
 
--- 01, Some places and their forms: "the state's first .. frame", which is how many frames the states before it have
+-- the state's first frame, which is how many frames the states before it have
 abbrev pub firstOf : List ℕ → ℕ → ℕ
 firstOf durations state = total (take state durations)
 
--- 01, Sizes: "place frame × v + component": where the state's first number stands
+-- where its first number stands: component 0 of that frame
 abbrev pub startOf : List ℕ → ℕ → ℕ → ℕ
 startOf durations v state = numberOf (firstOf durations state) 0 v
 
--- 01, Sizes: "frames × v numbers": how many the state has
+-- how many numbers it has: v a frame
 abbrev pub countOf : List ℕ → ℕ → ℕ → ℕ
 countOf durations v state = getD durations state 0 * v
 
--- 01, Places: "The excerpt of one state is that part of the lent trajectory itself."
+-- RULES, Places: a state's excerpt is the part of the trajectory that holds its frames
 unfoldable pub excerptOf : {A : Type 0} → List A → List ℕ → ℕ → ℕ → List A
 excerptOf trajectory durations v state = take (countOf durations v state) (drop (startOf durations v state) trajectory)

@@ -15,7 +15,7 @@ use Rattle.spool.specs.declared.Placed.the-variants as place
 use Rattle.spool.specs.declared.Span.{Span}
 use Rattle.spool.specs.declared.Span.the-variants as span
 
--- 01's number and values of a place
+-- RULES, Forms: the number and the values of a place
 abbrev pub placed : Placed → Answer
 placed (place.At at) = record { number = 0; values = at ∷ [] }
 placed (place.Refused number) = record { number = number; values = [] }
@@ -25,16 +25,16 @@ abbrev pub spanned : Span → Answer
 spanned (span.Numbers first count) = record { number = 0; values = first ∷ count ∷ [] }
 spanned (span.Refused number) = record { number = number; values = [] }
 
--- 01, Places: what `place` answers
+-- RULES, Places: what `place` answers
 abbrev pub PlaceSays : ℕ → ℕ → ℕ → Placed → Type 0
 PlaceSays frame component v r = placed r ≡ answerOf (placeRefusal component v) (placeOf frame component v ∷ [])
 
--- 01, Places: what `excerpt_span` answers, the excerpt's first number and how many there are
+-- RULES, Places: what `excerpt_span` answers, the excerpt's first number and how many there are
 abbrev pub SpanSays : List Float → List ℕ → ℕ → ℕ → Span → Type 0
 SpanSays trajectory durations v state r =
     spanned r ≡ answerOf (excerptRefusal (length trajectory) durations v state) (startOf durations v state ∷ countOf durations v state ∷ [])
 
--- 01, Places: "that part of the lent trajectory itself": its numbers, and where they lie, in the trajectory's own memory at 8 bytes a number; "an excerpt is the empty part" on a refusal
+-- RULES, Places: an excerpt's numbers, and where they lie, in the trajectory's own memory at 8 bytes a number; the empty part on a refusal
 pub record ExcerptSays (trajectory : RefT (List Float)) (durations : List ℕ) (v state : ℕ) (r : RefT (List Float)) : Type 0 where
   pub numbers : r .now ≡ given (excerptRefusal (length (trajectory .now)) durations v state) (excerptOf (trajectory .now) durations v state) []
   pub itself : r .ptr ≡ (trajectory .ptr .0, trajectory .ptr .1 + given (excerptRefusal (length (trajectory .now)) durations v state) (startOf durations v state) 0 * 8)
