@@ -28,3 +28,5 @@ pub mod TrajectoryLaws
 pub mod Renders
 pub mod CreateWays
 pub mod CreateOne
+pub mod Enough
+pub mod RecordPairs

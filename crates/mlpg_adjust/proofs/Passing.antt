@@ -1,6 +1,6 @@
 -- Laws of the passes one after the other: a tap's columns, a window's taps, all windows, all blocks. Assumes nothing.
 use mathlib.Core.Path.{_≡_, refl, sym, ap, subst, _∙_}
-use mathlib.Core.Bool.{Bool, true, false, cond}
+use mathlib.Core.Bool.{true, false}
 use mathlib.Core.List.{List, [], _∷_}
 use mathlib.Core.Logic.{⊎-elim}
 use Prim.Native.Nat.{ℕ, zero, suc, _+_, _-_, _*_, _/_, _<_, _≤_, min, max}
@@ -33,7 +33,7 @@ use Rattle.mlpg_adjust.specs.declared.passes.Span.{Span}
 use Rattle.mlpg_adjust.proofs.Readings.{part-elem, part-part, read-under, read-beyond}
 use Rattle.lists.proofs.Regions.{returned}
 use Rattle.mlpg_adjust.proofs.Orders.{over-step, over-idle}
-use Rattle.mlpg_adjust.proofs.Terms.{same-at, eq-nought, W-short, W-beyond, term-idle, right-idle}
+use Rattle.mlpg_adjust.proofs.Terms.{either-way, same-at, eq-nought, W-short, W-beyond, term-idle, right-idle}
 use Rattle.lists.proofs.Builds.{build-is}
 use Rattle.mlpg_adjust.proofs.Windows.{total-front}
 use Rattle.mlpg_adjust.proofs.Along.{along-before, along-same, within-on, within-idle, within-next, upTo, moved-none, moved-then, moved-same, moved-next, pairs-kept}
@@ -323,11 +323,7 @@ module _ (widths : List ℕ) (coefs : List Float) (p : Places) (n w : ℕ) (r : 
 
   pub windows-none : Moved p n w r (E 0) (S 0) d d
   unfolding over windowsEntry windowsSide
-  windows-none = moved-none p n w r (E 0) (S 0) d (λ t j y a b c e. pick (ltb (t + j) n) y) (λ t y a b c. refl)
-    where
-      pick : (b : Bool) (y : Float) → cond b y y ≡ y
-      pick true y = refl
-      pick false y = refl
+  windows-none = moved-none p n w r (E 0) (S 0) d (λ t j y a b c e. either-way (ltb (t + j) n) y) (λ t y a b c. refl)
 
   pub windows-next : (m m′ taps : List Float) (i b : ℕ) → i < length widths → b ≡ i * n → taps ≡ windowOf widths coefs i → Moved p n w r (E i) (S i) d m
       → Moved p n w r (windowEntry taps (part (p .ivars + b) n m) (part b n m) n) (windowSide taps (part (p .ivars + b) n m) (part b n m) n) m m′ → Moved p n w r (E (i + 1)) (S (i + 1)) d m′

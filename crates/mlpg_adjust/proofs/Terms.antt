@@ -23,6 +23,11 @@ pub eq-nought : eq nought nought ≡ true
 unfolding eq ofBits
 eq-nought = refl
 
+-- a choice between two that are the same
+pub either-way : (b : Bool) (y : Float) → cond b y y ≡ y
+either-way true y = refl
+either-way false y = refl
+
 -- with a default that is not looked at
 pub same-at : (xs : List Float) (k : ℕ) (d e : Float) → k < length xs → getD xs k d ≡ getD xs k e
 same-at [] k d e l = absurd (omega arith)
