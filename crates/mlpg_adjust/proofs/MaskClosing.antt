@@ -1,4 +1,4 @@
--- Closing up: what the loops over states do at each turn, and that closing up along the frames is by the distances. Assumes nothing.
+-- Closing up: what the loops over states do at each turn, and what the boundaries leave. Assumes nothing.
 use mathlib.Core.Path.{_≡_, refl, sym, ap, _∙_}
 use mathlib.Core.Bool.{Bool, true, false}
 use mathlib.Core.List.{List, [], _∷_, _++_, append-assoc, append-nil, map}
@@ -13,12 +13,14 @@ use Rattle.lists.specs.Totals.{total}
 use Rattle.lists.proofs.Sums.{total-append, total-more}
 use Rattle.lists.proofs.Fills.{build-length}
 use Rattle.model.specs.Pair.{ivarOf}
+use Rattle.model.specs.Record.{pairNumber}
 use Rattle.model.specs.Weight.{voicedAt}
 use Rattle.model.specs.declared.voice.model.Weight.the-variants.{Absent}
 use Rattle.mlpg_adjust.specs.declared.mask.Voicing.{Voicing}
 use Rattle.mlpg_adjust.specs.Frames.{expand, select, count}
 use Rattle.mlpg_adjust.specs.MaskVoicing.{maskOf, weightAt, weightsOf, column}
-use Rattle.mlpg_adjust.specs.MaskBoundaries.{ahead, lefts, rights, shut, closeUp}
+use Rattle.mlpg_adjust.specs.MaskBoundaries.{lefts, rights, shutAll}
+use Rattle.mlpg_adjust.specs.MaskWindows.{ivarsIn}
 use Rattle.lists.proofs.Builds.{build-at}
 use Rattle.mlpg_adjust.proofs.Counts.{count-append, count-all, count-none, count-most}
 use Rattle.mlpg_adjust.proofs.MaskLaws.{expand-next, part-put, part-length, part-filled}
@@ -238,30 +240,7 @@ ivars-length size records j n = simp length-map (column-length size records j n)
 pub ivars-at : (size : ℕ) (records : List Float) (j n s : ℕ) → s < n → getD (map ivarOf (column size records j n)) s (ivarOf nan) ≡ ivarOf (getD records (s * size + j) nan)
 ivars-at size records j n s h = List·getD-map ivarOf (column size records j n) s nan ∙ ap ivarOf (column-at size records j n s h)
 
--- ---- the boundaries: closing up along the frames is by the distances, frame by frame
-
-unfoldable pub shutAll : ℕ → ℕ → List ℕ → List ℕ → List Float → List Float
-shutAll before after [] rs vs = []
-shutAll before after (l ∷ ls) [] vs = []
-shutAll before after (l ∷ ls) (r ∷ rs) [] = []
-shutAll before after (l ∷ ls) (r ∷ rs) (v ∷ vs) = shut before after l r v ∷ shutAll before after ls rs vs
-
-pub close-select : (before after l : ℕ) (bs : List Bool) (vs : List Float) → closeUp before after l bs vs ≡ select bs (shutAll before after (lefts l bs) (rights bs) vs)
-unfolding closeUp select shutAll lefts rights
-close-select before after l [] vs = refl
-close-select before after l (true ∷ bs) [] = refl
-close-select before after l (false ∷ bs) [] = refl
-close-select before after l (true ∷ bs) (v ∷ vs) = ap (λ (r : List Float). shut before after l (ahead bs) v ∷ r) (close-select before after (suc l) bs vs)
-close-select before after l (false ∷ bs) (v ∷ vs) = close-select before after 0 bs vs
-
--- a window that reaches no further than its own frame loses nothing: the first window's case
-pub close-first : (l : ℕ) (bs : List Bool) (vs : List Float) → closeUp 0 0 l bs vs ≡ select bs vs
-unfolding closeUp select
-close-first l [] vs = refl
-close-first l (true ∷ bs) [] = refl
-close-first l (false ∷ bs) [] = refl
-close-first l (true ∷ bs) (v ∷ vs) = rw (le-ltb l 0 (omega arith), le-ltb (ahead bs) 0 (omega arith)) (ap (λ (r : List Float). v ∷ r) (close-first (suc l) bs vs))
-close-first l (false ∷ bs) (v ∷ vs) = close-first 0 bs vs
+-- ---- the boundaries
 
 module _ (before after : ℕ) where
   pub shut-length : (ls rs : List ℕ) (vs : List Float) → length rs ≡ length ls → length vs ≡ length ls → length (shutAll before after ls rs vs) ≡ length ls
@@ -270,3 +249,19 @@ module _ (before after : ℕ) where
   shut-length (l ∷ ls) [] vs a b = absurd (omega arith)
   shut-length (l ∷ ls) (r ∷ rs) [] a b = absurd (omega arith)
   shut-length (l ∷ ls) (r ∷ rs) (v ∷ vs) a b = ap suc (shut-length ls rs vs (omega arith) (omega arith))
+
+-- a window that reaches no further than its own frame loses nothing, and the first window is one
+shut-nothing : (ls rs : List ℕ) (vs : List Float) → length rs ≡ length ls → length vs ≡ length ls → shutAll 0 0 ls rs vs ≡ vs
+unfolding shutAll
+shut-nothing [] rs [] a b = refl
+shut-nothing [] rs (v ∷ vs) a b = absurd (omega arith)
+shut-nothing (l ∷ ls) [] vs a b = absurd (omega arith)
+shut-nothing (l ∷ ls) (r ∷ rs) [] a b = absurd (omega arith)
+shut-nothing (l ∷ ls) (r ∷ rs) (v ∷ vs) a b = rw (le-ltb l 0 (omega arith), le-ltb r 0 (omega arith)) (ap (λ (x : List Float). v ∷ x) (shut-nothing ls rs vs (omega arith) (omega arith)))
+
+pub first-window : (size : ℕ) (records : List Float) (v component : ℕ) (widths : List ℕ) (mask : List Bool) (ds : List ℕ) → length mask ≡ total ds
+    → ivarsIn size records v component widths mask ds 0 ≡ select mask (expand ds (map ivarOf (column size records (v * length widths + pairNumber v 0 component) (length ds))))
+unfolding ivarsIn
+first-window size records v component widths mask ds e =
+    let n : length (lefts 0 mask) ≡ total ds = lefts-length 0 mask ∙ e in
+    ap (select mask) (shut-nothing (lefts 0 mask) (rights mask) _ (rights-length mask ∙ e ∙ sym n) (expand-length ds _ (ivars-length size records (v * length widths + pairNumber v 0 component) (length ds)) ∙ sym n))

@@ -16,7 +16,7 @@ use Rattle.mlpg_adjust.specs.Frames.{expand, count}
 use Rattle.mlpg_adjust.specs.Rows.{part}
 use Rattle.mlpg_adjust.specs.Region.{regionOf}
 use Rattle.mlpg_adjust.specs.MaskVoicing.{weightAt, column}
-use Rattle.mlpg_adjust.specs.MaskBoundaries.{lefts, rights}
+use Rattle.mlpg_adjust.specs.MaskBoundaries.{lefts, rights, shutAll}
 use Rattle.mlpg_adjust.specs.MaskWindows.{reachBefore, reachAfter, meansIn, ivarsIn}
 use Rattle.mlpg_adjust.specs.MaskStates.{stateMeans, stateIvars, putPairs, StateFits}
 use Rattle.mlpg_adjust.specs.TrajectoryInner.{Paired, Planned, Distances}
@@ -26,7 +26,7 @@ use Rattle.lists.proofs.Regions.{cut-length}
 use Rattle.mlpg_adjust.proofs.Lanes.{region-fits}
 use Rattle.mlpg_adjust.proofs.MaskTheory.{expand-length, lefts-length, rights-length}
 use Rattle.mlpg_adjust.proofs.Counts.{count-most, count-all, count-none}
-use Rattle.mlpg_adjust.proofs.MaskClosing.{frame, frame-next, total-most, items-run, ClosedUp, closed-all, closed-next, maskBy, mask-long, mask-state, lefts-long, rights-long, Counted, counted, counted-next, counted-room, counted-done, column-length, column-at, ivars-length, ivars-at, shutAll, close-select, shut-length}
+use Rattle.mlpg_adjust.proofs.MaskClosing.{frame, frame-next, total-most, items-run, ClosedUp, closed-all, closed-next, maskBy, mask-long, mask-state, lefts-long, rights-long, Counted, counted, counted-next, counted-room, counted-done, column-length, column-at, ivars-length, ivars-at, shut-length}
 use Rattle.mlpg_adjust.proofs.MaskRuns.{ends-length, ends-nothing, ends-state}
 use Rattle.mlpg_adjust.proofs.MaskStates.{parts-rows, put-means, put-ivars}
 
@@ -144,5 +144,5 @@ module _ (u : Voicing) (g : Plan) (widths : List ℕ) (records : List Float) (ds
         means = parts-rows (meansIn (u .size) records (g .v) (first + l) mask ds) (count mask) 0 (regionOf (g .size) l work) (length widths)
             (λ i j. rw zero-add (rw (e, n) at (closed-all mask ds (meansAll l i) (part (i * g .n) k (regionOf (g .size) l work)) s (a .means l i t j) long h)));
         ivars = parts-rows (ivarsIn (u .size) records (g .v) (first + l) widths mask ds) (count mask) (g .places .ivars) (regionOf (g .size) l work) (length widths)
-            (λ i j. rw (e, n) at (closed-all mask ds (ivarsAll l i) (part (g .places .ivars + i * g .n) k (regionOf (g .size) l work)) s (a .ivars l i t j) long h) ∙ sym (close-select (reachBefore widths i) (reachAfter widths i) 0 mask (expand ds (ivarsByState l i))));
+            (λ i j. rw (e, n) at (closed-all mask ds (ivarsAll l i) (part (g .places .ivars + i * g .n) k (regionOf (g .size) l work)) s (a .ivars l i t j) long h));
       }

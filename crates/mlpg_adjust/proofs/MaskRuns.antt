@@ -20,14 +20,14 @@ use Rattle.lists.proofs.Stores.{filled}
 use Rattle.mlpg_adjust.specs.Frames.{expand}
 use Rattle.floats.specs.Numbers.{nought}
 use Rattle.mlpg_adjust.specs.Rows.{elem}
-use Rattle.mlpg_adjust.specs.MaskBoundaries.{ahead, lefts, rights, shut}
+use Rattle.mlpg_adjust.specs.MaskBoundaries.{ahead, lefts, rights, shut, shutAll}
 use Rattle.mlpg_adjust.specs.MaskStates.{shutEnds}
 use Rattle.lists.proofs.Builds.{build-is}
 use Rattle.mlpg_adjust.proofs.Readings.{read-beyond}
 use Rattle.lists.proofs.Regions.{returned}
 use Rattle.mlpg_adjust.proofs.MaskLaws.{part-filled, part-length}
 use Rattle.mlpg_adjust.proofs.MaskTheory.{expand-length, lefts-length, rights-length}
-use Rattle.mlpg_adjust.proofs.MaskClosing.{frame, frame-next, total-most, expand-at, shutAll, shut-length}
+use Rattle.mlpg_adjust.proofs.MaskClosing.{frame, frame-next, total-most, expand-at, shut-length}
 
 -- ---- the ends of d frames
 

@@ -12,29 +12,26 @@ ahead [] = 0
 ahead (true ∷ bs) = suc (ahead bs)
 ahead (false ∷ bs) = 0
 
--- 01, Mask and boundaries: "For each voiced frame the left .. distances to the ends of its run are counted; unvoiced frames have 0": how many voiced frames
--- stand directly before it, l of them before the first
+-- RULES, Mask: a voiced frame's left distance is how many voiced frames stand directly before it, with l of them before the first; an unvoiced frame has 0
 unfoldable pub lefts : ℕ → List Bool → List ℕ
 lefts l [] = []
 lefts l (true ∷ bs) = l ∷ lefts (suc l) bs
 lefts l (false ∷ bs) = 0 ∷ lefts 0 bs
 
--- ".. and right distances": how many stand directly after it
+-- RULES, Mask: its right distance is how many stand directly after it; an unvoiced frame has 0
 unfoldable pub rights : List Bool → List ℕ
 unfolding ahead
 rights [] = []
 rights (true ∷ bs) = ahead bs ∷ rights bs
 rights (false ∷ bs) = 0 ∷ rights bs
 
--- 01, Mask and boundaries: "a frame whose left distance is below half the window's length .., or whose right distance is below length − half − 1, has its
--- inverse variance set to 0": of a window that reaches so far before and after a frame, the inverse variance v at distances l and r
+-- RULES, Mask: a frame's inverse variance v becomes 0 where its left distance l or its right distance r is below what the window reaches
 abbrev pub shut : ℕ → ℕ → ℕ → ℕ → Float → Float
 shut before after l r v = cond (ltb l before || ltb r after) nought v
 
--- "Voiced frames are then closed up": their inverse variances, l voiced frames having just gone by
-unfoldable pub closeUp : ℕ → ℕ → ℕ → List Bool → List Float → List Float
-unfolding ahead
-closeUp before after l [] vs = []
-closeUp before after l (b ∷ bs) [] = []
-closeUp before after l (true ∷ bs) (v ∷ vs) = shut before after l (ahead bs) v ∷ closeUp before after (suc l) bs vs
-closeUp before after l (false ∷ bs) (v ∷ vs) = closeUp before after 0 bs vs
+-- and those of all frames, each by its own distances
+unfoldable pub shutAll : ℕ → ℕ → List ℕ → List ℕ → List Float → List Float
+shutAll before after [] rs vs = []
+shutAll before after (l ∷ ls) [] vs = []
+shutAll before after (l ∷ ls) (r ∷ rs) [] = []
+shutAll before after (l ∷ ls) (r ∷ rs) (v ∷ vs) = shut before after l r v ∷ shutAll before after ls rs vs

@@ -7,7 +7,8 @@ use Rattle.floats.specs.Numbers.{nought, one}
 use Rattle.model.specs.declared.voice.model.Weight.the-variants.{Given}
 use Rattle.mlpg_adjust.specs.Frames.{expand, fill}
 use Rattle.mlpg_adjust.specs.MaskVoicing.{maskOf}
-use Rattle.mlpg_adjust.specs.MaskBoundaries.{ahead, lefts, rights, closeUp}
+use Rattle.mlpg_adjust.specs.MaskBoundaries.{ahead, lefts, rights, shutAll}
+use Rattle.mlpg_adjust.specs.MaskWindows.{reachBefore, reachAfter}
 
 -- a run of three, a gap, a run of one
 abbrev runs : List Bool
@@ -26,9 +27,9 @@ pub frames : maskOf nought (Given one ∷ Given nought ∷ Given one ∷ Given n
 unfolding maskOf expand lt ofBits
 frames = refl
 
--- 01, case 10: a window of three over three voiced frames loses its first and its last
-pub case-10-boundaries : closeUp 1 1 0 (true ∷ true ∷ true ∷ []) (one ∷ one ∷ one ∷ []) ≡ nought ∷ one ∷ nought ∷ []
-unfolding closeUp ahead ofBits
+-- RULES, Cases: in case 10 a window of three over three voiced frames loses its first and its last
+pub case-10-boundaries : shutAll (reachBefore (1 ∷ 3 ∷ []) 1) (reachAfter (1 ∷ 3 ∷ []) 1) (0 ∷ 1 ∷ 2 ∷ []) (2 ∷ 1 ∷ 0 ∷ []) (one ∷ one ∷ one ∷ []) ≡ nought ∷ one ∷ nought ∷ []
+unfolding shutAll ofBits
 case-10-boundaries = refl
 
 pub filled-back : fill nought runs (one ∷ one ∷ one ∷ one ∷ []) ≡ one ∷ one ∷ one ∷ nought ∷ one ∷ []
