@@ -42,7 +42,7 @@ pub record Moved (p : Places) (n w : ℕ) (r : Span) (f : ℕ → ℕ → Float 
 abbrev pub atFrame : ℕ → ℕ → ℕ → ℕ → (ℕ → Float → Float) → Float → Float
 atFrame half n k t h y = cond (leb k (t + half)) (cond (ltb (t + half - k) n) (h (t + half - k) y) y) y
 
--- y, unless column t + j is past the end
+-- h, unless column t + j is past the end
 abbrev pub inside : ℕ → ℕ → ℕ → (Float → Float) → Float → Float
 inside n t j h y = cond (ltb (t + j) n) (h y) y
 
