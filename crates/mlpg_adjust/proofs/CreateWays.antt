@@ -158,7 +158,7 @@ six-tests true true false false true x h = absurd (omega arith)
 six-tests true true false false false true h = absurd (omega arith)
 six-tests true true false false false false h = (refl, refl, refl, refl, refl, refl)
 
--- what createRefusal ≡ 0 leaves: lists of the shape that 01 accepts, and room for what is written
+-- what createRefusal ≡ 0 leaves: lists of an accepted shape, and room for what is written
 module _ (s : Stream) (ws : List ℕ) (cs rs : List Float) (ds : List ℕ) (gv : List Float) (switches : List ℕ) (out work marks : ℕ)
     (z : createRefusal s ws cs (length rs) ds (length gv) (length switches) out work marks ≡ 0) where
   passed : (widthsFit ws ≡ true) × (allFinite cs ≡ true) × (outOfRange (s .v) (length ds) ≡ false) × (disagree s ws (length cs) (length rs) (length ds) (length gv) (length switches) ≡ false)

@@ -17,14 +17,14 @@ use Rattle.mlpg_adjust.specs.declared.Filled.{Filled}
 abbrev pub framesOf : List ℕ → ℕ → ℕ
 framesOf widths means = means / length widths
 
--- 01, Refusal numbers: 1, 2 and 4 of the windows; 4 for a remainder, and for another number of inverse variances; 5 for more than 65,536 frames
+-- RULES, Refusals: 1, 2 and 4 of the windows; 4 for a remainder, and for another number of inverse variances; 5 for more than 65,536 frames
 unfoldable pub setRefusal : List ℕ → List Float → ℕ → ℕ → ℕ
 unfolding windowRefusal
 setRefusal widths coefs means ivars =
     orElse (windowRefusal widths coefs)
     (orElse (cond (eqb (means % length widths) 0) 0 4) (orElse (cond (eqb ivars means) 0 4) (cond (ltb 65536 (framesOf widths means)) 5 0)))
 
--- the smallest number that applies: then 6 for rows or a right side that is too short
+-- RULES, Refusals: the smallest number that applies; after those 6 for rows or a right side that is too short
 unfoldable pub bandRefusal : List ℕ → List Float → List Float → List Float → List Float → List Float → ℕ
 unfolding setRefusal
 bandRefusal widths coefs means ivars rows right =

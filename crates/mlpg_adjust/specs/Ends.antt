@@ -5,7 +5,7 @@ use Rattle.lists.specs.Answers.{Answer}
 use Rattle.mlpg_adjust.specs.declared.Filled.{Filled}
 use Rattle.mlpg_adjust.specs.declared.Filled.the-variants.{Done, Refused}
 
--- 01's number and values of an answer: the frame count, of an accepted call alone
+-- RULES, Forms: number and values of each answer: 0 and the frame count, or a refusal's number alone
 abbrev pub filled : Filled → Answer
 filled (Done n) = record { number = 0; values = n ∷ [] }
 filled (Refused k) = record { number = k; values = [] }

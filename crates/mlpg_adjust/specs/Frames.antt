@@ -5,20 +5,20 @@ use Prim.Native.Nat.{ℕ, suc}
 use lib.ListN.{replicate}
 
 module _ {A : Type 0} where
-  -- mod.rs, `duration`: each state's item once for each of its frames. 01, Mask and boundaries: "Durations of 0 give no frames."
+  -- RULES, Mask: each state's item once for each of its frames, and none for a duration of 0 (`duration` of `mod.rs`)
   unfoldable pub expand : List ℕ → List A → List A
   expand [] xs = []
   expand (d ∷ ds) [] = []
   expand (d ∷ ds) (x ∷ xs) = replicate d x ++ expand ds xs
 
-  -- mod.rs, `filter_by`. 01, Mask and boundaries: "Voiced frames are then closed up"
+  -- RULES, Mask: the voiced frames closed up: their items alone, in order (`filter_by` of `mod.rs`)
   unfoldable pub select : List Bool → List A → List A
   select [] xs = []
   select (b ∷ bs) [] = []
   select (true ∷ bs) (x ∷ xs) = x ∷ select bs xs
   select (false ∷ bs) (x ∷ xs) = select bs xs
 
-  -- mask.rs, `fill`. 01, Mask and boundaries: "the rest get the fill number", and the voiced frames their values in order
+  -- RULES, Mask: the voiced frames get their values in order, the others the fill number (`fill` of `mask.rs`)
   unfoldable pub fill : A → List Bool → List A → List A
   fill none [] xs = []
   fill none (false ∷ bs) xs = none ∷ fill none bs xs

@@ -37,7 +37,7 @@ stepInc = ofBits binary64 0x3ff3333333333333
 
 -- ---- `calc_gv`: mean and variance of the switched values
 
--- 01, Global variance: "The mean's and variance's sums start with their first term"; of no term it is never asked
+-- RULES, Global variance: the sums of mean and variance start with their first term; of no term it is never asked
 unfoldable pub sumOf : (Float → Float) → List Float → Float
 unfolding foldFrom
 sumOf f [] = nan
@@ -97,7 +97,7 @@ weightOf windows n = div binary64 one (number (windows * n))
 abbrev pub hmmTerm : Float → Float → Float → Float → Float
 hmmTerm weight m g p = mul binary64 (mul binary64 (mul binary64 W1 weight) p) (sub binary64 m (mul binary64 half g))
 
--- 01, Global variance: the sums start "the objective's with zero"
+-- RULES, Global variance: the objective's sum starts with zero
 unfoldable pub hmmObj : Float → List Float → List Float → List Float → Float
 unfolding over
 hmmObj weight wum g par = over (λ t y. add binary64 y (hmmTerm weight (elem wum t) (elem g t) (elem par t))) (length par) nought
@@ -108,7 +108,7 @@ abbrev pub gvObj : Float → Float → Float → Float
 gvObj gvMean gvVari vari =
     mul binary64 (mul binary64 (mul binary64 (mul binary64 (neg half) W2) vari) gvVari) (sub binary64 vari (mul binary64 two gvMean))
 
--- 01, Global variance: "times 0.5 after a rise of the objective, 1.2 after a fall, unchanged when equal or NaN"
+-- RULES, Global variance: the size is halved where the objective rose, goes times 1.2 where it fell, and stays where it is equal or NaN
 unfoldable pub sizeAfter : Float → Float → Float → Float
 sizeAfter step prev obj = cond (lt prev obj) (mul binary64 step stepDec) (cond (lt obj prev) (mul binary64 step stepInc) step)
 

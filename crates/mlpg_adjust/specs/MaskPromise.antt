@@ -15,19 +15,19 @@ use Rattle.mlpg_adjust.specs.MaskBoundaries.{lefts, rights}
 use Rattle.mlpg_adjust.specs.Ends.{filled}
 use Rattle.mlpg_adjust.specs.declared.Filled.{Filled}
 
--- 01, Refusal numbers: 5 for a total above 65,536
+-- RULES, Refusals: 5 for more than 65,536 frames
 abbrev pub tooMany : ℕ → ℕ
 tooMany frames = cond (ltb 65536 frames) 5 0
 
--- 01, Refusal numbers: 6 for an output that is too short
+-- RULES, Refusals: 6 for an output that is too short
 abbrev pub tooShort : ℕ → List ℕ → ℕ
 tooShort frames out = cond (ltb (length out) frames) 6 0
 
--- 01, Refusal numbers: 3 for too many states, 4 for lists that disagree, 5
+-- RULES, Refusals: 3 for too many states, 4 for lists that disagree, 5 for too many frames
 unfoldable pub framesRefusal : ℕ → List ℕ → ℕ
 framesRefusal weights ds = cond (ltb 4096 (length ds)) 3 (cond (not (eqb weights (length ds))) 4 (tooMany (total ds)))
 
--- the smallest number that applies to `mask`
+-- RULES, Refusals: the smallest number that applies to `mask`
 abbrev pub maskRefusal : List Float → List ℕ → List ℕ → ℕ
 maskRefusal ws ds voiced = orElse (framesRefusal (length ws) ds) (tooShort (total ds) voiced)
 

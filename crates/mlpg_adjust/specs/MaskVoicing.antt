@@ -10,7 +10,7 @@ use Rattle.model.specs.Weight.{voicedAt}
 use Rattle.model.specs.Record.{fromLinear}
 use Rattle.mlpg_adjust.specs.Frames.{expand}
 
--- 01, Mask and boundaries: the frames' mask, each state's voicing once for each of its frames
+-- RULES, Mask: the frames' mask, each state's voicing once for each of its frames
 unfoldable pub maskOf : Float → List Weight → List ℕ → List Bool
 unfolding expand
 maskOf threshold weights durations = expand durations (map (voicedAt threshold) weights)

@@ -1,5 +1,5 @@
 -- The normal equations of the paper (doi 10.1109/ICASSP.2000.861820), W^T U^-1 W c = W^T U^-1 mu: which terms belong to them.
--- 01, Band rows and solving. Assumes nothing.
+-- RULES, Band rows. Assumes nothing.
 use Prim.Native.Nat.{ℕ, _+_, _-_, _*_, _/_}
 use mathlib.Core.Bool.{cond}
 use mathlib.Core.List.{List}
@@ -17,7 +17,7 @@ use Rattle.mlpg_adjust.specs.Rows.{elem, part, rows}
 unfoldable pub W : List Float → ℕ → ℕ → Float
 W taps f t = cond (ltb (t + length taps / 2) f) nought (getD taps (t + length taps / 2 - f) nought)
 
--- y with wu c added; 01: "zero taps skipped", "unless that tap is zero"
+-- RULES, Band rows: a zero tap adds nothing. y with wu c added, unless the tap c is zero
 abbrev pub added : Float → Float → Float → Float
 added wu c y = cond (eq c nought) y (add binary64 y (mul binary64 wu c))
 
@@ -44,7 +44,7 @@ unfoldable pub rightSum : List ℕ → List Float → ℕ → List Float → Lis
 unfolding rightTerm over total
 rightSum widths coefs n ivars means t = over (λ i. over (rightTerm (windowOf widths coefs i) (partOf n ivars i) (partOf n means i) t) n) (length widths) nought
 
--- entry (t, t + j) of the n by n matrix; 01: "unless .. t + j is past the end", where +0 stands
+-- RULES, Band rows: a column past the end gets nothing. Entry (t, t + j) of the n by n matrix, and +0 where t + j is past its end
 unfoldable pub entryOf : List ℕ → List Float → ℕ → List Float → ℕ → ℕ → Float
 unfolding entrySum
 entryOf widths coefs n ivars t j = cond (ltb (t + j) n) (entrySum widths coefs n ivars t (t + j)) nought

@@ -1,4 +1,4 @@
--- The global variance: rescaled values, then five steps. 01, Global variance; `parmgen` of `mlpg.rs`. Assumes nothing.
+-- The global variance: rescaled values, then five steps (`parmgen` of `mlpg.rs`). Assumes nothing.
 use Prim.Native.Nat.{ℕ, zero, suc}
 use mathlib.Core.Bool.{Bool, false, cond}
 use mathlib.Core.List.{List}
@@ -50,8 +50,8 @@ module _ (w : ℕ) (wuw wum : List Float) (on : List Bool) (windows : ℕ) (gvMe
       let size = sizeAfter step prev obj in
       state (nextStep (gradient w wuw par) size (meanOf on par) (variOf on par) par) size obj
 
-  -- 01: "No switched frame: the solved values stand. Else rescale, then exactly five steps, first size 0.1". Before the first objective stands NaN,
-  -- so that its size is kept too, as `if i > 1` says (`parmgen-literal`).
+  -- RULES, Global variance: with no switched frame the solved values stand; else they are rescaled, and exactly five steps follow, the first of size 0.1. Before
+  -- the first objective stands NaN, so that its size is kept too, as `if i > 1` says (`parmgen-literal`).
   unfoldable pub parmgen : List Float → List Float
   unfolding iterate turn convGv count
   parmgen par = cond (eqb (count on) 0) par (valuesOf (iterate turn 5 (state (convGv on gvMean par) stepInit nan)))

@@ -2,12 +2,12 @@
 use Prim.Native.Nat.{ℕ, zero, suc}
 use lib.Ieee.{Float, binary64, sub}
 
--- 01, Band rows: "windows in order", frames in order: g 0, g 1, .. g (n - 1) done to a float one after the other
+-- RULES, Band rows: windows and frames each in their order: g 0, g 1, .. g (n - 1) done to a float one after the other
 unfoldable pub over : (ℕ → Float → Float) → ℕ → Float → Float
 over g zero y = y
 over g (suc k) y = g k (over g k y)
 
--- 01, Band rows: "in their order, each operation rounded once": x less the terms T 0, T 1, .. T (k - 1) in this order
+-- RULES, Band rows: the solver's operations in the Rust's order, each rounded once: x less the terms T 0, T 1, .. T (k - 1) in this order
 unfoldable pub less : Float → (ℕ → Float) → ℕ → Float
 less x T zero = x
 less x T (suc k) = sub binary64 (less x T k) (T k)

@@ -18,13 +18,13 @@ use Rattle.mlpg_adjust.specs.declared.GlobalVariance.{GlobalVariance}
 use Rattle.mlpg_adjust.specs.declared.GlobalVariance.the-variants.{Off, On}
 use Rattle.mlpg_adjust.specs.declared.Stream.{Stream}
 
--- 01, Refusal numbers: "a record has windows × v pairs and, if masked, one weight"
+-- RULES, Pairs: how many numbers a record has: windows * v pairs and, in a masked stream, a weight
 abbrev pub recordSize : ℕ → ℕ → Bool → ℕ
 recordSize v windows masked = windows * v + windows * v + flag masked
 
 -- a stream of records of so many numbers, with its mask and windows
 module _ (size : ℕ) (records : List Float) (threshold : Float) (ds : List ℕ) where
-  -- 01, Mask and boundaries: which of the stream's frames are voiced
+  -- RULES, Mask: which of the stream's frames are voiced
   abbrev pub streamMask : List Bool
   streamMask = maskOf threshold (weightsOf size records (length ds)) ds
 
@@ -39,7 +39,7 @@ module _ (size : ℕ) (records : List Float) (threshold : Float) (ds : List ℕ)
     unfolding rows meansIn
     meansOf = rows (meansIn size records v component streamMask ds) (length widths)
 
-    -- 01, Mask and boundaries: "Voiced frames are then closed up and solved together": the matrix of their normal equations
+    -- RULES, Mask: all voiced frames, closed up, are solved together: the matrix of their normal equations
     unfoldable pub matrix : List Float
     unfolding bandRows ivarsOf
     matrix = bandRows widths coefs (count streamMask) ivarsOf (bandWidth widths)
@@ -49,24 +49,24 @@ module _ (size : ℕ) (records : List Float) (threshold : Float) (ds : List ℕ)
     unfolding rightSide ivarsOf meansOf
     side = rightSide widths coefs (count streamMask) ivarsOf meansOf
 
-    -- 01, Band rows and solving
+    -- RULES, Band rows: the values that solve them
     unfoldable pub solved : List Float
     unfolding solution matrix side
     solved = solution (bandWidth widths) matrix side
 
-    -- 01, Global variance: "Target mean is the GV mean × weight; the GV variance is used as given". The list is v means, then v variances
+    -- RULES, Global variance: the target mean is the GV mean times the weight, and the GV variance stays as given. The list is v means, then v variances
     unfoldable pub varied : Float → List Float → List ℕ → List Float
     unfolding parmgen select expand matrix side solved
     varied weight gv switches =
         parmgen (bandWidth widths) matrix side (map isOn (select streamMask (expand ds switches))) (length widths)
         (mul binary64 (elem gv component) weight) (elem gv (v + component)) solved
 
-  -- 01, Sizes: "frames × v numbers, place frame × v + component"; the voiced frames have each component's values, "the rest get the fill number"
+  -- RULES, Sizes: a trajectory has frames * v numbers, that of a frame and component at frame * v + component; unvoiced frames get the fill number
   unfoldable pub trajectory : ℕ → Float → (ℕ → List Float) → List Float
   unfolding build fill
   trajectory v none values = build (λ p. elem (fill none streamMask (values (p % v))) (p / v)) (total ds * v)
 
--- 01, Global variance: what f makes of the weight where GV is on, and x where it is off
+-- RULES, Global variance: what f makes of the weight where GV is on, and x where it is off
 abbrev pub withGv : {A : Type 0} → GlobalVariance → (Float → A) → A → A
 withGv Off f x = x
 withGv (On weight) f x = f weight
@@ -79,7 +79,7 @@ gvOn (On weight) = true
 abbrev pub sizeOf : Stream → List ℕ → ℕ
 sizeOf s widths = recordSize (s .v) (length widths) (s .masked)
 
--- 01, the trajectory of a stream: each component's values, with GV where it is on
+-- the trajectory of a stream: each component's values, with GV where it is on
 unfoldable pub numbersOf : Stream → List ℕ → List Float → List Float → List ℕ → List Float → List ℕ → List Float
 unfolding trajectory varied solved
 numbersOf s widths coefs records ds gv switches =

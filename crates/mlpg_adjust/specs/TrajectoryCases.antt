@@ -1,4 +1,4 @@
--- 01, case 10, from the records: windows (1) and (-0.5, 0, 0.5), three states of one frame each, first means 1, 2, 3, all other means and all variances 1.
+-- RULES, Cases: case 10 from the records: windows (1) and (-0.5, 0, 0.5), three states of one frame each, first means 1, 2, 3, all other means and all variances 1.
 -- Computed from the definitions.
 use mathlib.Core.Path.{_≡_, refl}
 use mathlib.Core.Bool.{false}

@@ -35,7 +35,7 @@ pub record Holds (size : ℕ) (records : List Float) (threshold : Float) (ds : L
   pub right : part (p .right) (count (streamMask size records threshold ds)) m ≡ side size records threshold ds v widths coefs component
   pub values : part (p .values) (count (streamMask size records threshold ds)) m ≡ solved size records threshold ds v widths coefs component
 
--- lists that 01 accepts: what refusals 1, 3, 4 and 5 leave
+-- lists that are accepted: what refusals 1, 3, 4 and 5 leave
 pub record Shaped (s : Stream) (widths : List ℕ) (coefs records : List Float) (ds : List ℕ) (gv : List Float) (switches : List ℕ) : Type 0 where
   pub some-v : 0 < s .v
   pub most-v : s .v ≤ 64
@@ -103,7 +103,7 @@ pub record Columned (f : ℕ → List Float) (v c : ℕ) (out : List Float) : Ty
   pub stands : (p : ℕ) → p < length out → p % v < c → elem out p ≡ elem (f (p % v)) (p / v)
 
 module _ {A : Type 0} where
-  -- 01, Sizes: a component's numbers stand at "frame × v + component": xs at the places p, p + v, p + 2 × v, and so on
+  -- RULES, Sizes: a component's numbers stand at frame * v + component: xs at the places p, p + v, p + 2 × v, and so on
   unfoldable pub setsBy : ℕ → ℕ → List A → List A → List A
   setsBy v p [] out = out
   setsBy v p (x ∷ xs) out = setsBy v (p + v) xs (set out p x)

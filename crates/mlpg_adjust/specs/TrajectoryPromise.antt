@@ -16,7 +16,7 @@ use Rattle.mlpg_adjust.specs.declared.Stream.{Stream}
 use Rattle.mlpg_adjust.specs.declared.Created.{Created}
 use Rattle.mlpg_adjust.specs.declared.Created.the-variants.{Done, Refused}
 
--- 01's number of each answer, 0 for none
+-- RULES, Forms: the number of each answer, 0 for none
 abbrev pub createdNumber : Created → ℕ
 createdNumber Done = 0
 createdNumber (Refused k) = k
@@ -26,39 +26,39 @@ abbrev pub createdOf : ℕ → Created
 createdOf zero = Done
 createdOf (suc k) = Refused (suc k)
 
--- 01, Sizes: "48 floats and 4 whole numbers a frame"
+-- RULES, Sizes: a trajectory's work space is 48 floats and 4 whole numbers a frame
 abbrev pub floatsAFrame : ℕ
 floatsAFrame = 48
 
 abbrev pub marksAFrame : ℕ
 marksAFrame = 4
 
--- 01, Refusal numbers: an accepted call "zeros the work space it is entitled to"
+-- RULES, Refusals: an accepted call zeros that much of the work space
 abbrev pub zeroFloats : ℕ → List Float
 zeroFloats frames = replicate (frames * floatsAFrame) nought
 
 abbrev pub zeroMarks : ℕ → List ℕ
 zeroMarks frames = replicate (frames * marksAFrame) 0
 
--- 01, Refusal numbers: 3, "too many states .. or v out of range"
+-- RULES, Refusals: 3 for too many states, or v out of range
 abbrev pub outOfRange : ℕ → ℕ → Bool
 outOfRange v states = ltb 4096 states || ltb v 1 || ltb 64 v
 
--- 01, Refusal numbers: 4 of GV's lists, "GV switches are one a state .. the GV list has v pairs". With GV off they are no input
+-- RULES, Refusals: 4 unless the GV list has v pairs and there is one switch a state. With GV off they are no input
 abbrev pub gvDisagrees : Stream → ℕ → ℕ → ℕ → Bool
 gvDisagrees s states gv switches = gvOn (s .gv) && (not (eqb gv (2 * s .v)) || not (eqb switches states))
 
--- 01, Refusal numbers: 4. Lists that are not looked into stand here by their lengths
+-- RULES, Refusals: 4 for list lengths that disagree. Lists that are not looked into stand here by their lengths
 unfoldable pub disagree : Stream → List ℕ → ℕ → ℕ → ℕ → ℕ → ℕ → Bool
 unfolding total
 disagree s widths coefs records states gv switches =
     not (eqb coefs (total widths)) || not (eqb records (states * sizeOf s widths)) || gvDisagrees s states gv switches
 
--- 01, Refusal numbers: 6, an output or work space that is too short
+-- RULES, Refusals: 6 for an output or work space that is too short
 abbrev pub short : ℕ → ℕ → ℕ → ℕ → ℕ → Bool
 short v frames out work marks = ltb out (frames * v) || ltb work (frames * floatsAFrame) || ltb marks (frames * marksAFrame)
 
--- 01, Refusal numbers: the smallest of 1 to 6 that applies, and 0 for none
+-- RULES, Refusals: the smallest of 1 to 6 that applies, and 0 for none
 unfoldable pub createRefusal : Stream → List ℕ → List Float → ℕ → List ℕ → ℕ → ℕ → ℕ → ℕ → ℕ → ℕ
 unfolding widthsFit allFinite disagree total
 createRefusal s widths coefs records ds gv switches out work marks =

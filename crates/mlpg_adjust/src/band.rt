@@ -74,7 +74,7 @@ fn write_rows(
     }
 }
 
-// How many frames the lists have, or 01's number of why they are refused.
+// How many frames the lists have, or the number of why they are refused.
 fn frames_of(widths: &[u32], coefficients: &[f64], means: usize, ivars: usize) -> Filled
     ensures { λ r. ⌜ r ≡ filledOf (setRefusal (now (widths .entry)) (now (coefficients .entry)) means ivars) (framesOf (now (widths .entry)) means) ⌝ }
 {

@@ -49,13 +49,13 @@ impl Stream {
     }
 }
 
-// How many frames lists were filled for, or 01's number of why none was.
+// How many frames lists were filled for, or the number of why none was.
 pub enum Filled {
     Done(u32),
     Refused(u8),
 }
 
-// Whether the trajectory is written, or 01's number of why not.
+// Whether the trajectory is written, or the number of why not.
 pub enum Created {
     Done,
     Refused(u8),
