@@ -86,30 +86,32 @@ fn print_answer(bytes: &[u8]) -> bool {
     }
 }
 
-// Answers the job that is read from a descriptor; name is what a message calls it.
+// Says on standard error what failed, with errno's text: a write that goes through leaves errno as it was.
+fn fail(what: &[u8]) {
+    io::write_all(STDERR_FILENO, b"spj: ");
+    os::fail(what);
+}
+
+// Answers the job that is read from a descriptor; name is what a message calls it. A file larger than any job fills the room, and is refused by its length.
 fn answer_from(fd: i32, name: &[u8]) {
     let mut room = [0u8; ROOM];
     let Input::Bytes(n) = read_all(fd, &mut room) else {
-        os::fail(name);
+        fail(name);
         return;
     };
-    if n == ROOM {
-        io::write_all(STDERR_FILENO, name);
-        io::write_all(
-            STDERR_FILENO,
-            b": larger than any job, which has 16399 bytes at most\n",
-        );
-        return;
-    }
     if !print_answer(&room[..n]) {
-        os::fail(b"standard output");
+        fail(b"standard output");
     }
+}
+
+fn answer_input() {
+    answer_from(STDIN_FILENO, b"standard input");
 }
 
 fn answer_file(path: &[u8]) {
     let fd = os::open_read(path);
     if fd < 0 {
-        os::fail(path);
+        fail(path);
         return;
     }
     answer_from(fd, path);
@@ -117,10 +119,41 @@ fn answer_file(path: &[u8]) {
 }
 
 fn print_help() {
-    io::write_all(
+    let printed = io::write_all(
         STDOUT_FILENO,
-        b"usage: spj [FILE]\n\nAnswers a job file, or standard input where no FILE is given. It prints the number of\nstates, of frames and of unit changes, and then each state's frames, one to a line;\nor one line such as 'refused 9' where the job is refused.\n",
+        b"usage: spj [FILE]\n\nAnswers a job file, or standard input where FILE is - or is not given. It prints the\nnumber of states, of frames and of unit changes, and then each state's frames, one to a\nline; or one line such as 'refused 9' where the job is refused. What can't be read or\nwritten is said on standard error. The exit status is 0 in any case.\n",
     );
+    if !printed {
+        fail(b"standard output");
+    }
+}
+
+fn refuse_option(option: &[u8]) {
+    io::write_all(STDERR_FILENO, b"spj: no such option: ");
+    io::write_all(STDERR_FILENO, option);
+    io::write_all(STDERR_FILENO, b"; see spj --help\n");
+}
+
+// Whether a word is this text.
+fn is(word: &[u8], text: &[u8]) -> bool {
+    word.len() == text.len() && lists::starts_with(word, text)
+}
+
+// Does what the only argument asks: what begins with a dash names no file.
+fn answer_word(word: &[u8]) {
+    if is(word, b"--help") {
+        print_help();
+        return;
+    }
+    if is(word, b"-") {
+        answer_input();
+        return;
+    }
+    if lists::starts_with(word, b"-") {
+        refuse_option(word);
+        return;
+    }
+    answer_file(word);
 }
 
 fn main() {
@@ -130,18 +163,14 @@ fn main() {
         return;
     }
     if words < 2 {
-        answer_from(STDIN_FILENO, b"standard input");
+        answer_input();
         return;
     }
-    let mut path = io::buffer();
-    let n = os::arg(1, &mut path);
+    let mut word = io::buffer();
+    let n = os::arg(1, &mut word);
     if os::errno() != 0 {
-        os::fail(b"FILE");
+        fail(b"FILE");
         return;
     }
-    if n == 6 && lists::starts_with(&path[..n], b"--help") {
-        print_help();
-        return;
-    }
-    answer_file(&path[..n]);
+    answer_word(&word[..n]);
 }

@@ -24,20 +24,8 @@ fail-requires c κs = search needs
 returns : tie.Need-returns
 returns c = search needs
 
-write-all-requires : tie.Need-write-all-requires
-write-all-requires c κs = search needs
-
-slice-aggregate-write-all : tie.Need-slice-aggregate-write-all
-slice-aggregate-write-all c = search needs
-
-write-all-requires-2 : tie.Need-write-all-requires-2
-write-all-requires-2 c κs = search needs
-
-returns-2 : tie.Need-returns-2
-returns-2 c = search needs
-
 array-share-prefix-room : tie.Need-array-share-prefix-room
-array-share-prefix-room c = within _ _ _ (c .before .before .n .given .1) (c .before .before .before .before .before .read-all .ensures)
+array-share-prefix-room c = within _ _ _ (c .before .n .given .1) (c .before .before .before .before .read-all .ensures)
 
 slice-aggregate-print-answer : tie.Need-slice-aggregate-print-answer
 slice-aggregate-print-answer c = sym (length-take-le _ _ (array-share-prefix-room (c .before)))
@@ -51,11 +39,11 @@ slice-aggregate-fail c = search needs
 fail-requires-2 : tie.Need-fail-requires-2
 fail-requires-2 c κs = search needs
 
+returns-2 : tie.Need-returns-2
+returns-2 c = search needs
+
 returns-3 : tie.Need-returns-3
 returns-3 c = search needs
-
-returns-4 : tie.Need-returns-4
-returns-4 c = search needs
 
 pub answer-from-spec : {M : Type 1} → statement M
 answer-from-spec =
@@ -67,14 +55,10 @@ answer-from-spec =
     enum-told
     fail-requires
     returns
-    write-all-requires
-    slice-aggregate-write-all
-    write-all-requires-2
-    returns-2
     array-share-prefix-room
     slice-aggregate-print-answer
     print-answer-requires
     slice-aggregate-fail
     fail-requires-2
-    returns-3
-    returns-4)
+    returns-2
+    returns-3)
