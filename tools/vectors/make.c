@@ -11,7 +11,7 @@
 //     6  a - b; that of two infinities is a NaN with the machine's own bits, whatever these are
 //     7  a read from its eight bytes, starting at byte b; bytes past the end count as 0
 //     8  a written over eight bytes 0x5a, starting at byte b, as far as there is room
-// The random operands come from a fixed seed, so that the file is the same each time.
+// The random operands come from a fixed seed, so that the file is the same each time. The last vector, and it alone, has a wrong answer.
 #include <mpfr.h>
 #include <stdint.h>
 #include <stdio.h>
@@ -136,17 +136,19 @@ static uint64_t answer(enum kind kind, uint64_t a, uint64_t b) {
 
 static unsigned counts[KINDS];
 
-static void put2(enum kind kind, uint64_t a, uint64_t b) {
+static void put3(enum kind kind, uint64_t a, uint64_t b, uint64_t right) {
     uint8_t vector[25] = {(uint8_t)kind};
     spell(a, vector + 1);
     spell(b, vector + 9);
-    spell(answer(kind, a, b), vector + 17);
+    spell(right, vector + 17);
     if (fwrite(vector, sizeof vector, 1, stdout) != 1) {
         perror("make");
         exit(1);
     }
     counts[kind]++;
 }
+
+static void put2(enum kind kind, uint64_t a, uint64_t b) { put3(kind, a, b, answer(kind, a, b)); }
 
 static void put(enum kind kind, uint64_t a) { put2(kind, a, 0); }
 
@@ -194,7 +196,7 @@ static uint64_t draw_float(uint64_t first, uint64_t count) {
     return field * UNIT | draw_fraction();
 }
 
-// What document 01 names, and what it computes with.
+// What the rules name, and what they compute with.
 static void named(void) {
     const double values[] = {0.49999999999999994, 2.5, 2.4, 0.5, 1.5, 1, 1e19, 1e-19, 1e38, 65535.5, 65536, 65536.5, 65537,
                              8, 7, 6, 3.4, 0.1, 1.2, 0.25, 4, 5, 13421772, 13421773, 4294967296.0, 4294967360.0, 1e15, 1e300};
@@ -346,6 +348,12 @@ static void places(void) {
     }
 }
 
+// A vector whose answer is wrong in its lowest bit: a replay that compares nothing would not count it.
+static void wrong(void) {
+    const uint64_t two = bits_of(2);
+    put3(ROOT, two, 0, root(two) ^ 1);
+}
+
 int main(void) {
     start_mpfr();
     named();
@@ -358,6 +366,7 @@ int main(void) {
     order();
     differences();
     places();
+    wrong();
     mpfr_clears(x, y, z, (mpfr_ptr)0);
     for (int kind = FRAMES; kind < KINDS; kind++) fprintf(stderr, "%6u %s\n", counts[kind], kind_names[kind]);
     if (fflush(stdout) != 0) {
