@@ -1,5 +1,6 @@
 -- What the proofs of several functions use: laws on numbers and on a float's bit pattern.
 pub mod Fields
+pub mod Patterns
 pub mod Halves
 pub mod Nearest
 pub mod Whole

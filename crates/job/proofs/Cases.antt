@@ -1,4 +1,4 @@
--- 01's worked job, and departures from it, computed. Assumes nothing.
+-- The rules' worked job, and departures from it, computed. Assumes nothing.
 use mathlib.Core.Path.{_≡_, refl}
 use mathlib.Core.List.{List, [], _∷_, _++_}
 use Prim.Native.Nat.{ℕ}
@@ -21,7 +21,7 @@ use Rattle.job.specs.Format.{floatsAt, Job, formatRefusal}
 use Rattle.job.specs.Written.{bytesOfPairs, bytesOfHeading, bytesOfJob}
 use Rattle.job.specs.Promise.{JobSays}
 
--- 01, Places and the job file: "States (2,1), (3,1) at speed 0.5"
+-- RULES, Job file: the worked job has the means 2 and 3, both variances 1, and speed 0.5
 abbrev worked : Job
 worked = record { speed = ofBits binary64 0x3fe0_0000_0000_0000; means = number 2 ∷ number 3 ∷ []; varis = number 1 ∷ number 1 ∷ [] }
 
@@ -46,7 +46,7 @@ sevens = 7 ∷ 7 ∷ 7 ∷ []
 abbrev nines : List ℕ
 nines = 9 ∷ 9 ∷ 9 ∷ []
 
--- 01, Places and the job file: "states 2, frames 10, changes 1, 4, 6"
+-- RULES, Job file: it comes to 2 states and 10 frames after 1 change: 4 and 6
 pub worked-job : JobSays bytes sevens nines (Done 2 10 1) (4 ∷ 6 ∷ 7 ∷ []) (0 ∷ 0 ∷ 9 ∷ [])
 unfolding formatRefusal startsWith little floatsAt build workOf refusalOfLists refusalAt fitAt naturals targetAt refusalTo fitTo settle step keys keyOf leastOf costBelow absOf total startOf estimates roundedOf sumOf foldFrom pairsOf ofBits ofInt add sub mul div lt eq isNan
 worked-job = record { answer = refl; output = refl; workspace = refl }

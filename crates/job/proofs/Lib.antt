@@ -5,4 +5,5 @@ pub mod Frames
 pub mod Answers
 pub mod Outcomes
 pub mod Written
+pub mod Rewritten
 pub mod Cases

@@ -11,7 +11,7 @@ use Rattle.lists.proofs.Bytes.{bytes-length, little-bytes}
 use Rattle.lists.proofs.Builds.{build-is}
 use Rattle.floats.proofs.Fields.{bytes-back}
 use Rattle.job.specs.Format.{floatAt, floatsAt, mark, version, countOf, IsJob, Job, jobOf, formatRefusal}
-use Rattle.job.specs.Written.{bytesOfFloat, bytesOfPairs, bytesOfHeading, bytesOfJob, Writable}
+use Rattle.job.specs.Written.{bytesOfFloat, bytesOfPairs, bytesOfHeading, bytesOfJob, Writable, Bytes}
 use Rattle.job.proofs.Departures.{job-accepted}
 
 -- ---- lengths
@@ -110,9 +110,6 @@ module _ (j : Job) (w : Writable j) where
   written-accepted = job-accepted (bytesOfJob j) written-job
 
 -- ---- each number that is written is a byte
-
-abbrev pub Bytes : List ℕ → Type 0
-Bytes xs = (i : ℕ) → getD xs i 0 < 256
 
 bytes-append : (xs ys : List ℕ) → Bytes xs → Bytes ys → Bytes (xs ++ ys)
 bytes-append [] ys p q i = q i

@@ -12,7 +12,7 @@ use Rattle.job.specs.declared.Answered.{Answered}
 use Rattle.job.specs.declared.Answered.the-variants.{Done, Refused}
 use Rattle.job.specs.Format.{Job, jobOf, formatRefusal}
 
--- 01, Places and the job file: what a job prints, "states", "frames" and "changes"; a refusal its number
+-- RULES, Job file: a job that is answered prints its states, its frames and its changes, one that is refused its number
 abbrev pub answered : Answered → Answer
 answered (Done states frames changes) = record { number = 0; values = states ∷ frames ∷ changes ∷ [] }
 answered (Refused number) = record { number = number; values = [] }
@@ -24,7 +24,7 @@ fitOf j = fitAt (j .means) (j .varis) (j .speed)
 abbrev pub refusalOf : Job → List ℕ → List ℕ → ℕ
 refusalOf j out work = orElse (refusalOfLists (length (j .means)) (length (j .varis)) (length out) (length work)) (refusalAt (j .means) (j .varis) (j .speed))
 
--- 01, Refusal numbers: "a job's 9 before all others"
+-- RULES, Refusals: of a job 9 comes first, whatever else applies
 abbrev pub JobSays : List ℕ → List ℕ → List ℕ → Answered → List ℕ → List ℕ → Type 0
 JobSays bytes out work r =
     let j = jobOf bytes in

@@ -1,24 +1,24 @@
 -- The job file from the other side: the bytes of a job. Assumes nothing.
 use mathlib.Core.Path.{_≡_}
 use mathlib.Core.List.{List, [], _∷_, _++_}
-use Prim.Native.Nat.{ℕ, _≤_}
+use Prim.Native.Nat.{ℕ, _+_, _*_, _%_, _^_, _≤_, _<_}
 use lib.Dec.{T}
 use lib.ListN.{length, getD}
 use lib.Ieee.{Float, nan, binary64, fits, toBits}
 use Rattle.lists.specs.Bytes.{bytesOf}
-use Rattle.job.specs.Format.{mark, version, mostStates, Job}
+use Rattle.job.specs.Format.{patternAt, mark, version, countOf, mostStates, Job}
 
--- 01, Places and the job file: "f64 bits", little-endian
+-- RULES, Job file: a float stands as its pattern
 abbrev pub bytesOfFloat : Float → List ℕ
 bytesOfFloat x = bytesOf 8 (toBits binary64 x)
 
--- 01, Places and the job file: "mean and variance a state"
+-- RULES, Job file: a mean and then its variance, state after state
 unfoldable pub bytesOfPairs : List Float → List Float → List ℕ
 bytesOfPairs [] vs = []
 bytesOfPairs (m ∷ ms) [] = []
 bytesOfPairs (m ∷ ms) (v ∷ vs) = (bytesOfFloat m ++ bytesOfFloat v) ++ bytesOfPairs ms vs
 
--- 01, Places and the job file: "the three bytes SPJ, version (16 bits) 1, state count (16 bits), speed (f64 bits)"
+-- RULES, Job file: the mark, the version, the number of states and the speed
 unfoldable pub bytesOfHeading : ℕ → Float → List ℕ
 bytesOfHeading count speed = mark ++ (bytesOf 2 version ++ (bytesOf 2 count ++ bytesOfFloat speed))
 
@@ -32,3 +32,16 @@ pub record Writable (j : Job) : Type 0 where
   pub speed : T (fits binary64 (j .speed))
   pub means : (i : ℕ) → T (fits binary64 (getD (j .means) i nan))
   pub varis : (i : ℕ) → T (fits binary64 (getD (j .varis) i nan))
+
+-- each number is a byte
+abbrev pub Bytes : List ℕ → Type 0
+Bytes xs = (i : ℕ) → getD xs i 0 < 256
+
+-- a pattern is no NaN's, which are those above infinity's, the sign aside; or it is the one that is written for every NaN
+abbrev pub OneNan : ℕ → Type 0
+OneNan pattern = 0x7ff0_0000_0000_0000 < pattern % 2 ^ 63 → pattern ≡ 0x7ff8_0000_0000_0000
+
+-- bytes whose numbers of eight bytes, the speed and two a state, have no NaN but that one
+pub record Plain (bytes : List ℕ) : Type 0 where
+  pub each : Bytes bytes
+  pub nans : (i : ℕ) → i < 1 + 2 * countOf bytes → OneNan (patternAt bytes (7 + 8 * i))

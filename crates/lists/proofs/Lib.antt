@@ -8,6 +8,7 @@ pub mod Regions
 pub mod Sums
 pub mod Rows
 pub mod Bytes
+pub mod Spelled
 pub mod Fronts
 pub mod Answers
 pub mod Refusals
