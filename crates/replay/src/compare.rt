@@ -1,12 +1,12 @@
 // Fronts of lists, and whether lists are the same.
 ghost use mathlib.Core.Path.{_≡_};
 ghost use lib.Ieee.{binary64, toBits};
-ghost use lib.ListN.{take};
+ghost use Rattle.lists.specs.Parts.{PartSays};
 ghost use Rattle.replay.specs.Same.{same, number};
 
 // The first n numbers, as far as there are any: a part of the lent list itself.
 pub fn front_u32<'a>(s: &'a [u32], n: usize) -> &'a [u32]
-    ensures { λ r. ⌜ now r ≡ take n (now (s .entry)) ⌝ }
+    ensures { λ r. ⌜ PartSays 4 (s .entry) 0 n r ⌝ }
 {
     let end = lists::least(n, s.len());
     &s[..end]
