@@ -15,7 +15,7 @@ pub mod Closing
 pub mod Along
 pub mod Settling
 pub mod Alone
-pub mod Demand3
+pub mod Fairness
 pub mod Speeds
 pub mod Cases
 pub mod Roundings

@@ -24,7 +24,7 @@ use Rattle.duration.specs.Speed.{naturals, targetAt, fitAt, refusalAt}
 use Rattle.duration.proofs.Estimates.{length-estimates}
 use Rattle.duration.proofs.Settling.{Positive}
 use Rattle.duration.proofs.Settling.Positive.{none, more}
-use Rattle.duration.proofs.Demand3.{estimates-positive}
+use Rattle.duration.proofs.Fairness.{estimates-positive}
 
 -- ---- below zero all counts of frames are 1
 

@@ -1,4 +1,4 @@
--- Demand 3: what a fit to a target above the count comes to. Assumes nothing.
+-- RULES, Durations: the theorem of the fit, which is what a fit to a target above the count comes to. Assumes nothing.
 use mathlib.Core.Path.{_≡_}
 use mathlib.Core.Logic.{_⊎_}
 use mathlib.Core.List.{List, [], _∷_, _++_}
@@ -50,7 +50,7 @@ pub data FairAlong (ms vs : List Float) : List Group → ℕ → List ℕ → �
       → FairAlong ms vs gs (frames + total ds) es k
       → FairAlong ms vs (g ∷ gs) frames (ds ++ es) (c + k)
 
--- what demand 3 takes: lists within the sizes that agree, room, and a target above the count that is not refused
+-- what the theorem takes: lists within the sizes that agree, room, and a target above the count that is not refused
 pub record Ample (ms vs : List Float) (t : ℕ) (out work : List ℕ) : Type 0 where
   pub some : 0 < length ms
   pub few : length ms ≤ 4096

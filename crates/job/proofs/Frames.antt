@@ -16,7 +16,7 @@ use Rattle.duration.specs.Fit.{mostFrames, startOf, plain, fitTo, refusalTo}
 use Rattle.duration.specs.Speed.{naturals, targetAt, fitAt, refusalAt}
 use Rattle.duration.proofs.Refusals.{cond-none}
 use Rattle.duration.proofs.Estimates.{length-estimates}
-use Rattle.duration.proofs.Demand3.{fair-fit}
+use Rattle.duration.proofs.Fairness.{fair-fit}
 
 pub record Bounded (n : ℕ) (o : Outcome) : Type 0 where
   pub count : length (o .durations) ≡ n

@@ -1,4 +1,4 @@
--- Demand 3: what a fit to a target above the count comes to, and with it a speed and each group of an alignment. Assumes nothing.
+-- The theorem of the fit: what a fit to a target above the count comes to, and with it a speed and each group of an alignment. Assumes nothing.
 use mathlib.Core.Path.{_≡_, refl, sym, ap, _∙_, subst}
 use mathlib.Core.Bool.{true, false, cond}
 use mathlib.Core.Logic.{inl, inr, ⊎-elim}
@@ -170,17 +170,17 @@ module _ (ms vs : List Float) (t : ℕ) (out work : List ℕ) (m : Ample ms vs t
         fair = g;
       }
 
--- Demand 3, of every outcome that the fit's promise allows
-pub demand-3 : (ms vs : List Float) (len : Float) (out work : List ℕ) (r : Fitted) (out′ work′ : List ℕ) → Ample ms vs (roundedOf len) out work → FitSays ms vs len out work r out′ work′ → Accepted ms vs (roundedOf len) out r out′
-demand-3 ms vs len out work r out′ work′ m f =
+-- The theorem of the fit, of every outcome that the fit's promise allows
+pub fit-theorem : (ms vs : List Float) (len : Float) (out work : List ℕ) (r : Fitted) (out′ work′ : List ℕ) → Ample ms vs (roundedOf len) out work → FitSays ms vs len out work r out′ work′ → Accepted ms vs (roundedOf len) out r out′
+fit-theorem ms vs len out work r out′ work′ m f =
     accepted ms vs (roundedOf len) out work m _ r out′ work′ (rw (lists-none ms vs (roundedOf len) out work m) (fit-none ms vs (roundedOf len) out work m)) f
 
 -- the same at a speed other than 1
-pub demand-3-speed : (ms vs : List Float) (speed : Float) (out work : List ℕ) (r : Fitted) (out′ work′ : List ℕ)
+pub speed-theorem : (ms vs : List Float) (speed : Float) (out work : List ℕ) (r : Fitted) (out′ work′ : List ℕ)
     → Ample ms vs (targetAt ms vs speed) out work → total (naturals ms vs) ≤ mostFrames → eq speed one ≡ false
     → SpeedSays ms vs speed out work r out′ work′ → Accepted ms vs (targetAt ms vs speed) out r out′
 unfolding fitAt refusalAt
-demand-3-speed ms vs speed out work r out′ work′ m n e f =
+speed-theorem ms vs speed out work r out′ work′ m n e f =
     let t : ℕ = targetAt ms vs speed in
     let k : ℕ = orElse (refusalOfLists (length ms) (length vs) (length out) (length work)) (refusalAt ms vs speed) in
     let z : k ≡ 0 = rw (lists-none ms vs t out work m, le-ltb mostFrames (total (naturals ms vs)) n, e) (fit-none ms vs t out work m) in
@@ -228,9 +228,9 @@ module _ (ms vs : List Float) (agree : length vs ≡ length ms) (k : ℕ) (some 
             (along-fair (first + k) (first + k) (frames + total (fitOf ms vs g frames .durations)) xs (omega arith) (omega (arith, suc-mul (length xs) k)) (r .1))
       ]
 
-pub demand-3-align : (ms vs : List Float) (nstate : ℕ) (ends : List Float) (out work : List ℕ) (r : Aligned) (out′ work′ : List ℕ) → aligned r .number ≡ 0
+pub align-theorem : (ms vs : List Float) (nstate : ℕ) (ends : List Float) (out work : List ℕ) (r : Aligned) (out′ work′ : List ℕ) → aligned r .number ≡ 0
     → AlignSays ms vs nstate ends out work r out′ work′ → AcceptedAlong ms vs (groups nstate 0 0 ends) out r out′
-demand-3-align ms vs nstate ends out work r out′ work′ z f =
+align-theorem ms vs nstate ends out work r out′ work′ z f =
     let gs : List Group = groups nstate 0 0 ends in
     let o : Outcome = fitAlong ms vs gs 0 in
     let k : ℕ = orElse (refusalOfLabels nstate (length ends) (length ms) (length vs) (length out) (length work)) (refusalAlong ms vs gs 0) in
