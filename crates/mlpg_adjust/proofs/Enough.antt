@@ -1,14 +1,15 @@
--- The band is enough: windows of at most w taps have nothing w columns away or further, so its rows hold every term of the paper's sum. Assumes nothing.
+-- The band is enough: its rows hold every term of the paper's sum, since nothing is that many columns away or further. Assumes nothing.
 use mathlib.Core.Path.{_≡_}
 use mathlib.Core.List.{List}
 use mathlib.Core.Logic.{⊎-elim}
 use Prim.Native.Nat.{ℕ, _+_, _/_, _<_, _≤_}
 use native.Mathlib.Omega.{arith}
-use lib.ListN.{length, getD, length-take}
+use lib.ListN.{length, length-take}
 use lib.Ieee.{Float, eq}
 use Rattle.lists.proofs.Numbers.{le-or-lt}
 use Rattle.floats.specs.Numbers.{nought}
-use Rattle.model.specs.Windows.{windowOf}
+use Rattle.model.specs.Windows.{bandWidth, windowOf}
+use Rattle.model.proofs.Windows.{width-in-band}
 use Rattle.mlpg_adjust.specs.Sums.{over}
 use Rattle.mlpg_adjust.specs.Paper.{W, term, partOf, entrySum}
 use Rattle.mlpg_adjust.proofs.Orders.{over-idle}
@@ -27,8 +28,9 @@ module _ (taps ivars : List Float) (t s : ℕ) (far : t + length taps ≤ s) whe
   unfolding over
   window-far n y = over-idle (term taps ivars t s) 0 n y (omega arith) (λ f z g h. term-far f z)
 
-module _ (widths : List ℕ) (coefs : List Float) (n : ℕ) (ivars : List Float) (w : ℕ) (narrow : (i : ℕ) → i < length widths → getD widths i 0 ≤ w) (t s : ℕ) (far : t + w ≤ s) where
+-- the band's own width is enough, whatever the windows
+module _ (widths : List ℕ) (coefs : List Float) (n : ℕ) (ivars : List Float) (t s : ℕ) (far : t + bandWidth widths ≤ s) where
   pub band-enough : entrySum widths coefs n ivars t s ≡ nought
   unfolding entrySum over
   band-enough = over-idle (λ i. over (term (windowOf widths coefs i) (partOf n ivars i) t s) n) 0 (length widths) nought (omega arith)
-      (λ i y g h. window-far (windowOf widths coefs i) (partOf n ivars i) t s (simp length-take (omega (arith, narrow i h))) n y)
+      (λ i y g h. window-far (windowOf widths coefs i) (partOf n ivars i) t s (simp length-take (omega (arith, width-in-band widths i))) n y)

@@ -10,22 +10,13 @@ ghost use Rattle.mlpg_adjust.specs.BandPromise.{framesOf, setRefusal, Ba
 use super::Filled;
 use super::mlpg::band_row;
 
-// x: a NaN that is handed out has the bits 0x7FF8000000000000.
-fn plain(x: f64) -> f64
-    ensures { λ r. ⌜ r ≡ x ⌝ }
-{
-    if x != x {
-        return 0.0 / 0.0;
-    }
-    x
-}
-
+// Each number as it is handed out.
 fn settle(row: &mut [f64])
     ensures { λ _. ⌜ now (row .exit) ≡ now (row .entry) ⌝ }
 {
     let mut j = 0;
     while j < row.len() {
-        row[j] = plain(row[j]);
+        row[j] = floats::one_nan(row[j]);
         j += 1;
     }
 }
@@ -46,7 +37,7 @@ fn settled_row(
 {
     let x = band_row(widths, coefficients, ivars, means, n, t, row);
     settle(row);
-    plain(x)
+    floats::one_nan(x)
 }
 
 fn write_rows(

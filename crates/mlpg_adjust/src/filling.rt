@@ -6,16 +6,6 @@ ghost use Rattle.mlpg_adjust.specs.Frames.{fill, count};
 ghost use Rattle.mlpg_adjust.specs.TrajectoryInner.{setsBy, setsLanes};
 ghost use Rattle.mlpg_adjust.specs.Rows.{part};
 
-// The same number; a NaN with the bits 0x7FF8000000000000, which are what the division gives.
-fn handed_out(x: f64) -> f64
-    ensures { λ r. ⌜ r ≡ x ⌝ }
-{
-    if x != x {
-        return 0.0 / 0.0;
-    }
-    x
-}
-
 // Values at the places p, p + v, and so on.
 fn put_column(values: &[f64], v: usize, p: usize, out: &mut [f64])
     requires { ⌜ (v ≤ 64) × (p + length (now values) * v < length (now out) + v) ⌝ }
@@ -24,7 +14,7 @@ fn put_column(values: &[f64], v: usize, p: usize, out: &mut [f64])
     let mut j = 0;
     let mut q = p;
     while j < values.len() {
-        let x = handed_out(values[j]);
+        let x = floats::one_nan(values[j]);
         out[q] = x;
         q += v;
         j += 1;
@@ -74,7 +64,7 @@ fn spread_lanes(none: f64, d: usize, lanes: usize, v: usize, p: usize, out: &mut
     requires { ⌜ (v ≤ 64) × (lanes ≤ v) × (p + d * v + lanes ≤ length (now out) + v) ⌝ }
     ensures { λ _. ⌜ now (out .exit) ≡ setsLanes v p (λ l. replicate d none) lanes (now (out .entry)) ⌝ }
 {
-    let x = handed_out(none);
+    let x = floats::one_nan(none);
     let mut l = 0;
     while l < lanes {
         spread_column(x, d, v, p + l, out);

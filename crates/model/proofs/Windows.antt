@@ -1,8 +1,8 @@
 -- Laws of window sets. Assumes nothing.
 use mathlib.Core.Path.{_≡_, refl, sym, ap, _∙_}
-use mathlib.Core.List.{List}
+use mathlib.Core.List.{List, [], _∷_}
 use mathlib.Core.Bool.{Bool, true, false, not, _&&_, true≢false}
-use Prim.Native.Nat.{ℕ, _+_, _^_, _<_, _≤_, min}
+use Prim.Native.Nat.{ℕ, zero, suc, _+_, _*_, _/_, _^_, _<_, _≤_, min, max}
 use native.Mathlib.Numerals.{add-one}
 use native.Mathlib.Omega.{arith}
 use borrow.Author.Tests.{le-leb, lt-leb, leb-true, eq-eqb, ne-eqb, not-true, not-false}
@@ -10,10 +10,11 @@ use lib.Dec.{leb}
 use lib.ListN.{length, take, drop, getD, drop-of-length-le, length-take, List·getD-eq-default}
 use lib.Seq.{drop-cons, getD-take}
 use lib.Ieee.{Float, nan, inf, fin, lt}
+use Rattle.lists.specs.Build.{foldFrom}
 use Rattle.lists.specs.Totals.{total}
 use Rattle.lists.proofs.Parts.{take-min, take-both}
 use Rattle.lists.proofs.Sums.{total-whole}
-use Rattle.model.specs.Windows.{between, allOf, finite, widthsFit, allFinite, windowRefusal, widthOf, startOf}
+use Rattle.model.specs.Windows.{between, allOf, finite, widthsFit, allFinite, windowRefusal, longest, bandWidth, widthOf, startOf}
 
 -- ---- a loop that tests each item: what the items from i on say is what all say
 
@@ -121,3 +122,20 @@ module _ (ws : List ℕ) (cs : List Float) (f : Bool) (e : f ≡ widthsFit ws) w
       pub refused-none : t ≡ length cs → _≡_ {A = ℕ} 0 (windowRefusal ws cs)
       unfolding windowRefusal
       refused-none x = rw (← e, not-false f n, ← d, not-false g m, ← summed, eq-eqb (length cs) t (sym x))
+
+-- ---- no window is longer than the longest, and the longest is within the band
+
+fold-start : (a : ℕ) (xs : List ℕ) → a ≤ foldFrom max a xs
+unfolding foldFrom
+fold-start a [] = omega arith
+fold-start a (x ∷ xs) = omega (arith, fold-start (max a x) xs)
+
+fold-most : (a : ℕ) (xs : List ℕ) (i : ℕ) → getD xs i 0 ≤ foldFrom max a xs
+unfolding foldFrom
+fold-most a [] i = omega arith
+fold-most a (x ∷ xs) zero = omega (arith, fold-start (max a x) xs)
+fold-most a (x ∷ xs) (suc i) = fold-most (max a x) xs i
+
+pub width-in-band : (widths : List ℕ) (i : ℕ) → getD widths i 0 ≤ bandWidth widths
+unfolding longest
+width-in-band widths i = omega (arith, fold-most 0 widths i)

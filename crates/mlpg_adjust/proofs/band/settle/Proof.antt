@@ -18,14 +18,14 @@ abbrev μ-loop : tie.MeasureT-loop
 loop-holds : tie.Need-loop-holds Inv-loop μ-loop
 loop-holds c = search needs
 
-mul-plain : tie.Need-mul-plain Inv-loop μ-loop
-mul-plain c = search needs
+mul-one-nan : tie.Need-mul-one-nan Inv-loop μ-loop
+mul-one-nan c = search needs
 
-slice-read-plain : tie.Need-slice-read-plain Inv-loop μ-loop
-slice-read-plain c = search needs
+slice-read-one-nan : tie.Need-slice-read-one-nan Inv-loop μ-loop
+slice-read-one-nan c = search needs
 
-plain-requires : tie.Need-plain-requires Inv-loop μ-loop
-plain-requires c κs = search needs
+one-nan-requires : tie.Need-one-nan-requires Inv-loop μ-loop
+one-nan-requires c κs = search needs
 
 mul-row : tie.Need-mul-row Inv-loop μ-loop
 mul-row c = search needs
@@ -40,7 +40,7 @@ loop-less : tie.Need-loop-less Inv-loop μ-loop
 loop-less c = search needs
 
 loop-again : tie.Need-loop-again Inv-loop μ-loop
-loop-again c = let l = c .before .before .before .loop in (simp length-set (omega arith), simp length-set (l .inv .1), rw (c .plain .ensures) (set-getD (l .row) (l .j) nan ∙ l .inv .2))
+loop-again c = let l = c .before .before .before .loop in (simp length-set (omega arith), simp length-set (l .inv .1), rw (c .one-nan .ensures) (set-getD (l .row) (l .j) nan ∙ l .inv .2))
 
 same-length : tie.Need-same-length Inv-loop μ-loop
 same-length c = search needs
@@ -55,9 +55,9 @@ settle-spec =
     Inv-loop
     μ-loop
     loop-holds
-    mul-plain
-    slice-read-plain
-    plain-requires
+    mul-one-nan
+    slice-read-one-nan
+    one-nan-requires
     mul-row
     slice-write-row
     add-j

@@ -10,15 +10,15 @@ band-row-requires c κs = search needs
 settle-requires : tie.Need-settle-requires
 settle-requires c κs = search needs
 
-plain-requires : tie.Need-plain-requires
-plain-requires c κs = search needs
+one-nan-requires : tie.Need-one-nan-requires
+one-nan-requires c κs = search needs
 
 same-length : tie.Need-same-length
 same-length c = search needs
 
 returns : tie.Need-returns
-returns c = let e = c .before .before .before .before .before .before .before .band-row .ensures in (c .before .before .before .settle .ensures ∙ e .0, c .plain .ensures ∙ e .1)
+returns c = let e = c .before .before .before .before .before .before .before .band-row .ensures in (c .before .before .before .settle .ensures ∙ e .0, c .one-nan .ensures ∙ e .1)
 
 pub settled-row-spec : {M : Type 1} → statement M
 settled-row-spec =
-    tie.close (tie.spec band-row-requires settle-requires plain-requires same-length returns)
+    tie.close (tie.spec band-row-requires settle-requires one-nan-requires same-length returns)

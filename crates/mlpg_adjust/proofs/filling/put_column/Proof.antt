@@ -16,20 +16,20 @@ Inv-loop values v p out₀ j₀ q₀ out j q = (j ≤ length values) × (q ≡ p
 abbrev μ-loop : tie.MeasureT-loop
 μ-loop values v p out₀ j₀ q₀ out j q = length values - j
 
-here : (c : tie.After-handed-out Inv-loop μ-loop) → c .before .before .before .loop .q < length (c .before .before .before .loop .out)
+here : (c : tie.After-one-nan Inv-loop μ-loop) → c .before .before .before .loop .q < length (c .before .before .before .loop .out)
 here c = column-in (c .before .before .before .before .before .before .args .p) _ _ (length (c .before .before .before .before .before .before .args .values .now)) (c .before .before .before .before .before .before .args .v) _ (c .before .before .before .loop .inv .1) (c .before .before .loop-test .taken) (omega (arith, c .before .before .before .before .before .before .pre .1, c .before .before .before .loop .inv .2))
 
 loop-holds : tie.Need-loop-holds Inv-loop μ-loop
 loop-holds c = (search needs, omega (arith, zero-mul (c .before .before .args .v)), refl, refl)
 
-mul-handed-out : tie.Need-mul-handed-out Inv-loop μ-loop
-mul-handed-out c = search needs
+mul-one-nan : tie.Need-mul-one-nan Inv-loop μ-loop
+mul-one-nan c = search needs
 
-shared-slice-read-handed-out : tie.Need-shared-slice-read-handed-out Inv-loop μ-loop
-shared-slice-read-handed-out c = search needs
+shared-slice-read-one-nan : tie.Need-shared-slice-read-one-nan Inv-loop μ-loop
+shared-slice-read-one-nan c = search needs
 
-handed-out-requires : tie.Need-handed-out-requires Inv-loop μ-loop
-handed-out-requires c κs = search needs
+one-nan-requires : tie.Need-one-nan-requires Inv-loop μ-loop
+one-nan-requires c κs = search needs
 
 mul-out : tie.Need-mul-out Inv-loop μ-loop
 mul-out c = record { fits = omega (arith, here c) }
@@ -53,7 +53,7 @@ loop-again c =
       search needs,
       column-next (s .p) (l .q) (l .j) (s .v) (l .inv .1),
       search needs,
-      rw (c .handed-out .ensures) (put-next (s .v) (l .q) (l .j) (s .values .now) (l .out) _ _ (c .before .before .loop-test .taken) (l .inv .3)),
+      rw (c .one-nan .ensures) (put-next (s .v) (l .q) (l .j) (s .values .now) (l .out) _ _ (c .before .before .loop-test .taken) (l .inv .3)),
     )
 
 same-length : tie.Need-same-length Inv-loop μ-loop
@@ -69,9 +69,9 @@ put-column-spec =
     Inv-loop
     μ-loop
     loop-holds
-    mul-handed-out
-    shared-slice-read-handed-out
-    handed-out-requires
+    mul-one-nan
+    shared-slice-read-one-nan
+    one-nan-requires
     mul-out
     slice-write-out
     add-q

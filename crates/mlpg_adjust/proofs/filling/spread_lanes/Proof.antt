@@ -14,8 +14,8 @@ Inv-loop none d lanes v p out₀ x l₀ out l = (l ≤ lanes) × (length out ≡
 abbrev μ-loop : tie.MeasureT-loop
 μ-loop none d lanes v p out₀ x l₀ out l = lanes - l
 
-handed-out-requires : tie.Need-handed-out-requires Inv-loop μ-loop
-handed-out-requires c κs = search needs
+one-nan-requires : tie.Need-one-nan-requires Inv-loop μ-loop
+one-nan-requires c κs = search needs
 
 loop-holds : tie.Need-loop-holds Inv-loop μ-loop
 unfolding setsLanes
@@ -39,14 +39,14 @@ loop-again c =
     let l = c .before .before .before .before .before .loop in (
       search needs,
       c .before .before .spread-column .kept .1 .1 .1 .1 .0 ∙ l .inv .1,
-      lanes-next (s .v) (s .p) (λ j. replicate (s .d) (c .before .before .before .before .before .before .handed-out .result)) (l .l) _ (l .out) _ (l .inv .2) (c .before .before .spread-column .ensures),
+      lanes-next (s .v) (s .p) (λ j. replicate (s .d) (c .before .before .before .before .before .before .one-nan .result)) (l .l) _ (l .out) _ (l .inv .2) (c .before .before .spread-column .ensures),
     )
 
 same-length : tie.Need-same-length Inv-loop μ-loop
 same-length c = c .before .loop .inv .1
 
 returns : tie.Need-returns Inv-loop μ-loop
-returns c = rw (← c .before .before .handed-out .ensures) (lanes-done _ _ _ _ _ _ _ (c .before .loop .inv .0) (c .loop-test .left) (c .before .loop .inv .2))
+returns c = rw (← c .before .before .one-nan .ensures) (lanes-done _ _ _ _ _ _ _ (c .before .loop .inv .0) (c .loop-test .left) (c .before .loop .inv .2))
 
 pub spread-lanes-spec : {M : Type 1} → statement M
 spread-lanes-spec =
@@ -54,7 +54,7 @@ spread-lanes-spec =
     (tie.spec
     Inv-loop
     μ-loop
-    handed-out-requires
+    one-nan-requires
     loop-holds
     add-spread-column
     spread-column-requires
