@@ -1,4 +1,4 @@
--- A pattern that is read is written again, if it is no NaN's but the one. Assumes nothing.
+-- A pattern that is read is written again if it is no NaN's but the one, and only then. Assumes nothing.
 use mathlib.Core.Path.{_≡_, refl, sym, ap, _∙_}
 use mathlib.Core.Logic.{⊎-elim}
 use Prim.Native.Nat.{ℕ, _%_, _^_, _≤_, _<_}
@@ -16,3 +16,6 @@ bits-back b h n = ⊎-elim
     (λ (g : b % 2 ^ 63 ≤ 0x7ff0_0000_0000_0000). toBits-ofBits binary64 b h (not-of (sym (nanBits-is binary64 b) ∙ number-pattern b g)))
     (λ (g : 0x7ff0_0000_0000_0000 < b % 2 ^ 63). ap (toBits binary64) (nan-pattern b g) ∙ nan-bits ∙ sym (n g))
     (le-or-lt (b % 2 ^ 63) 0x7ff0_0000_0000_0000)
+
+pub bits-only : (b : ℕ) → toBits binary64 (ofBits binary64 b) ≡ b → 0x7ff0_0000_0000_0000 < b % 2 ^ 63 → b ≡ 0x7ff8_0000_0000_0000
+bits-only b e g = sym e ∙ ap (toBits binary64) (nan-pattern b g) ∙ nan-bits

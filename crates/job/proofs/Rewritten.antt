@@ -1,20 +1,26 @@
--- What is read from a job is written as the same bytes. Assumes nothing.
+-- What is read from a job is written as the same bytes, if these have no NaN but the one that is written, and only then. Assumes nothing.
 use mathlib.Core.Path.{_≡_, refl, sym, ap, _∙_}
 use mathlib.Core.List.{List, [], _++_, append-assoc, append-nil}
-use Prim.Native.Nat.{ℕ, zero, suc, _+_, _*_, _<_, _≤_}
+use mathlib.Core.Logic.{⊎-elim}
+use Prim.Native.Nat.{ℕ, zero, suc, _+_, _*_, _/_, _%_, _<_, _≤_}
 use native.Mathlib.Omega.{arith}
-use lib.ListN.{length, take, drop, take-append-drop, drop-of-length-le}
+use lib.Dec.{T}
+use lib.ListN.{length, take, drop, getD, take-append-drop, drop-of-length-le, List·getD-eq-default}
 use lib.Seq.{drop-drop}
-use lib.Ieee.{Float}
+use lib.Ieee.{Float, nan, binary64, fits, ofBits, toBits}
+use lib.Ieee.Bits.{toBits-lt, ofBits-fits}
 use Rattle.lists.specs.Build.{build}
-use Rattle.lists.specs.Bytes.{bytesOf}
-use Rattle.lists.proofs.Builds.{build-first}
+use Rattle.lists.specs.Bytes.{little, bytesOf}
+use Rattle.lists.proofs.Builds.{build-first, build-at}
+use Rattle.lists.proofs.Bytes.{little-bytes}
+use Rattle.lists.proofs.Numbers.{le-or-lt}
 use Rattle.lists.proofs.Spelled.{part-spelled, part-below}
-use Rattle.floats.proofs.Patterns.{bits-back}
+use Rattle.floats.proofs.Patterns.{bits-back, bits-only}
 use Rattle.job.specs.Format.{wordAt, patternAt, floatAt, floatsAt, mark, version, countOf, IsJob, jobOf, formatRefusal}
-use Rattle.job.specs.Written.{bytesOfFloat, bytesOfPairs, bytesOfHeading, bytesOfJob, OneNan, Plain}
+use Rattle.job.specs.Written.{bytesOfFloat, bytesOfPairs, bytesOfHeading, bytesOfJob, Writable, OneNan, Plain}
 use Rattle.job.proofs.Departures.{accepted-job}
 use Rattle.job.proofs.Pairs.{floats-long}
+use Rattle.job.proofs.Written.{mean-part, vari-part, speed-part, written-bytes}
 
 -- k bytes from a place on, before what is behind them
 part-before : (bytes : List ℕ) (at k : ℕ) → take k (drop at bytes) ++ drop (at + k) bytes ≡ drop at bytes
@@ -91,3 +97,56 @@ module _ (bytes : List ℕ) (j : IsJob bytes) (p : Plain bytes) where
 -- a file that is accepted, and has no NaN but the one that is written, is written again as it was
 pub rewritten : (bytes : List ℕ) → formatRefusal bytes ≡ 0 → Plain bytes → bytesOfJob (jobOf bytes) ≡ bytes
 rewritten bytes e p = job-rewritten bytes (accepted-job bytes e) p
+
+-- ---- and only such a file
+
+floats-at : (bytes : List ℕ) (at n i : ℕ) → i < n → getD (floatsAt bytes at n) i nan ≡ floatAt bytes (at + 16 * i)
+unfolding floatsAt
+floats-at bytes at n i h = build-at (λ (k : ℕ). floatAt bytes (at + 16 * k)) n i nan h
+
+floats-fit : (bytes : List ℕ) (at n i : ℕ) → T (fits binary64 (getD (floatsAt bytes at n) i nan))
+unfolding fits
+floats-fit bytes at n i = ⊎-elim
+    (λ (g : n ≤ i). let l : length (floatsAt bytes at n) ≤ i = omega (arith, floats-long bytes at n) in rw (List·getD-eq-default (floatsAt bytes at n) nan l) tt)
+    (λ (g : i < n). rw (floats-at bytes at n i g) (ofBits-fits binary64 (patternAt bytes (at + 16 * i))))
+    (le-or-lt n i)
+
+module _ (bytes : List ℕ) (j : IsJob bytes) where
+  -- what is read can be written
+  pub read-writable : Writable (jobOf bytes)
+  read-writable =
+      record {
+        few = rw (floats-long bytes 15 (countOf bytes)) (j .few);
+        agree = floats-long bytes 23 (countOf bytes) ∙ sym (floats-long bytes 15 (countOf bytes));
+        speed = ofBits-fits binary64 (patternAt bytes 7);
+        means = floats-fit bytes 15 (countOf bytes);
+        varis = floats-fit bytes 23 (countOf bytes);
+      }
+
+  module _ (r : bytesOfJob (jobOf bytes) ≡ bytes) where
+    -- a float that stands where it is written
+    nan-at : (at : ℕ) → take 8 (drop at (bytesOfJob (jobOf bytes))) ≡ bytesOfFloat (floatAt bytes at) → OneNan (patternAt bytes at)
+    nan-at at e =
+        let b : ℕ = toBits binary64 (floatAt bytes at) in
+        bits-only (patternAt bytes at) (sym (little-bytes 8 b (toBits-lt binary64 (floatAt bytes at) (ofBits-fits binary64 (patternAt bytes at)))) ∙ ap little (sym e ∙ ap (λ (l : List ℕ). take 8 (drop at l)) r))
+
+    mean-nan : (k : ℕ) → k < countOf bytes → OneNan (patternAt bytes (15 + 16 * k))
+    mean-nan k h =
+        let l : k < length (floatsAt bytes 15 (countOf bytes)) = rw (floats-long bytes 15 (countOf bytes)) h in
+        nan-at (15 + 16 * k) (mean-part (jobOf bytes) read-writable k l ∙ ap bytesOfFloat (floats-at bytes 15 (countOf bytes) k h))
+
+    vari-nan : (k : ℕ) → k < countOf bytes → OneNan (patternAt bytes (23 + 16 * k))
+    vari-nan k h =
+        let l : k < length (floatsAt bytes 15 (countOf bytes)) = rw (floats-long bytes 15 (countOf bytes)) h in
+        nan-at (23 + 16 * k) (vari-part (jobOf bytes) read-writable k l ∙ ap bytesOfFloat (floats-at bytes 23 (countOf bytes) k h))
+
+    -- number i is the speed, a mean or a variance
+    nan-of : (i : ℕ) → i < 1 + 2 * countOf bytes → OneNan (patternAt bytes (7 + 8 * i))
+    nan-of zero h = nan-at 7 (speed-part (jobOf bytes) read-writable)
+    nan-of (suc i) h = ⊎-elim
+        (λ (g : 1 ≤ i % 2). let e : 7 + 8 * suc i ≡ 23 + 16 * (i / 2) = omega arith in rw e (vari-nan (i / 2) (omega arith)))
+        (λ (g : i % 2 < 1). let e : 7 + 8 * suc i ≡ 15 + 16 * (i / 2) = omega arith in rw e (mean-nan (i / 2) (omega arith)))
+        (le-or-lt 1 (i % 2))
+
+pub rewritten-only : (bytes : List ℕ) → formatRefusal bytes ≡ 0 → bytesOfJob (jobOf bytes) ≡ bytes → Plain bytes
+rewritten-only bytes e r = record { each = rw r at (written-bytes (jobOf bytes)); nans = nan-of bytes (accepted-job bytes e) r }

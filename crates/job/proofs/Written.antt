@@ -60,29 +60,36 @@ module _ (j : Job) (w : Writable j) where
     abbrev rest : List ℕ
     rest = bytesOfPairs (drop (suc i) (j .means)) (drop (suc i) (j .varis))
 
-    mean-back : floatAt (bytesOfJob j) (15 + 16 * i) ≡ getD (j .means) i nan
-    mean-back =
+    pub mean-part : take 8 (drop (15 + 16 * i) (bytesOfJob j)) ≡ bytesOfFloat (getD (j .means) i nan)
+    mean-part =
         let m : List ℕ = bytesOfFloat (getD (j .means) i nan) in
         let v : List ℕ = bytesOfFloat (getD (j .varis) i nan) in
-        let e : take 8 (drop (15 + 16 * i) (bytesOfJob j)) ≡ m = ap (take 8) (behind (16 * i) ∙ pair-from (j .means) (j .varis) i h (w .agree) ∙ append-assoc m v rest) ∙ take-at m (v ++ rest) 8 (bytes-length 8 _) in
-        ap (λ (b : List ℕ). ofBits binary64 (little b)) e ∙ bytes-back (getD (j .means) i nan) (w .means i)
+        ap (take 8) (behind (16 * i) ∙ pair-from (j .means) (j .varis) i h (w .agree) ∙ append-assoc m v rest) ∙ take-at m (v ++ rest) 8 (bytes-length 8 _)
 
-    vari-back : floatAt (bytesOfJob j) (23 + 16 * i) ≡ getD (j .varis) i nan
-    vari-back =
+    pub vari-part : take 8 (drop (23 + 16 * i) (bytesOfJob j)) ≡ bytesOfFloat (getD (j .varis) i nan)
+    vari-part =
         let m : List ℕ = bytesOfFloat (getD (j .means) i nan) in
         let v : List ℕ = bytesOfFloat (getD (j .varis) i nan) in
         let k : 23 + 16 * i ≡ 15 + (16 * i + 8) = omega arith in
         let d : drop (16 * i + 8) pairs ≡ v ++ rest = sym (drop-drop 8 (16 * i) pairs) ∙ ap (drop 8) (pair-from (j .means) (j .varis) i h (w .agree) ∙ append-assoc m v rest) ∙ drop-at m (v ++ rest) 8 (bytes-length 8 _) in
-        let e : take 8 (drop (23 + 16 * i) (bytesOfJob j)) ≡ v = rw k (ap (take 8) (behind (16 * i + 8) ∙ d) ∙ take-at v rest 8 (bytes-length 8 _)) in
-        ap (λ (b : List ℕ). ofBits binary64 (little b)) e ∙ bytes-back (getD (j .varis) i nan) (w .varis i)
+        rw k (ap (take 8) (behind (16 * i + 8) ∙ d) ∙ take-at v rest 8 (bytes-length 8 _))
+
+    mean-back : floatAt (bytesOfJob j) (15 + 16 * i) ≡ getD (j .means) i nan
+    mean-back = ap (λ (b : List ℕ). ofBits binary64 (little b)) mean-part ∙ bytes-back (getD (j .means) i nan) (w .means i)
+
+    vari-back : floatAt (bytesOfJob j) (23 + 16 * i) ≡ getD (j .varis) i nan
+    vari-back = ap (λ (b : List ℕ). ofBits binary64 (little b)) vari-part ∙ bytes-back (getD (j .varis) i nan) (w .varis i)
 
   count-back : countOf (bytesOfJob j) ≡ n
   unfolding bytesOfJob bytesOfHeading bytesOf
   count-back = little-bytes 2 n (omega (arith, w .few))
 
-  speed-back : floatAt (bytesOfJob j) 7 ≡ j .speed
+  pub speed-part : take 8 (drop 7 (bytesOfJob j)) ≡ bytesOfFloat (j .speed)
   unfolding bytesOfJob bytesOfHeading bytesOf
-  speed-back = bytes-back (j .speed) (w .speed)
+  speed-part = refl
+
+  speed-back : floatAt (bytesOfJob j) 7 ≡ j .speed
+  speed-back = ap (λ (b : List ℕ). ofBits binary64 (little b)) speed-part ∙ bytes-back (j .speed) (w .speed)
 
   means-back : floatsAt (bytesOfJob j) 15 n ≡ j .means
   unfolding floatsAt
