@@ -1,7 +1,8 @@
 //! The repository's stored answers of the Rust original, through the safe calls.
 //!
 //! The files' format is in `tools/README.md`, 'Stored answers': a count, then each case's inputs and
-//! values, little-endian; a list is its count in 32 bits and its items.
+//! values, little-endian; a list is its count in 32 bits and its items. A file ends with one case for
+//! each value in which that value is wrong.
 
 use std::fs;
 use std::path::Path;
@@ -14,12 +15,9 @@ struct Stored {
 }
 
 impl Stored {
-    /// A kind's file; a kind that no program replays has it among the tools.
     fn open(kind: &str) -> Self {
         let root = Path::new(env!("CARGO_MANIFEST_DIR")).join("../..");
-        let replayed = root.join(format!("crates/replay_{kind}/stdin"));
-        let kept = root.join(format!("tools/stored/{kind}.bin"));
-        let file = if replayed.exists() { replayed } else { kept };
+        let file = root.join(format!("crates/replay_{kind}/stdin"));
         let bytes = fs::read(&file).unwrap_or_else(|error| panic!("{}: {error}", file.display()));
         Stored { bytes, at: 0 }
     }
@@ -32,6 +30,10 @@ impl Stored {
 
     fn u32(&mut self) -> u32 {
         u32::from_le_bytes(self.take())
+    }
+
+    fn count(&mut self) -> usize {
+        self.u32() as usize
     }
 
     fn f64(&mut self) -> f64 {
@@ -55,13 +57,14 @@ impl Stored {
     }
 }
 
-/// Hands each case of a kind's file to the check, which takes all of it.
-fn replay(kind: &str, mut check: impl FnMut(&mut Stored)) {
+/// Hands each case of a kind's file to a function that takes all of it and says whether the answer is
+/// the stored one; so are all but the last, which are wrong.
+fn replay(kind: &str, wrong: u32, mut agrees: impl FnMut(&mut Stored) -> bool) {
     let mut stored = Stored::open(kind);
     let cases = stored.u32();
-    assert!(cases > 0);
-    for _ in 0..cases {
-        check(&mut stored);
+    assert!(cases > wrong);
+    for case in 0..cases {
+        assert_eq!(agrees(&mut stored), case < cases - wrong, "case {case}");
     }
     assert_eq!(stored.at, stored.bytes.len());
 }
@@ -72,83 +75,72 @@ fn bits(numbers: &[f64]) -> Vec<u64> {
 
 #[test]
 fn fits() {
-    replay("fit", |stored| {
+    replay("fit", 2, |stored| {
         let (means, varis, length) = (stored.f64s(), stored.f64s(), stored.f64());
         let fitted = hejmirov::fit(&means, &varis, length).unwrap();
-        assert_eq!(
-            (fitted.changes, fitted.durations),
-            (stored.u32(), stored.u32s())
-        );
+        (fitted.changes, fitted.durations) == (stored.u32(), stored.u32s())
     });
 }
 
 #[test]
 fn speeds() {
-    replay("speed", |stored| {
+    replay("speed", 2, |stored| {
         let (means, varis, speed) = (stored.f64s(), stored.f64s(), stored.f64());
         let fitted = hejmirov::speed(&means, &varis, speed).unwrap();
-        assert_eq!(
-            (fitted.changes, fitted.durations),
-            (stored.u32(), stored.u32s())
-        );
+        (fitted.changes, fitted.durations) == (stored.u32(), stored.u32s())
     });
 }
 
 #[test]
 fn alignments() {
-    replay("align", |stored| {
+    replay("align", 3, |stored| {
         let (means, varis, nstate) = (stored.f64s(), stored.f64s(), stored.u32());
         let fitted = hejmirov::align(&means, &varis, nstate, &stored.f64s()).unwrap();
-        assert_eq!(fitted.durations.len(), stored.u32() as usize);
-        assert_eq!(
-            (fitted.changes, fitted.durations),
-            (stored.u32(), stored.u32s())
-        );
+        let written = fitted.durations.len();
+        (written, fitted.changes, fitted.durations) == (stored.count(), stored.u32(), stored.u32s())
     });
 }
 
 #[test]
 fn jobs() {
-    replay("job", |stored| {
+    replay("job", 4, |stored| {
         let fitted = hejmirov::job(&stored.u8s()).unwrap();
-        assert_eq!(fitted.durations.len(), stored.u32() as usize);
-        assert_eq!(
-            (fitted.frames(), fitted.changes),
-            (stored.u32().into(), stored.u32())
-        );
-        assert_eq!(fitted.durations, stored.u32s());
+        let (states, frames) = (fitted.durations.len(), fitted.frames());
+        (states, frames, fitted.changes, fitted.durations)
+            == (
+                stored.count(),
+                stored.u32().into(),
+                stored.u32(),
+                stored.u32s(),
+            )
     });
 }
 
 #[test]
 fn masks() {
-    replay("mask", |stored| {
+    replay("mask", 3, |stored| {
         let (weights, threshold, durations) = (stored.f64s(), stored.f64(), stored.u32s());
         let mask = hejmirov::mask(&weights, threshold, &durations).unwrap();
-        assert_eq!(
-            (mask.voiced, mask.left, mask.right),
-            (stored.u32s(), stored.u32s(), stored.u32s())
-        );
+        (mask.voiced, mask.left, mask.right) == (stored.u32s(), stored.u32s(), stored.u32s())
     });
 }
 
 #[test]
 fn band_rows() {
-    replay("band", |stored| {
+    replay("band", 2, |stored| {
         let (widths, coefficients) = (stored.u32s(), stored.f64s());
         let windows = Windows {
             widths: &widths,
             coefficients: &coefficients,
         };
         let band = hejmirov::band_rows(windows, &stored.f64s(), &stored.f64s()).unwrap();
-        assert_eq!(bits(&band.rows), bits(&stored.f64s()));
-        assert_eq!(bits(&band.right), bits(&stored.f64s()));
+        (bits(&band.rows), bits(&band.right)) == (bits(&stored.f64s()), bits(&stored.f64s()))
     });
 }
 
 #[test]
 fn trajectories() {
-    replay("trajectory", |stored| {
+    replay("trajectory", 1, |stored| {
         let (v, masked, threshold, fill) =
             (stored.u32(), stored.u32() != 0, stored.f64(), stored.f64());
         let (gv_on, weight) = (stored.u32() != 0, stored.f64());
@@ -173,6 +165,6 @@ fn trajectories() {
             gv,
         };
         let trajectory = stream.trajectory(&records, &durations).unwrap();
-        assert_eq!(bits(&trajectory.numbers), bits(&stored.f64s()));
+        bits(&trajectory.numbers) == bits(&stored.f64s())
     });
 }
