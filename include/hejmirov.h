@@ -231,9 +231,10 @@ uint32_t hejmirov_band_rows(const uint32_t *widths, size_t n_widths,
  * the GV variance multiplies the pull to the target. It is used as given, not inverted, so a larger
  * one holds the variance nearer to the target: two states of means 1 and 3 and variance 1, two
  * frames each, have a variance of 1; with a GV mean of 2 it becomes 2.249 for a GV variance of
- * 1e-6, 2.090 for 1, and 2.000 for 1e6. In a stream of log F0 a GV mean is of the order of 0.06 and
- * a GV variance of the order of 4e-4, which pulls hardly at all: the scaling decides. Where no
- * frame counts, the numbers are those without global variance.
+ * 1e-6, 2.090 for 1, and 2.000 for 1e6. A voice's are small: in cmu_us_slt_arctic_hts a GV mean
+ * and variance of log F0 are 0.0080 and 6.2e-6, those of the 45 mel-cepstral numbers 1.37 to 0.005
+ * and 0.23 to 5e-7. They pull hardly at all: the scaling decides. Where no frame counts, the
+ * numbers are those without global variance.
  *
  * Refused with 1: n_widths is not 1 to 4, or a width not 1 to 15. 2: a coefficient is infinite or
  * NaN. 3: n_durations above 4,096, or v out of range. 4: the widths' sum is not n_coefficients,

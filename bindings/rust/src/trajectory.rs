@@ -222,8 +222,9 @@ pub fn band_rows_into(
 /// GV variance multiplies the pull to the target; it is used as given, not inverted, so a larger one
 /// holds the variance nearer to the target.
 ///
-/// In a stream of log F0 a GV mean is of the order of 0.06 and a GV variance of the order of 4e-4,
-/// which pulls hardly at all: the scaling decides.
+/// A voice's are small: in `cmu_us_slt_arctic_hts` a GV mean and variance of log F0 are 0.0080 and
+/// 6.2e-6, those of the 45 mel-cepstral numbers 1.37 to 0.005 and 0.23 to 5e-7. They pull hardly at
+/// all: the scaling decides.
 ///
 /// ```
 /// use hejmirov::{GlobalVariance, Refusal, Stream, Windows};
