@@ -1,35 +1,66 @@
 //! The repository's stored answers of the Rust original, through the safe calls.
 //!
-//! The files' format is in `tools/README.md`, 'Stored answers': a count, then each case's inputs and
-//! values, little-endian; a list is its count in 32 bits and its items. A file ends with one case for
+//! The file's format is in `tools/README.md`, 'Stored answers': a section for each kind, and a case is
+//! four lists, little-endian, each its count in 32 bits and its items. A section ends with one case for
 //! each value in which that value is wrong.
 
 use std::fs;
 use std::path::Path;
+use std::vec::IntoIter;
 
 use hejmirov::{GlobalVariance, Stream, Windows};
 
-struct Stored {
-    bytes: Vec<u8>,
-    at: usize,
+/// The bytes that are left of the file.
+struct File {
+    bytes: IntoIter<u8>,
 }
 
-impl Stored {
-    fn open(kind: &str) -> Self {
-        let root = Path::new(env!("CARGO_MANIFEST_DIR")).join("../..");
-        let file = root.join(format!("crates/replay_{kind}/stdin"));
+impl File {
+    fn open() -> Self {
+        let file = Path::new(env!("CARGO_MANIFEST_DIR")).join("../../crates/replay_rust/stdin");
         let bytes = fs::read(&file).unwrap_or_else(|error| panic!("{}: {error}", file.display()));
-        Stored { bytes, at: 0 }
+        File {
+            bytes: bytes.into_iter(),
+        }
     }
 
     fn take<const N: usize>(&mut self) -> [u8; N] {
-        let bytes = self.bytes[self.at..self.at + N].try_into().unwrap();
-        self.at += N;
-        bytes
+        std::array::from_fn(|_| self.bytes.next().unwrap())
     }
 
     fn u32(&mut self) -> u32 {
         u32::from_le_bytes(self.take())
+    }
+
+    fn list<const N: usize, T>(&mut self, item: impl Fn([u8; N]) -> T) -> IntoIter<T> {
+        let items: Vec<T> = (0..self.u32()).map(|_| item(self.take())).collect();
+        items.into_iter()
+    }
+
+    /// The cases of the section that comes next, and its kind's number.
+    fn section(&mut self) -> (u8, Vec<Stored>) {
+        let [kind] = self.take();
+        let cases = (0..self.u32()).map(|_| Stored {
+            head: self.list(u32::from_le_bytes),
+            numbers: self.list(u32::from_le_bytes),
+            floats: self.list(f64::from_le_bytes),
+            bytes: self.list(|[byte]| byte),
+        });
+        (kind, cases.collect())
+    }
+}
+
+/// What is left of a case.
+struct Stored {
+    head: IntoIter<u32>,
+    numbers: IntoIter<u32>,
+    floats: IntoIter<f64>,
+    bytes: IntoIter<u8>,
+}
+
+impl Stored {
+    fn u32(&mut self) -> u32 {
+        self.head.next().unwrap()
     }
 
     fn count(&mut self) -> usize {
@@ -37,36 +68,43 @@ impl Stored {
     }
 
     fn f64(&mut self) -> f64 {
-        f64::from_le_bytes(self.take())
-    }
-
-    fn list<T>(&mut self, item: impl Fn(&mut Self) -> T) -> Vec<T> {
-        (0..self.u32()).map(|_| item(self)).collect()
+        self.floats.next().unwrap()
     }
 
     fn u32s(&mut self) -> Vec<u32> {
-        self.list(Self::u32)
+        let count = self.count();
+        self.numbers.by_ref().take(count).collect()
     }
 
     fn f64s(&mut self) -> Vec<f64> {
-        self.list(Self::f64)
+        let count = self.count();
+        self.floats.by_ref().take(count).collect()
     }
 
     fn u8s(&mut self) -> Vec<u8> {
-        self.list(|stored| stored.take::<1>()[0])
+        let count = self.count();
+        self.bytes.by_ref().take(count).collect()
+    }
+
+    fn left(&self) -> usize {
+        self.head.len() + self.numbers.len() + self.floats.len() + self.bytes.len()
     }
 }
 
-/// Hands each case of a kind's file to a function that takes all of it and says whether the answer is
-/// the stored one; so are all but the last, which are wrong.
-fn replay(kind: &str, wrong: u32, mut agrees: impl FnMut(&mut Stored) -> bool) {
-    let mut stored = Stored::open(kind);
-    let cases = stored.u32();
-    assert!(cases > wrong);
-    for case in 0..cases {
-        assert_eq!(agrees(&mut stored), case < cases - wrong, "case {case}");
+/// Hands each case of a kind to a function that takes all of it and says whether the answer is the
+/// stored one; so are all but the last, which are wrong.
+fn replay(kind: u8, wrong: usize, mut agrees: impl FnMut(&mut Stored) -> bool) {
+    let mut file = File::open();
+    let mut section = file.section();
+    while section.0 != kind {
+        section = file.section();
     }
-    assert_eq!(stored.at, stored.bytes.len());
+    let cases = section.1.len();
+    assert!(cases > wrong);
+    for (case, mut stored) in section.1.into_iter().enumerate() {
+        assert_eq!(agrees(&mut stored), case < cases - wrong, "case {case}");
+        assert_eq!(stored.left(), 0, "case {case}");
+    }
 }
 
 fn bits(numbers: &[f64]) -> Vec<u64> {
@@ -75,7 +113,7 @@ fn bits(numbers: &[f64]) -> Vec<u64> {
 
 #[test]
 fn fits() {
-    replay("fit", 2, |stored| {
+    replay(3, 2, |stored| {
         let (means, varis, length) = (stored.f64s(), stored.f64s(), stored.f64());
         let fitted = hejmirov::fit(&means, &varis, length).unwrap();
         (fitted.changes, fitted.durations) == (stored.u32(), stored.u32s())
@@ -84,7 +122,7 @@ fn fits() {
 
 #[test]
 fn speeds() {
-    replay("speed", 2, |stored| {
+    replay(4, 2, |stored| {
         let (means, varis, speed) = (stored.f64s(), stored.f64s(), stored.f64());
         let fitted = hejmirov::speed(&means, &varis, speed).unwrap();
         (fitted.changes, fitted.durations) == (stored.u32(), stored.u32s())
@@ -93,7 +131,7 @@ fn speeds() {
 
 #[test]
 fn alignments() {
-    replay("align", 3, |stored| {
+    replay(5, 3, |stored| {
         let (means, varis, nstate) = (stored.f64s(), stored.f64s(), stored.u32());
         let fitted = hejmirov::align(&means, &varis, nstate, &stored.f64s()).unwrap();
         let written = fitted.durations.len();
@@ -103,7 +141,7 @@ fn alignments() {
 
 #[test]
 fn jobs() {
-    replay("job", 4, |stored| {
+    replay(11, 4, |stored| {
         let fitted = hejmirov::job(&stored.u8s()).unwrap();
         let (states, frames) = (fitted.durations.len(), fitted.frames());
         (states, frames, fitted.changes, fitted.durations)
@@ -118,7 +156,7 @@ fn jobs() {
 
 #[test]
 fn masks() {
-    replay("mask", 3, |stored| {
+    replay(6, 3, |stored| {
         let (weights, threshold, durations) = (stored.f64s(), stored.f64(), stored.u32s());
         let mask = hejmirov::mask(&weights, threshold, &durations).unwrap();
         (mask.voiced, mask.left, mask.right) == (stored.u32s(), stored.u32s(), stored.u32s())
@@ -127,7 +165,7 @@ fn masks() {
 
 #[test]
 fn band_rows() {
-    replay("band", 2, |stored| {
+    replay(7, 2, |stored| {
         let (widths, coefficients) = (stored.u32s(), stored.f64s());
         let windows = Windows {
             widths: &widths,
@@ -140,7 +178,7 @@ fn band_rows() {
 
 #[test]
 fn trajectories() {
-    replay("trajectory", 1, |stored| {
+    replay(8, 1, |stored| {
         let (v, masked, threshold, fill) =
             (stored.u32(), stored.u32() != 0, stored.f64(), stored.f64());
         let (gv_on, weight) = (stored.u32() != 0, stored.f64());

@@ -1,7 +1,7 @@
--- The table of ten cases. Each was computed where its definitions are. Assumes nothing.
+-- The table of ten cases. Each was computed where its definitions are.
 use Rattle.cases.specs.Table.{Table}
-use Rattle.duration.proofs.Cases as fits
-use Rattle.mlpg_adjust.specs.TrajectoryCases as rows
+use Rattle.duration.specs.Cases as fits
+use Rattle.mlpg_adjust.specs.Cases as rows
 
 pub table : Table
 table =

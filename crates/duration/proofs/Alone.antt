@@ -1,4 +1,4 @@
--- Where one state alone is above 1, it gives all the frames. Assumes nothing.
+-- Where one state alone is above 1, it gives all the frames.
 use mathlib.Core.Path.{_≡_, ap, _∙_, subst}
 use mathlib.Core.Bool.{false}
 use mathlib.Core.List.{List}
@@ -8,12 +8,12 @@ use native.Mathlib.Omega.{arith}
 use lib.ListN.{length, getD, set, length-set, List·getD-eq-default}
 use lib.Seq.{getD-set-same, getD-set-other, set-getD, set-set}
 use lib.Ieee.{Float}
+use Rattle.lists.specs.Sizes.{mostFrames}
 use Rattle.lists.specs.Totals.{total, gap}
 use Rattle.lists.proofs.Numbers.{le-or-lt}
 use Rattle.duration.specs.Steps.{keys, leastOf, step, Settles, Outcome, settle}
 use Rattle.duration.specs.Steps.Settles.{there, above}
-use Rattle.duration.specs.Fit.{mostFrames}
-use Rattle.duration.specs.Inner.{Ready, Aim, Lone}
+use Rattle.duration.specs.Inner.Asked.{Ready, Aim, Lone}
 use Rattle.duration.proofs.Keys.{place-long}
 use Rattle.duration.proofs.Nodes.{same}
 use Rattle.duration.proofs.Stepping.{total-down}

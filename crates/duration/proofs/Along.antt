@@ -1,4 +1,4 @@
--- A loop over labels that closes their groups. Assumes nothing.
+-- A loop over labels that closes their groups.
 use mathlib.Core.Path.{_≡_, refl, sym, ap, _∙_}
 use mathlib.Core.List.{List, [], _∷_, _++_, append-assoc, append-nil}
 use Prim.Native.Nat.{ℕ, suc, _+_, _-_, _*_, _≤_, _<_, zero-le}
@@ -10,6 +10,7 @@ use lib.ListN.{length, take, drop, getD, length-append, length-drop, drop-of-len
 use lib.Seq.{take-at, length-take-le, drop-cons}
 use lib.Ieee.{Float, nan}
 use borrow.Author.Tests.{ltb-false}
+use Rattle.lists.specs.Sizes.{mostFrames}
 use Rattle.lists.specs.Totals.{total}
 use Rattle.duration.specs.declared.Aligned.the-variants.{Written, Denied}
 use Rattle.duration.specs.declared.align.End.{End}
@@ -18,10 +19,10 @@ use Rattle.duration.specs.declared.align.Label.{Label}
 use Rattle.duration.specs.declared.align.Closed.{Closed}
 use Rattle.duration.specs.declared.align.Closed.the-variants.{Grown, Barred}
 use Rattle.duration.specs.Steps.{Outcome, unchanged}
-use Rattle.duration.specs.Fit.{mostFrames, refusalTo}
+use Rattle.duration.specs.Fit.{refusalTo}
 use Rattle.lists.specs.Refusals.{orElse}
 use Rattle.duration.specs.Align.{labelOf, Group, closing, groups, within, targetOf, fitOf, fitAlong, refusalOf, refusalAlong}
-use Rattle.duration.specs.Inner.{Lies, closed, Closes, Labelled, AtFront}
+use Rattle.duration.specs.Inner.Asked.{Lies, closed, Closes, Labelled, AtFront}
 use Rattle.lists.proofs.Answers.{refusing, refused, refused-is, accepted-is}
 use Rattle.duration.proofs.Refusals.{cond-none}
 use Rattle.lists.proofs.Refusals.{or-first, or-none}

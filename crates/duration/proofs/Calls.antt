@@ -1,4 +1,4 @@
--- The calls as wholes: refused before any work, refused after it, accepted; and two outcomes of one call are equal. Assumes nothing.
+-- The calls as wholes: refused before any work, refused after it, accepted; and two outcomes of one call are equal.
 use mathlib.Core.Path.{_≡_, refl, sym, ap, _∙_}
 use mathlib.Core.Bool.{true}
 use mathlib.Core.List.{List, [], _∷_, _++_}
@@ -15,7 +15,7 @@ use Rattle.duration.specs.declared.Fitted.the-variants.{Done, Refused}
 use Rattle.duration.specs.declared.Aligned.{Aligned}
 use Rattle.duration.specs.declared.Aligned.the-variants.{Written, Denied}
 use Rattle.lists.specs.Refusals.{orElse}
-use Rattle.duration.specs.Inner.{outputAfter, HandsOut}
+use Rattle.duration.specs.Inner.Asked.{outputAfter, HandsOut}
 use Rattle.lists.specs.Answers.{Answer, answerOf}
 use Rattle.duration.specs.Promise.{fitted, aligned, clears, workOf, Says, FitSays, SpeedSays, AlignSays}
 

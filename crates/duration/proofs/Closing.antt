@@ -1,4 +1,4 @@
--- Closing a group of states in its place. Assumes nothing.
+-- Closing a group of states in its place.
 use mathlib.Core.Path.{_≡_, refl, sym, ap, _∙_}
 use mathlib.Core.Bool.{Bool, true, false, cond}
 use mathlib.Core.List.{List, [], _∷_, _++_}
@@ -9,6 +9,7 @@ use lib.ListN.{length, take, drop}
 use lib.Seq.{take-at, drop-at, length-take-le}
 use lib.Ieee.{Float}
 use borrow.Author.Tests.{lt-ltb, le-ltb, eqb-true, eqb-false}
+use Rattle.lists.specs.Sizes.{mostFrames}
 use Rattle.lists.specs.Totals.{total}
 use Rattle.lists.proofs.Sums.{total-whole}
 use Rattle.lists.proofs.Refusals.{or-first}
@@ -16,11 +17,11 @@ use Rattle.duration.specs.declared.Fitted.{Fitted}
 use Rattle.duration.specs.declared.Fitted.the-variants.{Done, Refused}
 use Rattle.duration.specs.declared.align.Closed.the-variants.{Grown, Barred}
 use Rattle.duration.specs.Steps.{Outcome, unchanged, step, settle}
-use Rattle.duration.specs.Fit.{mostFrames, plain, fitTo, refusalTo}
+use Rattle.duration.specs.Fit.{plain, fitTo, refusalTo}
 use Rattle.lists.specs.Refusals.{orElse}
 use Rattle.duration.specs.Align.{Group, within, targetOf, fitOf, refusalOf, refusalAlong}
 use Rattle.duration.specs.Promise.{fitted, clears}
-use Rattle.duration.specs.Inner.{InPlace, Closes}
+use Rattle.duration.specs.Inner.Asked.{InPlace, Closes}
 use Rattle.lists.proofs.Answers.{refusing, refused, refused-is, accepted-is}
 use Rattle.duration.proofs.Stepping.{settle-there, settle-turn}
 use Rattle.duration.proofs.Fits.{fit-clears}

@@ -1,4 +1,4 @@
--- Estimates: a loop that stores them, how many they are, and that none is below 1. Assumes nothing.
+-- Estimates: a loop that stores them, how many they are, and that none is below 1.
 use mathlib.Core.Path.{_≡_, refl, sym, ap, _∙_}
 use mathlib.Core.List.{List, [], _∷_, _++_}
 use Prim.Native.Nat.{ℕ, suc, _+_, _≤_, _<_, zero-le}

@@ -1,4 +1,4 @@
--- The theorem of the fit: what a fit to a target above the count comes to, and with it a speed and each group of an alignment. Assumes nothing.
+-- The theorem of the fit: what a fit to a target above the count comes to, and with it a speed and each group of an alignment.
 use mathlib.Core.Path.{_≡_, refl, sym, ap, _∙_, subst}
 use mathlib.Core.Bool.{true, false, cond}
 use mathlib.Core.Logic.{inl, inr, ⊎-elim}
@@ -11,6 +11,7 @@ use lib.IntN.{pos, negsuc}
 use lib.ListN.{length, getD, take, drop, replicate, length-take, length-drop, length-replicate}
 use lib.Ieee.{Float, eq, le}
 use borrow.Author.Tests.{le-ltb, le-leb, lt-leb, ne-eqb, ltb-false}
+use Rattle.lists.specs.Sizes.{mostFrames}
 use Rattle.lists.specs.Totals.{total, gap}
 use Rattle.lists.specs.Refusals.{orElse}
 use Rattle.lists.proofs.Numbers.{le-or-lt}
@@ -22,7 +23,7 @@ use Rattle.duration.specs.declared.Aligned.{Aligned}
 use Rattle.duration.specs.declared.Aligned.the-variants.{Written, Denied}
 use Rattle.duration.specs.Estimate.{shortest, estimates}
 use Rattle.duration.specs.Steps.{Outcome, unchanged, settle}
-use Rattle.duration.specs.Fit.{mostFrames, rhoOf, startOf, fitTo, refusalTo}
+use Rattle.duration.specs.Fit.{rhoOf, startOf, fitTo, refusalTo}
 use Rattle.duration.specs.Speed.{naturals, targetAt, fitAt, refusalAt}
 use Rattle.duration.specs.Align.{endIf, Group, closing, groups, within, targetOf, fitOf, fitAlong, refusalOf, refusalAlong}
 use Rattle.lists.specs.Answers.{Answer, answerOf}

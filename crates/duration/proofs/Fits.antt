@@ -1,4 +1,4 @@
--- The ways through a fit in place, and through one at a speed. Assumes nothing.
+-- The ways through a fit in place, and through one at a speed.
 use mathlib.Core.Path.{_≡_, refl, _∙_}
 use mathlib.Core.Bool.{Bool, true, false, cond}
 use mathlib.Core.List.{List, [], _∷_, append-nil}
@@ -9,6 +9,7 @@ use lib.ListN.{length, replicate, drop-of-length-le}
 use lib.Seq.{sets}
 use lib.Ieee.{Float, eq}
 use borrow.Author.Tests.{lt-ltb, le-ltb, le-leb, lt-leb, ne-eqb}
+use Rattle.lists.specs.Sizes.{mostFrames}
 use Rattle.lists.specs.Totals.{total}
 use Rattle.lists.proofs.Stores.{filled}
 use Rattle.floats.specs.Numbers.{one}
@@ -16,10 +17,10 @@ use Rattle.duration.specs.declared.Fitted.{Fitted}
 use Rattle.duration.specs.declared.Fitted.the-variants.{Done, Refused}
 use Rattle.duration.specs.Estimate.{shortest, estimates}
 use Rattle.duration.specs.Steps.{Outcome, settle}
-use Rattle.duration.specs.Fit.{mostFrames, rhoOf, startOf, fitTo, refusalTo}
+use Rattle.duration.specs.Fit.{rhoOf, startOf, fitTo, refusalTo}
 use Rattle.duration.specs.Speed.{naturals, targetAt, fitAt, refusalAt}
 use Rattle.duration.specs.Promise.{clears}
-use Rattle.duration.specs.Inner.{Agree, InPlace}
+use Rattle.duration.specs.Inner.Asked.{Agree, InPlace}
 
 no-list : (xs : List ℕ) → length xs ≡ 0 → xs ≡ []
 no-list [] e = refl

@@ -1,4 +1,4 @@
--- The keys of the states, and that on the way down the least one's state is above 1. Assumes nothing.
+-- The keys of the states, and that on the way down the least one's state is above 1.
 use mathlib.Core.Path.{_≡_, refl, sym, ap, subst}
 use mathlib.Core.Bool.{Bool, true, false, cond}
 use mathlib.Core.List.{List, [], _∷_}
@@ -10,12 +10,13 @@ use lib.ListN.{length, getD}
 use lib.Ieee.{Float, nan, binary64}
 use lib.Ieee.Fits.{sub-fits}
 use borrow.Author.Tests.{ltb-true, ltb-false, lt-ltb}
+use Rattle.lists.specs.Sizes.{mostStates}
 use Rattle.lists.specs.Totals.{total}
 use Rattle.floats.proofs.Ordered.{abs-fits, abs-clear}
 use Rattle.duration.specs.Estimate.{shortest}
 use Rattle.duration.specs.Steps.{Key, costOf, keyOf, keys, sooner, leastOf}
 use Rattle.duration.specs.Steps.Key.{Fixed, Cost}
-use Rattle.duration.specs.Scores.{mostStates, rank, keyAt, scores}
+use Rattle.duration.specs.Inner.Scores.{rank, keyAt, scores}
 use Rattle.duration.proofs.Order.{clash, Sound}
 use Rattle.duration.proofs.Order.Sound.{fixed, cost}
 use Rattle.duration.proofs.Least.{leastKey, least-first, least-later, least-in, least-score}

@@ -1,4 +1,4 @@
--- The place of the first least key. Assumes nothing.
+-- The place of the first least key.
 use mathlib.Core.Path.{_≡_, refl, sym, _∙_}
 use mathlib.Core.Bool.{true, false, cond}
 use mathlib.Core.Logic.{⊎-elim}
@@ -8,10 +8,11 @@ use native.Mathlib.Nat.{not-suc-le-zero}
 use native.Mathlib.Omega.{arith}
 use lib.ListN.{length, getD}
 use borrow.Author.Tests.{ltb-true, ltb-false}
+use Rattle.lists.specs.Sizes.{mostStates}
 use Rattle.lists.proofs.Numbers.{le-or-lt}
 use Rattle.duration.specs.Steps.{Key, sooner, leastOf}
 use Rattle.duration.specs.Steps.Key.{Fixed}
-use Rattle.duration.specs.Scores.{mostStates, rank, score}
+use Rattle.duration.specs.Inner.Scores.{rank, score}
 use Rattle.duration.proofs.Order.{Sound, sooner-rank, later-trans, sooner-asym, sooner-self}
 
 abbrev pub leastKey : List Key → Key

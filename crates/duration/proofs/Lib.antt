@@ -17,6 +17,5 @@ pub mod Settling
 pub mod Alone
 pub mod Fairness
 pub mod Speeds
-pub mod Cases
 pub mod Roundings
 pub mod Uncapped

@@ -1,4 +1,4 @@
--- Trees of places: what a node that is played changes, and that the root of a tree that is kept has the least score. Assumes nothing.
+-- Trees of places: what a node that is played changes, and that the root of a tree that is kept has the least score.
 use mathlib.Core.Path.{_≡_, refl, sym, ap, _∙_, subst}
 use mathlib.Core.Bool.{true, false}
 use mathlib.Core.Logic.{_⊎_, inl, inr, ⊎-elim}
@@ -12,9 +12,9 @@ use lib.Seq.{getD-set-same, getD-set-other}
 use borrow.Author.Tests.{lt-ltb, le-ltb, eqb-true, eqb-false}
 use Rattle.lists.proofs.Numbers.{le-or-lt}
 use Rattle.duration.specs.declared.costs.Entry.{Entry}
-use Rattle.duration.specs.Scores.{scores, entryOf, soonerOf}
-use Rattle.duration.specs.Tree.{node, Lesser, Won, Within, Kept, On, Path}
-use Rattle.duration.specs.Tree.On.{here, over}
+use Rattle.duration.specs.Inner.Scores.{scores, entryOf, soonerOf}
+use Rattle.duration.specs.Inner.Tree.{node, Lesser, Won, Within, Kept, On, Path}
+use Rattle.duration.specs.Inner.Tree.On.{here, over}
 use Rattle.duration.proofs.Order.{sooner-lesser}
 
 pub same : (a b : ℕ) → (a ≡ b) ⊎ (a ≡ b → ⊥)

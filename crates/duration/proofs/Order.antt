@@ -1,4 +1,4 @@
--- The order of keys is that of their numbers, and of two entries the sooner is found. Assumes nothing.
+-- The order of keys is that of their numbers, and of two entries the sooner is found.
 use mathlib.Core.Path.{_≡_, refl, sym, _∙_, subst}
 use mathlib.Core.Bool.{Bool, true, false, cond}
 use mathlib.Core.Logic.{inl, inr}
@@ -8,13 +8,14 @@ use native.Mathlib.Omega.{arith}
 use lib.Dec.{T, ltb}
 use lib.Ieee.{Float, nan, inf, fin, binary64, fits, toBits}
 use borrow.Author.Tests.{ltb-true, ltb-false, lt-ltb, le-ltb}
+use Rattle.lists.specs.Sizes.{mostStates}
 use Rattle.floats.specs.Order.{notNegative}
 use Rattle.floats.proofs.Ordered.{bits-order, finite-below}
 use Rattle.duration.specs.declared.costs.Entry.{Entry}
 use Rattle.duration.specs.Steps.{Key, sooner}
 use Rattle.duration.specs.Steps.Key.{Fixed, Cost}
-use Rattle.duration.specs.Scores.{mostStates, rank, score, scores, entryOf, soonerOf}
-use Rattle.duration.specs.Tree.{Lesser}
+use Rattle.duration.specs.Inner.Scores.{rank, score, scores, entryOf, soonerOf}
+use Rattle.duration.specs.Inner.Tree.{Lesser}
 
 pub clash : {A : Type 0} → _≡_ {A = Bool} true false → A
 clash e = absurd (subst T e tt)

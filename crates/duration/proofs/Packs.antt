@@ -1,4 +1,4 @@
--- Durations and a tree's places in one list: what is stored, read, and left when the places go. Assumes nothing.
+-- Durations and a tree's places in one list: what is stored, read, and left when the places go.
 use mathlib.Core.Path.{_≡_, refl, ap, _∙_}
 use mathlib.Core.List.{List, [], _∷_, _++_, map}
 use Prim.Native.Nat.{ℕ, zero, suc, _+_, _-_, _*_, _/_, _%_, _≤_, _<_}
@@ -7,12 +7,12 @@ use native.Mathlib.Omega.{arith}
 use lib.ListN.{length, getD, set, take, drop, length-set, length-map, drop-of-length-le, List·getD-map}
 use lib.Seq.{map-set-same, drop-cons, drop-set-lt}
 use borrow.Author.Tests.{lt-ltb, le-ltb}
+use Rattle.lists.specs.Sizes.{mostFrames}
 use Rattle.lists.specs.Totals.{total}
 use Rattle.lists.proofs.Fills.{stored, finished}
-use Rattle.duration.specs.Fit.{mostFrames}
-use Rattle.duration.specs.Tree.{node}
-use Rattle.duration.specs.Pack.{width, lows, highs}
-use Rattle.duration.specs.Inner.{PutsDuration, PutsPlace}
+use Rattle.duration.specs.Inner.Tree.{node}
+use Rattle.duration.specs.Inner.Pack.{width, lows, highs}
+use Rattle.duration.specs.Inner.Asked.{PutsDuration, PutsPlace}
 
 map-set : (f : ℕ → ℕ) (w : List ℕ) (i x : ℕ) → map f (set w i x) ≡ set (map f w) i (f x)
 map-set f [] i x = refl

@@ -1,4 +1,4 @@
--- The tournament over a packed list: all nodes are played, then those above a state that a step changed. Assumes nothing.
+-- The tournament over a packed list: all nodes are played, then those above a state that a step changed.
 use mathlib.Core.Path.{_≡_, refl, sym, ap, _∙_, subst}
 use mathlib.Core.Bool.{Bool, true, false}
 use mathlib.Core.List.{List}
@@ -8,15 +8,15 @@ use lib.ListN.{length, getD}
 use lib.Seq.{getD-set-other}
 use lib.Dec.{ltb}
 use lib.Ieee.{Float}
+use Rattle.lists.specs.Sizes.{mostFrames, mostStates}
 use Rattle.lists.specs.Totals.{total}
 use Rattle.lists.proofs.Sums.{getD-le-total}
 use Rattle.duration.specs.declared.costs.Entry.{Entry}
 use Rattle.duration.specs.Steps.{moved, keys, leastOf, step, settle}
-use Rattle.duration.specs.Fit.{mostFrames}
-use Rattle.duration.specs.Scores.{mostStates, keyAt, scores, entryOf, soonerOf}
-use Rattle.duration.specs.Tree.{node, Kept, Path}
-use Rattle.duration.specs.Pack.{width, lows, highs}
-use Rattle.duration.specs.Inner.{Ready, RoomFor, MayMove, Aim, PutsDuration, PutsPlace, Standing, Plays, Stepped}
+use Rattle.duration.specs.Inner.Scores.{keyAt, scores, entryOf, soonerOf}
+use Rattle.duration.specs.Inner.Tree.{node, Kept, Path}
+use Rattle.duration.specs.Inner.Pack.{width, lows, highs}
+use Rattle.duration.specs.Inner.Asked.{Ready, RoomFor, MayMove, Aim, PutsDuration, PutsPlace, Standing, Plays, Stepped}
 use Rattle.duration.proofs.Order.{sooner-lesser}
 use Rattle.duration.proofs.Keys.{least-place}
 use Rattle.duration.proofs.Nodes.{node-leaf, node-in, kept-none, kept-next, Climbing, climb-start, climb-in, other-in, climb-next, climb-end, root-least, root-in, path-start}

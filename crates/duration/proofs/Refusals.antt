@@ -1,4 +1,4 @@
--- The refusals of the lists' lengths: each way out of the tests, and what it means that there is none. Assumes nothing.
+-- The refusals of the lists' lengths: each way out of the tests, and what it means that there is none.
 use mathlib.Core.Path.{_≡_, refl}
 use mathlib.Core.Bool.{Bool, true, false, not, cond}
 use Prim.Native.Nat.{ℕ, suc, _*_, _≤_, _<_}

@@ -1,4 +1,4 @@
--- The definitions and promises of `specs/` over any rounding, and that with `roundedOf` they are those. Assumes nothing.
+-- The definitions and promises of `specs/` over any rounding, and that with `roundedOf` they are those.
 use mathlib.Core.Path.{_≡_, refl, ap}
 use mathlib.Core.Bool.{cond}
 use mathlib.Core.List.{List, [], _∷_, _++_}
@@ -6,6 +6,7 @@ use Prim.Native.Nat.{ℕ, _+_}
 use lib.Dec.{ltb, leb, eqb}
 use lib.ListN.{length, replicate}
 use lib.Ieee.{Float, binary64, add, sub, mul, div, eq}
+use Rattle.lists.specs.Sizes.{mostFrames}
 use Rattle.lists.specs.Totals.{total}
 use Rattle.lists.specs.Refusals.{orElse}
 use Rattle.floats.specs.Rounding.{roundedOf}
@@ -14,7 +15,7 @@ use Rattle.duration.specs.declared.Fitted.{Fitted}
 use Rattle.duration.specs.declared.Aligned.{Aligned}
 use Rattle.duration.specs.Estimate.{shortest, estimates}
 use Rattle.duration.specs.Steps.{Outcome, unchanged, settle}
-use Rattle.duration.specs.Fit.{mostFrames, rhoOf, startOf, plain, fitTo, refusalTo}
+use Rattle.duration.specs.Fit.{rhoOf, startOf, plain, fitTo, refusalTo}
 use Rattle.duration.specs.Speed.{naturals, targetAt, fitAt, refusalAt}
 use Rattle.duration.specs.Align.{Group, groups, within, targetOf, fitOf, tail, fitAlong, refusalOf, refusalAlong}
 use Rattle.duration.specs.Promise.{fitted, aligned, refusalOfLists, refusalOfLabels, Says}

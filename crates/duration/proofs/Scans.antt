@@ -1,12 +1,13 @@
--- A scan of the states for the least score. Assumes nothing.
+-- A scan of the states for the least score.
 use mathlib.Core.Path.{_≡_, ap, _∙_, subst, sym}
 use mathlib.Core.Logic.{⊎-elim}
 use Prim.Native.Nat.{ℕ, _+_, _≤_, _<_}
 use native.Mathlib.Nat.{le-refl, le-trans}
 use native.Mathlib.Omega.{arith}
+use Rattle.lists.specs.Sizes.{mostStates}
 use Rattle.lists.proofs.Numbers.{le-or-lt}
 use Rattle.duration.specs.declared.costs.Entry.{Entry}
-use Rattle.duration.specs.Scores.{mostStates, scores, entryOf, soonerOf}
+use Rattle.duration.specs.Inner.Scores.{scores, entryOf, soonerOf}
 use Rattle.duration.proofs.Order.{sooner-lesser}
 
 -- of n states with these keys, i are passed, and the best of them is known

@@ -1,4 +1,4 @@
--- The step rule as a 'while': it ends at one list after one number of steps, and the computation ends there. Assumes nothing.
+-- The step rule as a 'while': it ends at one list after one number of steps, and the computation ends there.
 use mathlib.Core.Path.{_≡_, refl, ap, _∙_}
 use mathlib.Core.Bool.{Bool, true, false}
 use mathlib.Core.List.{List, [], _∷_}

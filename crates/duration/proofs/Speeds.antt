@@ -1,4 +1,4 @@
--- What a speed does at its limits: at +0 it is refused; at -0, below 0, at NaN and at the infinities every state gets one frame. Assumes nothing.
+-- What a speed does at its limits: at +0 it is refused; at -0, below 0, at NaN and at the infinities every state gets one frame.
 use mathlib.Core.Path.{_≡_, refl, sym, ap, _∙_}
 use mathlib.Core.Bool.{Bool, true, false, cond, _&&_, _||_}
 use mathlib.Core.List.{List}
@@ -14,12 +14,13 @@ use lib.Ieee.{Float, nan, inf, fin, binary64, prec, low, emax, up, down, size, n
 use lib.Ieee.Exact.{HasValue, round-exact}
 use lib.Ieee.Fits.{down-pos}
 use borrow.Author.Tests.{le-ltb, le-leb, ne-eqb, eqb-true}
+use Rattle.lists.specs.Sizes.{mostFrames}
 use Rattle.lists.specs.Totals.{total}
 use Rattle.floats.specs.Rounding.{whole, nearestHalf, toIntegral, framesOf, roundedOf}
 use Rattle.floats.specs.Numbers.{nought, one, number}
 use Rattle.duration.specs.Estimate.{shortest}
 use Rattle.duration.specs.Steps.{unchanged}
-use Rattle.duration.specs.Fit.{mostFrames, fitTo, refusalTo}
+use Rattle.duration.specs.Fit.{fitTo, refusalTo}
 use Rattle.duration.specs.Speed.{naturals, targetAt, fitAt, refusalAt}
 use Rattle.duration.proofs.Estimates.{length-estimates}
 use Rattle.duration.proofs.Settling.{Positive}

@@ -1,4 +1,4 @@
--- Steps: what one does to the total, and a loop of them. Assumes nothing.
+-- Steps: what one does to the total, and a loop of them.
 use mathlib.Core.Path.{_≡_, refl, sym, ap, _∙_}
 use mathlib.Core.Bool.{Bool, true, false}
 use mathlib.Core.List.{List}
@@ -8,11 +8,11 @@ use lib.Dec.{ltb}
 use lib.ListN.{length, getD, set, length-set}
 use lib.Ieee.{Float}
 use borrow.Author.Tests.{ltb-true, ltb-false, lt-ltb, le-ltb, eq-eqb, ne-eqb}
+use Rattle.lists.specs.Sizes.{mostFrames}
 use Rattle.lists.specs.Totals.{total, gap}
 use Rattle.lists.proofs.Sums.{getD-le-total, total-set}
 use Rattle.duration.specs.Steps.{moved, keys, leastOf, step, Outcome, unchanged, onceMore, settle}
-use Rattle.duration.specs.Fit.{mostFrames}
-use Rattle.duration.specs.Inner.{Ready, RoomFor, MayMove, Aim}
+use Rattle.duration.specs.Inner.Asked.{Ready, RoomFor, MayMove, Aim}
 use Rattle.duration.proofs.Keys.{place-in, place-long}
 
 -- ---- one step

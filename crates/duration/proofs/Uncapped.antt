@@ -1,4 +1,4 @@
--- `framesOf` says 65,537 for all that is above 65,536. That shows nowhere: each call promises the same with counts of frames that have no cap. Assumes nothing.
+-- `framesOf` says 65,537 for all that is above 65,536. That shows nowhere: each call promises the same with counts of frames that have no cap.
 use mathlib.Core.Path.{_≡_, refl, sym, ap, _∙_, subst}
 use mathlib.Core.Bool.{Bool, true, false, cond, _||_}
 use mathlib.Core.Logic.{⊎-elim, _↔_}
@@ -10,6 +10,7 @@ use lib.IntN.{pos, negsuc}
 use lib.ListN.{length, replicate}
 use lib.Ieee.{Float, binary64, div, eq}
 use borrow.Author.Tests.{lt-ltb, le-ltb, ltb-false}
+use Rattle.lists.specs.Sizes.{mostFrames}
 use Rattle.lists.specs.Totals.{total}
 use Rattle.lists.specs.Refusals.{orElse}
 use Rattle.lists.specs.Answers.{Answer}
@@ -21,7 +22,7 @@ use Rattle.duration.specs.declared.Fitted.{Fitted}
 use Rattle.duration.specs.declared.Aligned.{Aligned}
 use Rattle.duration.specs.Estimate.{shortest, estimates}
 use Rattle.duration.specs.Steps.{Outcome, unchanged, settle}
-use Rattle.duration.specs.Fit.{mostFrames, rhoOf, startOf, fitTo, refusalTo}
+use Rattle.duration.specs.Fit.{rhoOf, startOf, fitTo, refusalTo}
 use Rattle.duration.specs.Speed.{naturals, targetAt, fitAt, refusalAt}
 use Rattle.duration.specs.Align.{Group, groups, within, targetOf, fitOf, fitAlong, refusalOf, refusalAlong}
 use Rattle.duration.specs.Promise.{fitted, aligned, refusalOfLists, refusalOfLabels, Says, FitSays, SpeedSays, AlignSays}

@@ -1,10 +1,11 @@
--- Alignment: labels with an end close groups of states. Assumes nothing.
+-- Alignment: labels with an end close groups of states.
 use mathlib.Core.Bool.{Bool, true, false, cond}
 use mathlib.Core.List.{List, [], _∷_, _++_}
 use Prim.Native.Nat.{ℕ, _+_, _-_}
 use lib.Dec.{ltb}
 use lib.ListN.{take, drop}
 use lib.Ieee.{Float, binary64, sub, le}
+use Rattle.lists.specs.Sizes.{mostFrames}
 use Rattle.lists.specs.Totals.{total}
 use Rattle.floats.specs.Rounding.{roundedOf}
 use Rattle.floats.specs.Numbers.{nought, number}
@@ -12,7 +13,7 @@ use Rattle.duration.specs.declared.align.End.{End}
 use Rattle.duration.specs.declared.align.End.the-variants.{At, Open}
 use Rattle.duration.specs.declared.align.Label.{Label}
 use Rattle.duration.specs.Steps.{Outcome, unchanged}
-use Rattle.duration.specs.Fit.{mostFrames, fitTo, refusalTo}
+use Rattle.duration.specs.Fit.{fitTo, refusalTo}
 use Rattle.lists.specs.Refusals.{orElse}
 
 -- RULES, Durations: an end at or above 0, -0 too, is a time in frames; one below 0, and NaN, is open

@@ -1,5 +1,5 @@
 -- Worked calls beside the table's, by computation: ends about zero, groups whose target is not above their count, and which of the refusals 7 and 8
--- comes first. Each call is made with an output of sevens and a work space of nines. Assumes nothing.
+-- comes first. Each call is made with an output of sevens and a work space of nines.
 use mathlib.Core.Path.{_≡_, refl}
 use mathlib.Core.Bool.{false}
 use mathlib.Core.List.{List, [], _∷_}

@@ -1,4 +1,4 @@
--- How long states are estimated to be. Assumes nothing.
+-- How long states are estimated to be.
 use mathlib.Core.List.{List, [], _∷_}
 use Prim.Native.Nat.{ℕ}
 use lib.Ieee.{Float, binary64, add, mul}

@@ -1,19 +1,16 @@
--- The fit of states to a length. Assumes nothing.
+-- The fit of states to a length.
 use mathlib.Core.Bool.{Bool, _||_, cond}
 use mathlib.Core.List.{List}
 use Prim.Native.Nat.{ℕ}
 use lib.Dec.{leb, ltb, eqb}
 use lib.ListN.{length, replicate}
 use lib.Ieee.{Float, binary64, sub, div}
+use Rattle.lists.specs.Sizes.{mostFrames}
 use Rattle.lists.specs.Totals.{total}
 use Rattle.model.specs.Pair.{sumOf}
 use Rattle.floats.specs.Numbers.{number}
 use Rattle.duration.specs.Estimate.{shortest, estimates}
 use Rattle.duration.specs.Steps.{Outcome, unchanged, settle}
-
--- RULES, Sizes: an utterance has at most 65,536 frames
-abbrev pub mostFrames : ℕ
-mostFrames = 65536
 
 -- RULES, Durations: rho is the target less the sum of the means, over the sum of the variances; each sum runs from zero, left to right
 abbrev pub rhoOf : List Float → List Float → ℕ → Float

@@ -1,10 +1,11 @@
--- RULES, Durations: the theorem of the fit, which is what a fit to a target above the count comes to. Assumes nothing.
+-- RULES, Durations: the theorem of the fit, which is what a fit to a target above the count comes to.
 use mathlib.Core.Path.{_≡_}
 use mathlib.Core.Logic.{_⊎_}
 use mathlib.Core.List.{List, [], _∷_, _++_}
 use Prim.Native.Nat.{ℕ, _+_, _≤_, _<_}
 use lib.ListN.{length, getD, drop, replicate}
 use lib.Ieee.{Float}
+use Rattle.lists.specs.Sizes.{mostFrames, mostStates}
 use Rattle.lists.specs.Totals.{total, gap}
 use Rattle.duration.specs.declared.Fitted.{Fitted}
 use Rattle.duration.specs.declared.Fitted.the-variants.{Done}
@@ -12,7 +13,7 @@ use Rattle.duration.specs.declared.Aligned.{Aligned}
 use Rattle.duration.specs.declared.Aligned.the-variants.{Written}
 use Rattle.duration.specs.Estimate.{shortest}
 use Rattle.duration.specs.Steps.{Outcome, unchanged, Settles}
-use Rattle.duration.specs.Fit.{mostFrames, rhoOf, startOf}
+use Rattle.duration.specs.Fit.{rhoOf, startOf}
 use Rattle.duration.specs.Align.{Group, within, targetOf}
 
 -- how far apart two lists of durations are: the states' own changes, summed
@@ -53,7 +54,7 @@ pub data FairAlong (ms vs : List Float) : List Group → ℕ → List ℕ → �
 -- what the theorem takes: lists within the sizes that agree, room, and a target above the count that is not refused
 pub record Ample (ms vs : List Float) (t : ℕ) (out work : List ℕ) : Type 0 where
   pub some : 0 < length ms
-  pub few : length ms ≤ 4096
+  pub few : length ms ≤ mostStates
   pub agree : length vs ≡ length ms
   pub output : length ms ≤ length out
   pub workspace : length ms ≤ length work

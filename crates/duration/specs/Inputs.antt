@@ -1,4 +1,4 @@
--- What worked cases are called with: the states (2, 1), (3, 1), an output of sevens and a work space of nines, so that what a call leaves is said too. Assumes nothing.
+-- What worked cases are called with: the states (2, 1), (3, 1), an output of sevens and a work space of nines, so that what a call leaves is said too.
 use mathlib.Core.Bool.{false}
 use mathlib.Core.List.{List, [], _∷_}
 use Prim.Native.Nat.{ℕ}

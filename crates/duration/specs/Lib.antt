@@ -1,14 +1,12 @@
--- What the contracts of src/ cite.
-pub mod Estimate
-pub mod Steps
-pub mod Scores
-pub mod Tree
-pub mod Pack
-pub mod Fit
-pub mod Speed
-pub mod Align
-pub mod Promise
-pub mod Fitting
+-- What the contracts of src/ cite, in reading order. What only private contracts and proofs need is in Inner.
+pub mod Estimate  -- a state's estimate
+pub mod Steps  -- the cost of a duration, and the rule of steps
+pub mod Fit  -- the fit to a length
+pub mod Speed  -- the fit at a speed
+pub mod Align  -- the fit to given ends
+pub mod Promise  -- what the three calls promise
+pub mod Fitting  -- the theorem of the fit
+pub mod Inputs  -- what worked cases are called with
+pub mod Cases  -- the rules' table of cases
+pub mod CallCases  -- cases beside the table's
 pub mod Inner
-pub mod Inputs
-pub mod CallCases

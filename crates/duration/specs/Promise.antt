@@ -1,4 +1,4 @@
--- What the three calls promise. Assumes nothing.
+-- What the three calls promise.
 use mathlib.Core.Path.{_≡_}
 use mathlib.Core.Bool.{Bool, not, _||_, cond}
 use mathlib.Core.List.{List, [], _∷_, _++_}
@@ -12,6 +12,7 @@ use Rattle.duration.specs.declared.Fitted.the-variants.{Done, Refused}
 use Rattle.duration.specs.declared.Aligned.{Aligned}
 use Rattle.duration.specs.declared.Aligned.the-variants.{Written, Denied}
 use Rattle.duration.specs.Fit.{fitTo, refusalTo}
+use Rattle.lists.specs.Sizes.{mostStates, mostLabelStates}
 use Rattle.lists.specs.Refusals.{orElse}
 use Rattle.lists.specs.Answers.{Answer, answerOf, written}
 use Rattle.duration.specs.Speed.{fitAt, refusalAt}
@@ -37,11 +38,11 @@ workOf k n work = cond (clears k) (replicate n 0 ++ drop n work) work
 
 -- RULES, Refusals: 3, 4 and 6, of n states and v variances, with room for o and w numbers
 unfoldable pub refusalOfLists : ℕ → ℕ → ℕ → ℕ → ℕ
-refusalOfLists n v o w = cond (ltb 4096 n) 3 (cond (not (eqb v n)) 4 (cond (ltb o n) 6 (cond (ltb w n) 6 0)))
+refusalOfLists n v o w = cond (ltb mostStates n) 3 (cond (not (eqb v n)) 4 (cond (ltb o n) 6 (cond (ltb w n) 6 0)))
 
 -- the same of l labels with k states each
 unfoldable pub refusalOfLabels : ℕ → ℕ → ℕ → ℕ → ℕ → ℕ → ℕ
-refusalOfLabels k l n v o w = cond (ltb 4096 n) 3 (cond (ltb k 1) 3 (cond (ltb 16 k) 3 (cond (not (eqb (l * k) n)) 4 (refusalOfLists n v o w))))
+refusalOfLabels k l n v o w = cond (ltb mostStates n) 3 (cond (ltb k 1) 3 (cond (ltb mostLabelStates k) 3 (cond (not (eqb (l * k) n)) 4 (refusalOfLists n v o w))))
 
 -- A call of n states with the refusal number k, 0 for none, and these values and durations where it is accepted: its answer, and the lists at exit.
 pub record Says (k : ℕ) (values new : List ℕ) (n : ℕ) (out work : List ℕ) (r : Answer) (out′ work′ : List ℕ) : Type 0 where

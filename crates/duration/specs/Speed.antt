@@ -1,15 +1,16 @@
--- Durations at a speed. Assumes nothing.
+-- Durations at a speed.
 use mathlib.Core.Bool.{cond}
 use mathlib.Core.List.{List}
 use Prim.Native.Nat.{ℕ}
 use lib.Dec.{ltb}
 use lib.Ieee.{Float, binary64, div, eq}
+use Rattle.lists.specs.Sizes.{mostFrames}
 use Rattle.lists.specs.Totals.{total}
 use Rattle.floats.specs.Rounding.{roundedOf}
 use Rattle.floats.specs.Numbers.{nought, one, number}
 use Rattle.duration.specs.Estimate.{estimates}
 use Rattle.duration.specs.Steps.{Outcome, unchanged}
-use Rattle.duration.specs.Fit.{mostFrames, fitTo, refusalTo}
+use Rattle.duration.specs.Fit.{fitTo, refusalTo}
 
 -- RULES, Durations: a speed's first estimate has rho 0
 unfoldable pub naturals : List Float → List Float → List ℕ

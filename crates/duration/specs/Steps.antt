@@ -1,4 +1,4 @@
--- The step rule. Assumes nothing.
+-- The step rule.
 use mathlib.Core.Path.{_≡_}
 use mathlib.Core.Bool.{Bool, true, false, cond}
 use mathlib.Core.List.{List, [], _∷_}

@@ -2,7 +2,7 @@
 ghost use mathlib.Core.Path.{_≡_};
 ghost use Rattle.duration.specs.Align.{labelOf, groups, fitAlong, refusalAlong};
 ghost use Rattle.duration.specs.Promise.{fitted};
-ghost use Rattle.duration.specs.Inner.{Lies, closed, Closes, Labelled, AtFront};
+ghost use Rattle.duration.specs.Inner.Asked.{Lies, closed, Closes, Labelled, AtFront};
 use crate::Aligned;
 use crate::Fitted;
 

@@ -3,9 +3,9 @@ ghost use mathlib.Core.Path.{_≡_};
 ghost use Prim.Native.Nat.{_≤_, _<_};
 ghost use lib.Dec.{ltb};
 ghost use lib.Ieee.{binary64, toBits};
+ghost use Rattle.lists.specs.Sizes.{mostFrames, mostStates};
 ghost use Rattle.duration.specs.Steps.{costOf, keyOf};
-ghost use Rattle.duration.specs.Fit.{mostFrames};
-ghost use Rattle.duration.specs.Scores.{mostStates, rank, score, soonerOf};
+ghost use Rattle.duration.specs.Inner.Scores.{rank, score, soonerOf};
 
 // A state's place, and its key.
 pub(crate) struct Entry {

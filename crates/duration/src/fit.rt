@@ -2,7 +2,7 @@
 ghost use mathlib.Core.Path.{_≡_};
 ghost use Rattle.duration.specs.Estimate.{estimateOf, estimates};
 ghost use Rattle.duration.specs.Fit.{rhoOf, fitTo, refusalTo};
-ghost use Rattle.duration.specs.Inner.{Agree, InPlace};
+ghost use Rattle.duration.specs.Inner.Asked.{Agree, InPlace};
 use crate::Fitted;
 
 fn estimate(rho: f64, mean: f64, vari: f64) -> u32

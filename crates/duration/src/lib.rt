@@ -1,6 +1,6 @@
 // The durations of states: fitted to a length, to a speed, or to given ends.
 ghost use mathlib.Core.Path.{_≡_};
-ghost use Rattle.duration.specs.Inner.{HandsOut};
+ghost use Rattle.duration.specs.Inner.Asked.{HandsOut};
 ghost use Rattle.duration.specs.Promise.{refusalOfLists, refusalOfLabels, FitSays, SpeedSays, AlignSays};
 
 mod align;

@@ -2,10 +2,10 @@
 ghost use mathlib.Core.Path.{_≡_};
 ghost use Prim.Native.Nat.{_<_};
 ghost use lib.ListN.{length, getD};
-ghost use Rattle.duration.specs.Scores.{mostStates};
-ghost use Rattle.duration.specs.Tree.{node};
-ghost use Rattle.duration.specs.Pack.{width, lows, highs};
-ghost use Rattle.duration.specs.Inner.{PutsPlace, PutsDuration};
+ghost use Rattle.lists.specs.Sizes.{mostStates};
+ghost use Rattle.duration.specs.Inner.Tree.{node};
+ghost use Rattle.duration.specs.Inner.Pack.{width, lows, highs};
+ghost use Rattle.duration.specs.Inner.Asked.{PutsPlace, PutsDuration};
 
 pub(crate) fn duration_at(work: &[u32], p: usize) -> u32
     requires { ⌜ p < length (now work) ⌝ }

@@ -2,11 +2,11 @@
 ghost use mathlib.Core.Path.{_≡_};
 ghost use Prim.Native.Nat.{_<_};
 ghost use lib.ListN.{length};
+ghost use Rattle.lists.specs.Sizes.{mostFrames};
 ghost use Rattle.lists.specs.Totals.{total};
 ghost use Rattle.duration.specs.Steps.{keys, leastOf, step, settle};
-ghost use Rattle.duration.specs.Fit.{mostFrames};
-ghost use Rattle.duration.specs.Scores.{keyAt, entryOf};
-ghost use Rattle.duration.specs.Inner.{Ready, RoomFor, Aim};
+ghost use Rattle.duration.specs.Inner.Scores.{keyAt, entryOf};
+ghost use Rattle.duration.specs.Inner.Asked.{Ready, RoomFor, Aim};
 use crate::costs::Entry;
 
 // The state at a place, with its key.

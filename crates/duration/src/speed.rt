@@ -1,6 +1,6 @@
 // Durations at a speed.
 ghost use Rattle.duration.specs.Speed.{fitAt, refusalAt};
-ghost use Rattle.duration.specs.Inner.{Agree, InPlace};
+ghost use Rattle.duration.specs.Inner.Asked.{Agree, InPlace};
 use crate::Fitted;
 
 // The durations at a speed, in place in work.

@@ -2,10 +2,10 @@
 ghost use mathlib.Core.Path.{_≡_};
 ghost use Prim.Native.Nat.{_<_};
 ghost use lib.ListN.{length};
+ghost use Rattle.lists.specs.Sizes.{mostFrames};
 ghost use Rattle.lists.specs.Totals.{gap};
 ghost use Rattle.duration.specs.Steps.{moved, settle};
-ghost use Rattle.duration.specs.Fit.{mostFrames};
-ghost use Rattle.duration.specs.Inner.{Ready, MayMove, Aim, Lone};
+ghost use Rattle.duration.specs.Inner.Asked.{Ready, MayMove, Aim, Lone};
 
 pub(crate) fn moved_one(up: bool, d: u32) -> u32
     requires { ⌜ MayMove up d ⌝ }

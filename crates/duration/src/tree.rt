@@ -2,13 +2,13 @@
 ghost use mathlib.Core.Path.{_≡_};
 ghost use Prim.Native.Nat.{_+_, _*_, _/_, _<_};
 ghost use lib.ListN.{length};
+ghost use Rattle.lists.specs.Sizes.{mostFrames};
 ghost use Rattle.lists.specs.Totals.{total};
 ghost use Rattle.duration.specs.Steps.{settle};
-ghost use Rattle.duration.specs.Fit.{mostFrames};
-ghost use Rattle.duration.specs.Scores.{keyAt, scores, entryOf};
-ghost use Rattle.duration.specs.Tree.{node, Path};
-ghost use Rattle.duration.specs.Pack.{lows, highs};
-ghost use Rattle.duration.specs.Inner.{Ready, RoomFor, Aim, Standing, Plays, Stepped};
+ghost use Rattle.duration.specs.Inner.Scores.{keyAt, scores, entryOf};
+ghost use Rattle.duration.specs.Inner.Tree.{node, Path};
+ghost use Rattle.duration.specs.Inner.Pack.{lows, highs};
+ghost use Rattle.duration.specs.Inner.Asked.{Ready, RoomFor, Aim, Standing, Plays, Stepped};
 use crate::costs::Entry;
 
 // The state at a node, with its key.

@@ -1,4 +1,4 @@
--- The correctly rounded root is nearest among the format's values, said by squares of whole numbers. Assumes nothing.
+-- The correctly rounded root is nearest among the format's values, said by squares of whole numbers.
 use mathlib.Core.Path.{_≡_, sym, ap, _∙_, subst}
 use mathlib.Core.Bool.{Bool, false, _&&_}
 use mathlib.Core.Logic.{⊎-elim}

@@ -1,4 +1,4 @@
--- Rounding to the nearest whole number, halves upward. Assumes nothing.
+-- Rounding to the nearest whole number, halves upward.
 use mathlib.Core.Path.{_≡_, refl, sym, ap, _∙_}
 use Prim.Native.Nat.{ℕ, zero, suc, _+_, _*_, _/_, _^_, _≤_, _<_}
 use native.Mathlib.Nat.{mul-assoc, mul-comm, mul-left-comm, add-mul, mul-pos, add-div-right, div-div-eq-div-mul, div-eq-of-lt, le-div-iff-mul-le, le-of-eq, lt-of-le-of-lt, lt-of-lt-of-le, pow-succ'}

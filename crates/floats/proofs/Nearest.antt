@@ -1,4 +1,4 @@
--- The nearest whole number, ties away from zero: `nearestHalf` is it, and nothing else is. Assumes nothing.
+-- The nearest whole number, ties away from zero: `nearestHalf` is it, and nothing else is.
 use mathlib.Core.Path.{_≡_, refl}
 use mathlib.Core.Bool.{Bool}
 use Prim.Native.Nat.{ℕ, _+_, _*_, _/_, _≤_, _<_}

@@ -1,4 +1,4 @@
--- A pattern that is read is written again if it is no NaN's but the one, and only then. Assumes nothing.
+-- A pattern that is read is written again if it is no NaN's but the one, and only then.
 use mathlib.Core.Path.{_≡_, refl, sym, ap, _∙_}
 use mathlib.Core.Logic.{⊎-elim}
 use Prim.Native.Nat.{ℕ, _%_, _^_, _≤_, _<_}

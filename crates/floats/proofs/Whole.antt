@@ -1,4 +1,4 @@
--- `roundedOf` by the fields of a bit pattern. Assumes nothing.
+-- `roundedOf` by the fields of a bit pattern.
 use mathlib.Core.Path.{_≡_, refl, sym, ap, _∙_, subst}
 use mathlib.Core.Bool.{Bool, true, false, cond, true≢false}
 use Prim.Native.Nat.{ℕ, zero, suc, _+_, _-_, _*_, _/_, _%_, _^_, _≤_, _<_}

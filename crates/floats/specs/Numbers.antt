@@ -1,4 +1,4 @@
--- Whole numbers as floats. Assumes nothing.
+-- Whole numbers as floats.
 use Prim.Native.Nat.{ℕ}
 use lib.IntN.{pos}
 use lib.Ieee.{Float, binary64, ofBits, ofInt}

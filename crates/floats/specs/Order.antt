@@ -1,4 +1,4 @@
--- The absolute value, and the order of costs. Assumes nothing.
+-- The absolute value, and the order of costs.
 use mathlib.Core.Bool.{Bool, true, false, not, _&&_, _||_}
 use lib.Ieee.{Float, nan, inf, fin, isNan, lt}
 

@@ -1,4 +1,4 @@
--- IEEE 754-2019, 5.9, roundToIntegralTiesToAway, said over fractions, and the count of frames from it. Assumes nothing.
+-- IEEE 754-2019, 5.9, roundToIntegralTiesToAway, said over fractions, and the count of frames from it.
 use mathlib.Core.Path.{_≡_}
 use mathlib.Core.Bool.{Bool, cond}
 use Prim.Native.Nat.{ℕ, _+_, _*_, _/_, _≤_, _<_, min, max}

@@ -1,4 +1,4 @@
--- Worked values, computed from the definitions. Assumes nothing.
+-- Worked values, computed from the definitions.
 use mathlib.Core.Path.{_≡_, refl}
 use Prim.Native.Nat.{ℕ}
 use lib.IntN.{pos, negsuc}

@@ -1,4 +1,4 @@
--- Two outcomes that a C call's promise allows are equal. Assumes nothing.
+-- Two outcomes that a C call's promise allows are equal.
 use mathlib.Core.Path.{_≡_, sym, ap, _∙_}
 use mathlib.Core.List.{List}
 use Prim.Native.Nat.{ℕ}
@@ -7,11 +7,11 @@ use Rattle.lists.specs.Answers.{Answer}
 use Rattle.lists.proofs.Answers.{same}
 use Rattle.duration.specs.Promise.{fitted, aligned}
 use Rattle.duration.proofs.Calls.{fit-says-one, speed-says-one, align-says-one}
-use Rattle.mlpg_adjust.specs.Ends.{filled}
-use Rattle.mlpg_adjust.specs.TrajectoryPromise.{createdNumber}
-use Rattle.mlpg_adjust.proofs.MaskWays.{masked-one}
-use Rattle.mlpg_adjust.proofs.BandWays.{band-one}
-use Rattle.mlpg_adjust.proofs.CreateOne.{create-one}
+use Rattle.lists.specs.Ends.{filled}
+use Rattle.mlpg_adjust.specs.Promise.{createdNumber}
+use Rattle.voicing.proofs.Ways.{masked-one}
+use Rattle.band.proofs.Ways.{band-one}
+use Rattle.mlpg_adjust.proofs.One.{create-one}
 use Rattle.job.specs.Promise.{answered}
 use Rattle.job.proofs.Outcomes.{job-one}
 use Rattle.spool.specs.Promise.{placed, spanned}

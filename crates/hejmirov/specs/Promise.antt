@@ -1,4 +1,4 @@
--- What the C calls promise: a call below is made, and its answer taken apart into a number and what stands behind pointers. Assumes nothing.
+-- What the C calls promise: a call below is made, and its answer taken apart into a number and what stands behind pointers.
 use mathlib.Core.Path.{_≡_}
 use mathlib.Core.Bool.{cond, not}
 use mathlib.Core.List.{List}
@@ -10,15 +10,15 @@ use Rattle.lists.specs.Answers.{Answer}
 use Rattle.duration.specs.Promise.{fitted, aligned, FitSays, SpeedSays, AlignSays}
 use Rattle.duration.specs.declared.Fitted.{Fitted}
 use Rattle.duration.specs.declared.Aligned.{Aligned}
-use Rattle.mlpg_adjust.specs.Ends.{filled}
-use Rattle.mlpg_adjust.specs.MaskPromise.{MaskedDistancesSays}
-use Rattle.mlpg_adjust.specs.BandPromise.{BandSays}
-use Rattle.mlpg_adjust.specs.TrajectoryPromise.{createdNumber, CreateSays}
+use Rattle.lists.specs.Ends.{filled}
+use Rattle.voicing.specs.Promise.{MaskedDistancesSays}
+use Rattle.band.specs.Promise.{BandSays}
+use Rattle.mlpg_adjust.specs.Promise.{createdNumber, CreateSays}
 use Rattle.mlpg_adjust.specs.declared.Stream.{Stream}
 use Rattle.mlpg_adjust.specs.declared.GlobalVariance.{GlobalVariance}
 use Rattle.mlpg_adjust.specs.declared.GlobalVariance.the-variants.{Off, On}
 use Rattle.mlpg_adjust.specs.declared.Created.{Created}
-use Rattle.mlpg_adjust.specs.declared.Filled.{Filled}
+use Rattle.lists.specs.declared.Filled.{Filled}
 use Rattle.job.specs.Promise.{answered, JobSays}
 use Rattle.job.specs.declared.Answered.{Answered}
 use Rattle.spool.specs.Promise.{placed, spanned, PlaceSays, SpanSays}

@@ -2,16 +2,16 @@
 // A list is a pointer and a length.
 ghost use mathlib.Core.Path.{_≡_};
 ghost use Rattle.duration.specs.Promise.{fitted, aligned};
-ghost use Rattle.mlpg_adjust.specs.Ends.{filled};
-ghost use Rattle.mlpg_adjust.specs.TrajectoryPromise.{createdNumber};
+ghost use Rattle.lists.specs.Ends.{filled};
+ghost use Rattle.mlpg_adjust.specs.Promise.{createdNumber};
 ghost use Rattle.spool.specs.Promise.{placed, spanned};
 ghost use Rattle.job.specs.Promise.{answered};
 ghost use Rattle.hejmirov.specs.Promise.{HandsOne, HandsTwo, HandsThree, varianceOf, FitCallSays, SpeedCallSays, AlignCallSays, MaskCallSays, BandCallSays, TrajectoryCallSays, PlaceCallSays, ExcerptCallSays, JobCallSays};
 use duration::Aligned;
 use duration::Fitted;
 use job::Answered;
+use lists::Filled;
 use mlpg_adjust::Created;
-use mlpg_adjust::Filled;
 use mlpg_adjust::GlobalVariance;
 use mlpg_adjust::Stream;
 use spool::Placed;
@@ -112,7 +112,7 @@ pub extern "C" fn hejmirov_mask(
 ) -> u32
     ensures { λ r. ⌜ MaskCallSays (now (weights .entry)) threshold (now (durations .entry)) (now (voiced .entry)) (now (left .entry)) (now (right .entry)) (now (frames .entry)) r (now (voiced .exit)) (now (left .exit)) (now (right .exit)) (now (frames .exit)) ⌝ }
 {
-    let answer = mlpg_adjust::mask::mask_with_distances(
+    let answer = voicing::mask::mask_with_distances(
         weights,
         threshold,
         durations,
@@ -147,7 +147,7 @@ pub extern "C" fn hejmirov_band_rows(
 ) -> u32
     ensures { λ r. ⌜ BandCallSays (now (widths .entry)) (now (coefficients .entry)) (now (means .entry)) (now (ivars .entry)) (now (rows .entry)) (now (right .entry)) r (now (rows .exit)) (now (right .exit)) ⌝ }
 {
-    let answer = mlpg_adjust::band::band_rows(widths, coefficients, means, ivars, rows, right);
+    let answer = band::band_rows(widths, coefficients, means, ivars, rows, right);
     number_of_rows(answer)
 }
 

@@ -1,15 +1,15 @@
--- The ways through a job. Assumes nothing.
+-- The ways through a job.
 use mathlib.Core.Path.{_≡_, refl, sym, ap, _∙_}
 use mathlib.Core.List.{List, [], _∷_, _++_}
 use Prim.Native.Nat.{ℕ, _^_, _≤_}
 use native.Mathlib.Omega.{arith}
 use lib.ListN.{length, take, drop, length-append}
 use lib.Seq.{take-at}
+use Rattle.lists.specs.Sizes.{mostFrames, mostJobStates}
 use Rattle.lists.specs.Totals.{total}
 use Rattle.lists.proofs.Sums.{total-whole}
 use Rattle.duration.specs.declared.Fitted.{Fitted}
 use Rattle.duration.specs.declared.Fitted.the-variants.{Done as Fit·Done, Refused as Fit·Refused}
-use Rattle.duration.specs.Fit.{mostFrames}
 use Rattle.duration.specs.Speed.{refusalAt}
 use Rattle.lists.specs.Answers.{Answer, answerOf, written}
 use Rattle.duration.specs.Promise.{fitted, workOf, refusalOfLists, Says}
@@ -19,8 +19,8 @@ use Rattle.lists.proofs.Refusals.{or-none}
 use Rattle.job.specs.declared.Answered.the-variants.{Done, Refused}
 use Rattle.job.specs.declared.Heading.{Heading}
 use Rattle.job.specs.declared.Heading.the-variants.{States, Damaged}
-use Rattle.job.specs.Format.{countOf, mostStates, Job, jobAt, formatRefusal}
-use Rattle.job.specs.Inner.{headed, CreateSays}
+use Rattle.job.specs.Format.{countOf, Job, jobAt, formatRefusal}
+use Rattle.job.specs.Inner.Reading.{headed, CreateSays}
 use Rattle.job.specs.Promise.{fitOf, refusalOf, JobSays}
 use Rattle.job.proofs.Departures.{accepted-job}
 use Rattle.job.proofs.Pairs.{floats-long}
@@ -73,7 +73,7 @@ module _ (bytes : List ℕ) (s : ℕ) (h : Heading) (g : h ≡ States s) (e : he
   count-is : s ≡ countOf bytes
   count-is = let p = sound .1 in cc
 
-  pub few-states : s ≤ mostStates
+  pub few-states : s ≤ mostJobStates
   few-states = rw count-is (accepted-job bytes (sound .0) .few)
 
   abbrev j : Job

@@ -1,4 +1,4 @@
--- Which bytes are refused with 9: exactly those that are no job. Assumes nothing.
+-- Which bytes are refused with 9: exactly those that are no job.
 use mathlib.Core.Path.{_≡_, refl, sym}
 use mathlib.Core.Bool.{Bool, true, false, not, cond}
 use mathlib.Core.Logic.{_⊎_, inl, inr, ⊎-elim}
@@ -8,11 +8,12 @@ use native.Mathlib.Omega.{arith}
 use lib.Dec.{ltb, eqb}
 use lib.ListN.{length}
 use borrow.Author.Tests.{eq-eqb, ne-eqb, lt-ltb, le-ltb, eqb-true, ltb-false}
+use Rattle.lists.specs.Sizes.{mostJobStates}
 use Rattle.lists.specs.Answers.{answerOf}
 use Rattle.lists.specs.Bytes.{startsWith}
 use Rattle.job.specs.declared.Heading.the-variants.{States, Damaged}
-use Rattle.job.specs.Format.{mark, versionOf, version, countOf, mostStates, lengthOf, IsJob, formatRefusal}
-use Rattle.job.specs.Inner.{headed}
+use Rattle.job.specs.Format.{mark, versionOf, version, countOf, lengthOf, IsJob, formatRefusal}
+use Rattle.job.specs.Inner.Reading.{headed}
 use Rattle.lists.proofs.Fronts.{starts-is, is-starts}
 
 -- ---- each departure, where those before it are none
@@ -28,18 +29,18 @@ module _ (bytes : List ℕ) where
     departs-version d = rw (m, ne-eqb (versionOf bytes) version d)
 
     module _ (v : versionOf bytes ≡ version) where
-      pub departs-count : mostStates < countOf bytes → formatRefusal bytes ≡ 9
+      pub departs-count : mostJobStates < countOf bytes → formatRefusal bytes ≡ 9
       unfolding formatRefusal
-      departs-count h = rw (m, eq-eqb (versionOf bytes) version v, lt-ltb mostStates (countOf bytes) h)
+      departs-count h = rw (m, eq-eqb (versionOf bytes) version v, lt-ltb mostJobStates (countOf bytes) h)
 
-      module _ (f : countOf bytes ≤ mostStates) where
+      module _ (f : countOf bytes ≤ mostJobStates) where
         pub departs-length : (length bytes ≡ lengthOf (countOf bytes) → ⊥) → formatRefusal bytes ≡ 9
         unfolding formatRefusal
-        departs-length d = rw (m, eq-eqb (versionOf bytes) version v, le-ltb mostStates (countOf bytes) f, ne-eqb (length bytes) (lengthOf (countOf bytes)) d)
+        departs-length d = rw (m, eq-eqb (versionOf bytes) version v, le-ltb mostJobStates (countOf bytes) f, ne-eqb (length bytes) (lengthOf (countOf bytes)) d)
 
         pub departs-nowhere : length bytes ≡ lengthOf (countOf bytes) → formatRefusal bytes ≡ 0
         unfolding formatRefusal
-        departs-nowhere e = rw (m, eq-eqb (versionOf bytes) version v, le-ltb mostStates (countOf bytes) f, eq-eqb (length bytes) (lengthOf (countOf bytes)) e)
+        departs-nowhere e = rw (m, eq-eqb (versionOf bytes) version v, le-ltb mostJobStates (countOf bytes) f, eq-eqb (length bytes) (lengthOf (countOf bytes)) e)
 
 -- ---- both directions
 
@@ -59,12 +60,12 @@ unfolding formatRefusal
 accepted-job bytes e =
     let a = passed (not (startsWith mark bytes)) _ e in
     let b = passed (not (eqb (versionOf bytes) version)) _ (a .1) in
-    let c = passed (ltb mostStates (countOf bytes)) _ (b .1) in
+    let c = passed (ltb mostJobStates (countOf bytes)) _ (b .1) in
     let d = passed (not (eqb (length bytes) (lengthOf (countOf bytes)))) 0 (c .1) in
     record {
       marked = starts-is mark bytes (is-so _ (a .0));
       versioned = eqb-true (versionOf bytes) version (is-so _ (b .0));
-      few = ltb-false mostStates (countOf bytes) (c .0);
+      few = ltb-false mostJobStates (countOf bytes) (c .0);
       whole = eqb-true (length bytes) (lengthOf (countOf bytes)) (is-so _ (d .0));
     }
 
@@ -77,7 +78,7 @@ none-or-9 false false false false = inl refl
 
 pub refusal-is : (bytes : List ℕ) → (formatRefusal bytes ≡ 0) ⊎ (formatRefusal bytes ≡ 9)
 unfolding formatRefusal
-refusal-is bytes = none-or-9 (not (startsWith mark bytes)) (not (eqb (versionOf bytes) version)) (ltb mostStates (countOf bytes)) (not (eqb (length bytes) (lengthOf (countOf bytes))))
+refusal-is bytes = none-or-9 (not (startsWith mark bytes)) (not (eqb (versionOf bytes) version)) (ltb mostJobStates (countOf bytes)) (not (eqb (length bytes) (lengthOf (countOf bytes))))
 
 pub no-job-9 : (bytes : List ℕ) → (IsJob bytes → ⊥) → formatRefusal bytes ≡ 9
 no-job-9 bytes n = ⊎-elim (λ (e : formatRefusal bytes ≡ 0). absurd (n (accepted-job bytes e))) (λ (e : formatRefusal bytes ≡ 9). e) (refusal-is bytes)

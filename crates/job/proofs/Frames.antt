@@ -1,4 +1,4 @@
--- A speed that is not refused gives one duration a state, and not too many frames. Assumes nothing.
+-- A speed that is not refused gives one duration a state, and not too many frames.
 use mathlib.Core.Path.{_≡_, refl}
 use mathlib.Core.Bool.{Bool, true, false, cond, _||_}
 use mathlib.Core.List.{List}
@@ -8,11 +8,12 @@ use lib.Dec.{leb, ltb, eqb}
 use lib.ListN.{length, replicate, length-replicate}
 use lib.Ieee.{Float, eq}
 use borrow.Author.Tests.{eqb-false, leb-false, ltb-false}
+use Rattle.lists.specs.Sizes.{mostFrames}
 use Rattle.lists.specs.Totals.{total}
 use Rattle.floats.specs.Numbers.{nought, one}
 use Rattle.duration.specs.Estimate.{shortest}
 use Rattle.duration.specs.Steps.{Outcome, unchanged}
-use Rattle.duration.specs.Fit.{mostFrames, startOf, plain, fitTo, refusalTo}
+use Rattle.duration.specs.Fit.{startOf, plain, fitTo, refusalTo}
 use Rattle.duration.specs.Speed.{naturals, targetAt, fitAt, refusalAt}
 use Rattle.duration.proofs.Refusals.{cond-none}
 use Rattle.duration.proofs.Estimates.{length-estimates}

@@ -6,4 +6,3 @@ pub mod Answers
 pub mod Outcomes
 pub mod Written
 pub mod Rewritten
-pub mod Cases

@@ -1,4 +1,4 @@
--- What the promise says: two outcomes of one job are equal; what is no job is 9 and changes nothing; a job comes to what `create` does. Assumes nothing.
+-- What the promise says: two outcomes of one job are equal; what is no job is 9 and changes nothing; a job comes to what `create` does.
 use mathlib.Core.Path.{_≡_, refl, sym, ap, _∙_}
 use mathlib.Core.List.{List}
 use Prim.Native.Nat.{ℕ, _≤_}

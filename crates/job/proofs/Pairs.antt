@@ -1,4 +1,4 @@
--- The floats that stand in a job's bytes, read to the front of an array. Assumes nothing.
+-- The floats that stand in a job's bytes, read to the front of an array.
 use mathlib.Core.Path.{_≡_, sym, ap, _∙_}
 use mathlib.Core.List.{List, _++_}
 use Prim.Native.Nat.{ℕ, _+_, _*_, _≤_}

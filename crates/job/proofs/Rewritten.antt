@@ -1,4 +1,4 @@
--- What is read from a job is written as the same bytes, if these have no NaN but the one that is written, and only then. Assumes nothing.
+-- What is read from a job is written as the same bytes, if these have no NaN but the one that is written, and only then.
 use mathlib.Core.Path.{_≡_, refl, sym, ap, _∙_}
 use mathlib.Core.List.{List, [], _++_, append-assoc, append-nil}
 use mathlib.Core.Logic.{⊎-elim}

@@ -1,4 +1,4 @@
--- What is written is a job, and is read back as the same. Assumes nothing.
+-- What is written is a job, and is read back as the same.
 use mathlib.Core.Path.{_≡_, refl, sym, ap, _∙_}
 use mathlib.Core.List.{List, [], _∷_, _++_, append-assoc}
 use Prim.Native.Nat.{ℕ, zero, suc, _+_, _*_, _/_, _<_}

@@ -1,4 +1,4 @@
--- The job file. Assumes nothing.
+-- The job file.
 use mathlib.Core.Path.{_≡_}
 use mathlib.Core.Bool.{not, cond}
 use mathlib.Core.List.{List, [], _∷_}
@@ -6,6 +6,7 @@ use Prim.Native.Nat.{ℕ, _+_, _*_, _≤_}
 use lib.Dec.{ltb, eqb}
 use lib.ListN.{length, take, drop}
 use lib.Ieee.{Float, binary64, ofBits}
+use Rattle.lists.specs.Sizes.{mostJobStates}
 use Rattle.lists.specs.Build.{build}
 use Rattle.lists.specs.Bytes.{little, startsWith}
 
@@ -38,10 +39,6 @@ version = 1
 abbrev pub countOf : List ℕ → ℕ
 countOf bytes = wordAt bytes 5
 
--- RULES, Job file: no job has more than 1,024 states
-abbrev pub mostStates : ℕ
-mostStates = 1024
-
 -- RULES, Job file: a job has 15 bytes and 16 a state, and none behind them
 abbrev pub lengthOf : ℕ → ℕ
 lengthOf count = 15 + 16 * count
@@ -50,7 +47,7 @@ lengthOf count = 15 + 16 * count
 pub record IsJob (bytes : List ℕ) : Type 0 where
   pub marked : take 3 bytes ≡ mark
   pub versioned : versionOf bytes ≡ version
-  pub few : countOf bytes ≤ mostStates
+  pub few : countOf bytes ≤ mostJobStates
   pub whole : length bytes ≡ lengthOf (countOf bytes)
 
 pub record Job : Type 0 where
@@ -70,5 +67,5 @@ unfoldable pub formatRefusal : List ℕ → ℕ
 formatRefusal bytes =
     cond (not (startsWith mark bytes)) 9
     (cond (not (eqb (versionOf bytes) version)) 9
-    (cond (ltb mostStates (countOf bytes)) 9
+    (cond (ltb mostJobStates (countOf bytes)) 9
     (cond (not (eqb (length bytes) (lengthOf (countOf bytes)))) 9 0)))

@@ -1,5 +1,6 @@
--- What the contracts of src/ cite, and the format read the other way.
-pub mod Format
-pub mod Promise
+-- What the contracts of src/ cite, in reading order. What only private contracts and proofs need is in Inner.
+pub mod Format  -- the job file
+pub mod Promise  -- what the call promises
+pub mod Written  -- the format from the other side
+pub mod Cases  -- the worked job, and departures
 pub mod Inner
-pub mod Written

@@ -1,4 +1,4 @@
--- What the call promises. Assumes nothing.
+-- What the call promises.
 use mathlib.Core.List.{List, [], _∷_}
 use Prim.Native.Nat.{ℕ}
 use lib.ListN.{length}

@@ -1,12 +1,13 @@
--- The job file from the other side: the bytes of a job. Assumes nothing.
+-- The job file from the other side: the bytes of a job.
 use mathlib.Core.Path.{_≡_}
 use mathlib.Core.List.{List, [], _∷_, _++_}
 use Prim.Native.Nat.{ℕ, _+_, _*_, _%_, _^_, _≤_, _<_}
 use lib.Dec.{T}
 use lib.ListN.{length, getD}
 use lib.Ieee.{Float, nan, binary64, fits, toBits}
+use Rattle.lists.specs.Sizes.{mostJobStates}
 use Rattle.lists.specs.Bytes.{bytesOf}
-use Rattle.job.specs.Format.{patternAt, mark, version, countOf, mostStates, Job}
+use Rattle.job.specs.Format.{patternAt, mark, version, countOf, Job}
 
 -- RULES, Job file: a float stands as its pattern
 abbrev pub bytesOfFloat : Float → List ℕ
@@ -27,7 +28,7 @@ bytesOfJob j = bytesOfHeading (length (j .means)) (j .speed) ++ bytesOfPairs (j 
 
 -- a job that the format has room for, whose numbers are f64
 pub record Writable (j : Job) : Type 0 where
-  pub few : length (j .means) ≤ mostStates
+  pub few : length (j .means) ≤ mostJobStates
   pub agree : length (j .varis) ≡ length (j .means)
   pub speed : T (fits binary64 (j .speed))
   pub means : (i : ℕ) → T (fits binary64 (getD (j .means) i nan))

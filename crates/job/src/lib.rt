@@ -3,10 +3,11 @@ ghost use mathlib.Core.Path.{_≡_};
 ghost use mathlib.Core.List.{[], _∷_};
 ghost use Prim.Native.Nat.{_≤_};
 ghost use lib.ListN.{length};
+ghost use Rattle.lists.specs.Sizes.{mostJobStates};
 ghost use Rattle.lists.specs.Answers.{answerOf};
 ghost use Rattle.duration.specs.Promise.{fitted};
-ghost use Rattle.job.specs.Format.{floatsAt, countOf, mostStates, jobAt, formatRefusal};
-ghost use Rattle.job.specs.Inner.{headed, CreateSays};
+ghost use Rattle.job.specs.Format.{floatsAt, countOf, jobAt, formatRefusal};
+ghost use Rattle.job.specs.Inner.Reading.{headed, CreateSays};
 ghost use Rattle.job.specs.Promise.{JobSays};
 use duration::Fitted;
 
@@ -48,7 +49,7 @@ fn read_heading(bytes: &[u8]) -> Heading
 
 // Every other float from a place on.
 fn read_floats(bytes: &[u8], from: usize, into: &mut [f64])
-    requires { ⌜ (from ≤ 23) × (length (now into) ≤ mostStates) ⌝ }
+    requires { ⌜ (from ≤ 23) × (length (now into) ≤ mostJobStates) ⌝ }
     ensures { λ _. ⌜ now (into .exit) ≡ floatsAt (now (bytes .entry)) from (length (now (into .entry))) ⌝ }
 {
     let mut i = 0;
@@ -70,7 +71,7 @@ fn number_of(answer: Fitted) -> u8
 
 // Fits n states, whose pairs stand in the bytes, to the speed that stands before them.
 fn fit_states(bytes: &[u8], n: usize, out: &mut [u32], work: &mut [u32]) -> Fitted
-    requires { ⌜ n ≤ mostStates ⌝ }
+    requires { ⌜ n ≤ mostJobStates ⌝ }
     ensures { λ r. ⌜ CreateSays (jobAt (now (bytes .entry)) n) (now (out .entry)) (now (work .entry)) r (now (out .exit)) (now (work .exit)) ⌝ }
 {
     let mut means = [0.0; MOST_STATES];

@@ -1,4 +1,4 @@
--- Laws of answers, and of lent lists at exit. Assumes nothing.
+-- Laws of answers, and of lent lists at exit.
 use mathlib.Core.Path.{_≡_, refl, sym, ap}
 use mathlib.Core.List.{List, [], _∷_, _++_}
 use Prim.Native.Nat.{ℕ, zero, suc}

@@ -1,4 +1,4 @@
--- Laws of lists by a rule. Assumes nothing.
+-- Laws of lists by a rule.
 use mathlib.Core.Path.{_≡_, refl, sym, ap, _∙_}
 use mathlib.Core.List.{List, [], _∷_, _++_}
 use mathlib.Core.Logic.{⊎-elim}

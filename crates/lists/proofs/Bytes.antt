@@ -1,4 +1,4 @@
--- Laws of numbers and their bytes. Assumes nothing.
+-- Laws of numbers and their bytes.
 use mathlib.Core.Path.{_≡_, refl, sym, ap, _∙_}
 use mathlib.Core.List.{List, _∷_}
 use mathlib.Core.Logic.{⊎-elim}

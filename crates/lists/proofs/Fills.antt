@@ -1,4 +1,4 @@
--- Laws of loops that fill a list from the front or from the back, and of lists by a rule. Assumes nothing.
+-- Laws of loops that fill a list from the front or from the back, and of lists by a rule.
 use mathlib.Core.Path.{_≡_, refl, sym, ap, _∙_}
 use mathlib.Core.List.{List, [], _∷_, _++_, append-assoc, append-nil}
 use Prim.Native.Nat.{ℕ, zero, suc, _+_, _<_, _≤_}

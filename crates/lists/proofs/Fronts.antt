@@ -1,4 +1,4 @@
--- A list that begins with another. Assumes nothing.
+-- A list that begins with another.
 use mathlib.Core.Path.{_≡_, refl, sym, _∙_}
 use mathlib.Core.Bool.{Bool, true, false, _&&_}
 use mathlib.Core.List.{List, [], _∷_}

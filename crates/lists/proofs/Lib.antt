@@ -12,3 +12,9 @@ pub mod Spelled
 pub mod Fronts
 pub mod Answers
 pub mod Refusals
+pub mod Orders
+pub mod Flags
+pub mod Counts
+pub mod Expansions
+pub mod Ends
+pub mod Joins

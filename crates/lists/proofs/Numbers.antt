@@ -1,4 +1,4 @@
--- Cases on numbers. Assumes nothing.
+-- Cases on numbers.
 use mathlib.Core.Path.{_≡_, refl, sym, subst}
 use mathlib.Core.Bool.{true, false}
 use mathlib.Core.Logic.{_⊎_, inl, inr, ⊎-elim, _≢_}

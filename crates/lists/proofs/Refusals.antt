@@ -1,4 +1,4 @@
--- Laws of refusal numbers. Assumes nothing.
+-- Laws of refusal numbers.
 use mathlib.Core.Path.{_≡_, refl}
 use Prim.Native.Nat.{ℕ, zero, suc}
 use native.Mathlib.Omega.{arith}

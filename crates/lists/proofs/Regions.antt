@@ -1,4 +1,4 @@
--- Laws of parts of a list into which numbers are stored, as of a region of a work space. Assumes nothing.
+-- Laws of parts of a list into which numbers are stored, as of a region of a work space.
 use mathlib.Core.Path.{_≡_, refl, sym, ap, _∙_}
 use mathlib.Core.List.{List, [], _∷_, _++_, append-assoc, append-nil}
 use Prim.Native.Nat.{ℕ, suc, _+_, _-_, _<_, _≤_}
@@ -39,6 +39,11 @@ module _ {A : Type 0} where
   pub stored-before : (vs l : List A) (o k i : ℕ) → i + length vs ≤ o → cut o k (sets l i vs) ≡ cut o k l
   stored-before [] l o k i h = refl
   stored-before (v ∷ vs) l o k i h = stored-before vs (set l i v) o k (suc i) (omega arith) ∙ beyond o k i l v (omega arith)
+
+  -- and stores before a place leave what lies behind it
+  pub dropped-before : (vs l : List A) (o i : ℕ) → i + length vs ≤ o → drop o (sets l i vs) ≡ drop o l
+  dropped-before [] l o i h = refl
+  dropped-before (v ∷ vs) l o i h = dropped-before vs (set l i v) o (suc i) (omega arith) ∙ drop-set-lt o l i v (omega arith)
 
   -- stores at a part's end make it longer
   pub stored-at : (vs l : List A) (o k i j : ℕ) → o + k ≡ i → k + length vs ≡ j → i + length vs ≤ length l → cut o j (sets l i vs) ≡ cut o k l ++ vs

@@ -1,4 +1,4 @@
--- Bytes are those of the number that they say. Assumes nothing.
+-- Bytes are those of the number that they say.
 use mathlib.Core.Path.{_≡_, refl, ap, _∙_}
 use mathlib.Core.List.{List, [], _∷_}
 use Prim.Native.Nat.{ℕ, zero, suc, _+_, _*_, _/_, _%_, _^_, _<_, _≤_}

@@ -1,4 +1,4 @@
--- Laws of `sets`, a run of stores that goes as far as the list does: what a loop that stores has done after i turns, and at its end. Assumes nothing.
+-- Laws of `sets`, a run of stores that goes as far as the list does: what a loop that stores has done after i turns, and at its end.
 use mathlib.Core.Path.{_≡_, refl, sym, ap, _∙_}
 use mathlib.Core.List.{List, [], _∷_, _++_, append-nil}
 use mathlib.Core.Logic.{⊎-elim}

@@ -1,4 +1,4 @@
--- Laws of totals and of folds. Assumes nothing.
+-- Laws of totals and of folds.
 use mathlib.Core.Path.{_≡_, ap}
 use mathlib.Core.List.{List, [], _∷_, _++_}
 use Prim.Native.Nat.{ℕ, zero, suc, _+_, _*_, _^_, _<_, _≤_, zero-le}

@@ -1,4 +1,4 @@
--- What a call answers, and what it leaves in a lent list. Assumes nothing.
+-- What a call answers, and what it leaves in a lent list.
 use mathlib.Core.List.{List, [], _++_}
 use Prim.Native.Nat.{ℕ, zero, suc}
 use lib.ListN.{length, drop}

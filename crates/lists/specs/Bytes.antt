@@ -1,4 +1,4 @@
--- Numbers and their bytes, little-endian, and what bytes begin with. Assumes nothing.
+-- Numbers and their bytes, little-endian, and what bytes begin with.
 use mathlib.Core.Bool.{Bool, true, false, _&&_}
 use mathlib.Core.List.{List, [], _∷_}
 use Prim.Native.Nat.{ℕ, zero, suc, _+_, _*_, _/_, _%_}

@@ -1,4 +1,4 @@
--- The number of a refusal, 0 for none. Assumes nothing.
+-- The number of a refusal, 0 for none.
 use Prim.Native.Nat.{ℕ, zero, suc}
 
 -- RULES, Refusals: of the numbers that apply the smallest is given: the first, or where that is none the next

@@ -1,4 +1,4 @@
--- Sums of whole numbers. Assumes nothing.
+-- Sums of whole numbers.
 use mathlib.Core.List.{List, [], _∷_}
 use Prim.Native.Nat.{ℕ, _+_, _-_}
 

@@ -1,11 +1,18 @@
 // Total functions on lent lists: whatever the places and counts, they do what the list has room for.
 ghost use mathlib.Core.Path.{_≡_};
-ghost use Prim.Native.Nat.{_^_, min, max};
+ghost use Prim.Native.Nat.{_*_, _^_, min, max};
 ghost use lib.ListN.{take, drop, replicate};
+ghost use lib.Dec.{leb};
 ghost use lib.Seq.{sets};
 ghost use Rattle.lists.specs.Totals.{total};
 ghost use Rattle.lists.specs.Parts.{PartSays};
 ghost use Rattle.lists.specs.Bytes.{little, bytesOf, startsWith};
+
+// How many frames lists were filled for, or the number of why none was.
+pub enum Filled {
+    Done(u32),
+    Refused(u8),
+}
 
 // The first n numbers become v.
 pub fn fill_u32(s: &mut [u32], n: usize, v: u32)
@@ -75,6 +82,16 @@ pub fn larger(a: usize, b: usize) -> usize
     a
 }
 
+// Whether so many items of a size fit into a length.
+pub fn has_room(count: usize, size: usize, length: usize) -> bool
+    ensures { λ r. ⌜ r ≡ leb (count * size) length ⌝ }
+{
+    if size == 0 {
+        return true;
+    }
+    count <= length / size
+}
+
 // The sum of the first 2 ^ 32 numbers, which can't pass 64 bits. No list of this library's callers is longer.
 pub fn total_u32(s: &[u32]) -> u64
     ensures { λ r. ⌜ r ≡ total (take (2 ^ 32) (now (s .entry))) ⌝ }
@@ -123,7 +140,7 @@ pub fn little_endian(bytes: &[u8], at: usize, width: usize) -> u64
     number
 }
 
-// A number as an index, in 64 bits, and a byte in 64 bits: a read that is widened by a call asks for its index alone.
+// A number as an index, in 64 bits, and a byte as each: a read that is widened by a call asks for its index alone.
 pub fn wide(x: u32) -> usize
     ensures { λ r. ⌜ r ≡ x ⌝ }
 {
@@ -134,6 +151,12 @@ pub fn long(x: u32) -> u64
     ensures { λ r. ⌜ r ≡ x ⌝ }
 {
     x as u64
+}
+
+pub fn small(b: u8) -> usize
+    ensures { λ r. ⌜ r ≡ b ⌝ }
+{
+    b as usize
 }
 
 fn wide_u8(b: u8) -> u64

@@ -1,97 +1,96 @@
--- Columns of a trajectory: what storing one leaves, and what all of them make. Assumes nothing.
+-- Columns of a trajectory: what filling a group's values back leaves, and what all of them make.
 use mathlib.Core.Path.{_≡_, refl, sym, ap, _∙_}
-use mathlib.Core.Bool.{Bool}
-use mathlib.Core.Logic.{_≢_, ⊎-elim}
-use mathlib.Core.List.{List, [], _∷_}
-use Prim.Native.Nat.{ℕ, zero, suc, _+_, _*_, _/_, _%_, _<_, _≤_}
-use native.Mathlib.Nat.{suc-mul, zero-mul, div-add-mod', mod-lt, mod-eq-of-lt, add-mul-mod-self-right, div-lt-iff-lt-mul, add-zero, add-comm}
+use mathlib.Core.Bool.{Bool, true, false, cond, _&&_}
+use mathlib.Core.Logic.{⊎-elim}
+use mathlib.Core.List.{List, map}
+use Prim.Native.Nat.{ℕ, _+_, _-_, _*_, _/_, _%_, _<_, _≤_}
+use native.Mathlib.Nat.{mod-lt}
 use native.Mathlib.Omega.{arith}
-use lib.ListN.{length, getD, set, drop, length-set}
-use lib.Seq.{getD-set-same, getD-set-other}
-use lib.Ieee.{Float, nan}
+use borrow.Author.Tests.{le-leb, lt-leb, lt-ltb}
+use lib.Dec.{leb, ltb}
+use lib.ListN.{length}
+use lib.Ieee.{Float, nan, binary64, mul}
 use Rattle.lists.specs.Totals.{total}
 use Rattle.lists.specs.Build.{build}
+use Rattle.lists.specs.Parts.{part}
+use Rattle.lists.specs.Flags.{isOn}
+use Rattle.lists.specs.Frames.{expand, select, fill, count}
 use Rattle.lists.proofs.Numbers.{le-or-lt}
-use Rattle.mlpg_adjust.specs.Frames.{fill, count}
-use Rattle.mlpg_adjust.specs.Rows.{elem, part}
-use Rattle.mlpg_adjust.specs.Region.{regionOf}
-use Rattle.mlpg_adjust.specs.Trajectory.{streamMask}
-use Rattle.mlpg_adjust.specs.TrajectoryInner.{Columned, setsBy, setsLanes}
-use Rattle.mlpg_adjust.specs.declared.mask.Voicing.{Voicing}
-use Rattle.lists.proofs.Builds.{build-is}
-use Rattle.mlpg_adjust.proofs.Readings.{part-part}
-use Rattle.mlpg_adjust.proofs.MaskClosing.{mask-long}
-use Rattle.mlpg_adjust.proofs.MaskFilling.{sets-by-length, lanes-length, fill-length, fill-front}
+use Rattle.lists.proofs.Fills.{build-length}
+use Rattle.lists.proofs.Builds.{build-at, build-is, build-same}
+use Rattle.model.specs.Windows.{bandWidth}
+use Rattle.region.specs.Rows.{elem}
+use Rattle.region.specs.Region as region
+use Rattle.region.specs.Region.{regionIn, regionOf}
+use Rattle.region.specs.declared.Layout.{Layout}
+use Rattle.region.specs.declared.Group.{Group}
+use Rattle.voicing.specs.Space.{isIn, filledAt}
+use Rattle.gv.specs.Parmgen.{parmgen}
+use Rattle.mlpg_adjust.specs.Trajectory.{sizeOf, gvOn, withGv, matrix, side, solved, varied, trajectory, numbersOf}
+use Rattle.mlpg_adjust.specs.Inner.Groups.{voicedIn, valuesOf, columnOf, Columned}
+use Rattle.mlpg_adjust.specs.declared.GlobalVariance.{GlobalVariance}
+use Rattle.mlpg_adjust.specs.declared.GlobalVariance.the-variants.{Off, On}
+use Rattle.mlpg_adjust.specs.declared.Stream.{Stream}
 
--- ---- one column, from place q on
+-- ---- a group's columns
 
-module _ {A : Type 0} (v : ℕ) where
-  -- a place that is none of the column's
-  column-other : (q : ℕ) (xs out : List A) (p : ℕ) (z : A) → ((i : ℕ) → p ≢ q + i * v) → getD (setsBy v q xs out) p z ≡ getD out p z
-  unfolding setsBy
-  column-other q [] out p z h = refl
-  column-other q (x ∷ xs) out p z h =
-      column-other (q + v) xs (set out q x) p z (λ i e. h (suc i) (omega (arith, e, suc-mul i v)))
-      ∙ getD-set-other out q p x z (λ e. h 0 (omega (arith, e, zero-mul v)))
+module _ (f : ℕ → List Float) (none : Float) (mask : List Bool) (g : Layout) (c : Group) (work out : List Float) where
+  under : (p : ℕ) → p % c .v < c .first → filledAt none mask g c work out p ≡ elem out p
+  under p h = rw (lt-leb (c .first) (p % c .v) h)
 
-  -- the place of item i
-  column-same : (q : ℕ) (xs out : List A) (i : ℕ) (z : A) → 0 < v → i < length xs → q + i * v < length out → getD (setsBy v q xs out) (q + i * v) z ≡ getD xs i z
-  unfolding setsBy
-  column-same q [] out i z b h l = absurd (omega arith)
-  column-same q (x ∷ xs) out zero z b h l =
-      let e : q + 0 * v ≡ q = omega (arith, zero-mul v) in
-      rw e (column-other (q + v) xs (set out q x) q z (λ i d. absurd (omega (arith, d))) ∙ getD-set-same out q x z (omega arith))
-  column-same q (x ∷ xs) out (suc i) z b h l =
-      let e : q + suc i * v ≡ q + v + i * v = omega (arith, suc-mul i v) in
-      rw e (column-same (q + v) xs (set out q x) i z b (omega arith) (rw length-set (omega arith)))
+  inside : (p : ℕ) → c .first ≤ p % c .v → p % c .v < c .first + c .lanes
+      → filledAt none mask g c work out p ≡ elem (fill none mask (regionIn g (regionOf (region.sizeOf g) (p % c .v - c .first) work) .values)) (p / c .v)
+  inside p h l = rw (le-leb (c .first) (p % c .v) h, lt-ltb (p % c .v) (c .first + c .lanes) l)
 
--- ---- column after column, of n numbers each
-
-module _ (f : ℕ → List Float) (v n : ℕ) (out : List Float) (long : length out ≡ n * v) where
-  pub columned-none : Columned f v 0 out
-  columned-none = record { stands = λ p b h. absurd (omega arith) }
-
-  pub columned-next : (c : ℕ) → c < v → length (f c) ≡ n → Columned f v c out → Columned f v (c + 1) (setsBy v c (f c) out)
-  columned-next c l e k = record {
+  -- the lanes' values are those of their components
+  pub columned-next : ((l : ℕ) → l < c .lanes → f (c .first + l) ≡ fill none mask (regionIn g (regionOf (region.sizeOf g) l work) .values))
+      → Columned f (c .v) (c .first) out → Columned f (c .v) (c .first + c .lanes) (build (filledAt none mask g c work out) (length out))
+  columned-next q k = record {
     stands = λ p b h.
-        let d : p / v * v + p % v ≡ p = div-add-mod' p v in
-        let i : p < length out = rw (sets-by-length v c (f c) out) at b in
-        ⊎-elim
-        (λ (g : c ≤ p % v).
-        let m : p % v ≡ c = omega arith in
-        let q : c + p / v * v ≡ p = omega arith in
-        let r : p / v < length (f c) = rw e (div-lt-iff-lt-mul {k = v} {x = p} {y = n} (omega arith) .1 (omega arith)) in
-        rw m (ap (λ (j : ℕ). elem (setsBy v c (f c) out) j) (sym q) ∙ column-same v c (f c) out (p / v) nan (omega arith) r (omega arith)))
-        (λ (g : p % v < c).
-        column-other v c (f c) out p nan
-        (λ j o. let m : p % v ≡ c = rw o (add-mul-mod-self-right c j v ∙ mod-eq-of-lt l) in absurd (omega arith))
-        ∙ k .stands p i g)
-        (le-or-lt c (p % v));
+        let i : p < length out = rw (build-length (filledAt none mask g c work out) (length out)) at b in
+        build-at (filledAt none mask g c work out) (length out) p nan i
+        ∙ ⊎-elim
+        (λ (a : c .first ≤ p % c .v).
+        let e : c .first + (p % c .v - c .first) ≡ p % c .v = omega arith in
+        inside p a h ∙ ap (λ (x : List Float). elem x (p / c .v)) (sym (q (p % c .v - c .first) (omega arith)) ∙ ap f e))
+        (λ (a : p % c .v < c .first). under p a ∙ k .stands p i a)
+        (le-or-lt (c .first) (p % c .v));
   }
 
-  pub columned-all : 0 < v → Columned f v v out → out ≡ build (λ p. elem (f (p % v)) (p / v)) (n * v)
-  columned-all b k = build-is (λ p. elem (f (p % v)) (p / v)) (n * v) out nan long (λ j h. k .stands j (omega arith) (mod-lt j b))
+pub columned-none : (f : ℕ → List Float) (v : ℕ) (out : List Float) → Columned f v 0 out
+columned-none f v out = record { stands = λ p b h. absurd (omega arith) }
 
--- ---- several columns side by side, from column c on
+-- ---- all columns
 
-module _ (f : ℕ → List Float) (v n c : ℕ) (xs : ℕ → List Float) (out : List Float) (long : length out ≡ n * v) (k : Columned f v c out) where
-  columned-lanes : (lanes : ℕ) → c + lanes ≤ v → ((l : ℕ) → l < lanes → f (c + l) ≡ xs l) → ((l : ℕ) → length (xs l) ≡ n) → Columned f v (c + lanes) (setsLanes v c xs lanes out)
-  unfolding setsLanes
-  columned-lanes zero b h e = rw add-zero k
-  columned-lanes (suc l) b h e =
-      let z : c + suc l ≡ c + l + 1 = omega arith in
-      let s : f (c + l) ≡ xs l = h l (omega arith) in
-      rw (z, ← s)
-      (columned-next f v n (setsLanes v c xs l out) (lanes-length v c xs l out ∙ long) (c + l) (omega arith) (ap length s ∙ e l) (columned-lanes l (omega arith) (λ j g. h j (omega arith)) e))
+columned-all : (f : ℕ → List Float) (v n : ℕ) (out : List Float) → length out ≡ n * v → 0 < v → Columned f v v out → out ≡ build (λ p. elem (f (p % v)) (p / v)) (n * v)
+columned-all f v n out long b k = build-is (λ p. elem (f (p % v)) (p / v)) (n * v) out nan long (λ j h. k .stands j (omega arith) (mod-lt j b))
 
--- the values of components, which their regions hold, are filled back
-pub columned-filled : (u : Voicing) (v : ℕ) (records : List Float) (ds : List ℕ) (none : Float) (values n size lanes c : ℕ) (work out out′ : List Float) (f : ℕ → List Float)
-    → values + n ≤ size → n ≡ count (streamMask (u .size) records (u .threshold) ds) → c + lanes ≤ v → length out ≡ total ds * v
-    → ((l : ℕ) → l < lanes → f (c + l) ≡ fill none (streamMask (u .size) records (u .threshold) ds) (part values n (regionOf size l work))) → Columned f v c out
-    → out′ ≡ setsLanes v c (λ l. fill none (streamMask (u .size) records (u .threshold) ds) (drop (values + l * size) work)) lanes out → Columned f v (c + lanes) out′
-columned-filled u v records ds none values n size lanes c work out out′ f r m h long q k w =
-    let mask : List Bool = streamMask (u .size) records (u .threshold) ds in
-    rw w
-    (columned-lanes f v (total ds) c (λ l. fill none mask (drop (values + l * size) work)) out long k lanes h
-    (λ l i. q l i ∙ rw (part-part values n (l * size) size work r, add-comm values (l * size)) (fill-front none mask (drop (l * size + values) work) n (omega arith)))
-    (λ l. fill-length none mask _ ∙ mask-long u records ds))
+with-same : {A : Type 0} (switch : GlobalVariance) (f h : Float → A) (x : A) → (gvOn switch ≡ true → (weight : Float) → f weight ≡ h weight) → withGv switch f x ≡ withGv switch h x
+with-same Off f h x e = refl
+with-same (On weight) f h x e = e refl weight
+
+module _ (s : Stream) (widths : List ℕ) (coefs records : List Float) (ds : List ℕ) (gv : List Float) (switches marks : List ℕ)
+    (on-is : gvOn (s .gv) ≡ true → part (total ds) (count (voicedIn s widths records ds)) marks ≡ select (voicedIn s widths records ds) (expand ds switches)) where
+  -- a component's values, from the states' switches
+  abbrev valuesFor : ℕ → List Float
+  valuesFor c = withGv (s .gv) (λ weight. varied (sizeOf s widths) records (s .threshold) ds (s .v) widths coefs c weight gv switches) (solved (sizeOf s widths) records (s .threshold) ds (s .v) widths coefs c)
+
+  varied-same : (on : List ℕ) (c : ℕ) (weight : Float) → on ≡ select (voicedIn s widths records ds) (expand ds switches)
+      → parmgen (bandWidth widths) (matrix (sizeOf s widths) records (s .threshold) ds (s .v) widths coefs c) (side (sizeOf s widths) records (s .threshold) ds (s .v) widths coefs c)
+      (map isOn on) (length widths) (mul binary64 (elem gv c) weight) (elem gv (s .v + c)) (solved (sizeOf s widths) records (s .threshold) ds (s .v) widths coefs c)
+      ≡ varied (sizeOf s widths) records (s .threshold) ds (s .v) widths coefs c weight gv switches
+  unfolding varied
+  varied-same on c weight e =
+      ap (λ (o : List ℕ). parmgen (bandWidth widths) (matrix (sizeOf s widths) records (s .threshold) ds (s .v) widths coefs c) (side (sizeOf s widths) records (s .threshold) ds (s .v) widths coefs c)
+      (map isOn o) (length widths) (mul binary64 (elem gv c) weight) (elem gv (s .v + c)) (solved (sizeOf s widths) records (s .threshold) ds (s .v) widths coefs c)) e
+
+  column-same : (c : ℕ) → columnOf s widths coefs records ds marks gv c ≡ fill (s .fill) (voicedIn s widths records ds) (valuesFor c)
+  unfolding columnOf
+  column-same c = ap (fill (s .fill) (voicedIn s widths records ds)) (with-same (s .gv) _ _ _ (λ o weight. varied-same _ c weight (on-is o)))
+
+  pub rendered : (out : List Float) → 0 < s .v → length out ≡ total ds * s .v → Columned (columnOf s widths coefs records ds marks gv) (s .v) (s .v) out → out ≡ numbersOf s widths coefs records ds gv switches
+  unfolding numbersOf trajectory
+  rendered out pos long k =
+      columned-all (columnOf s widths coefs records ds marks gv) (s .v) (total ds) out long pos k
+      ∙ build-same (λ p. elem (columnOf s widths coefs records ds marks gv (p % s .v)) (p / s .v)) (λ p. elem (fill (s .fill) (voicedIn s widths records ds) (valuesFor (p % s .v))) (p / s .v)) (total ds * s .v)
+      (λ j l. ap (λ (x : List Float). elem x (j / s .v)) (column-same (j % s .v)))

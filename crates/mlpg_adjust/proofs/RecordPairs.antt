@@ -1,4 +1,4 @@
--- The numbers that a trajectory reads of a state's record are the pairs that `from_linear` says. Assumes nothing.
+-- The numbers that a trajectory reads of a state's record are the pairs that `from_linear` says.
 use mathlib.Core.Path.{_≡_, sym, _∙_}
 use mathlib.Core.Bool.{Bool, true, false}
 use mathlib.Core.List.{List}
@@ -13,11 +13,12 @@ use Rattle.model.specs.declared.voice.model.Found.the-variants.{At}
 use Rattle.model.specs.Pair.{pair}
 use Rattle.model.specs.Record.{fromLinear, pairAt, pairNumber}
 use Rattle.model.proofs.Records.{pair-found}
-use Rattle.mlpg_adjust.specs.Rows.{elem, part}
-use Rattle.mlpg_adjust.specs.MaskVoicing.{column}
+use Rattle.region.specs.Rows.{elem}
+use Rattle.lists.specs.Parts.{part}
+use Rattle.voicing.specs.Mask.{column}
 use Rattle.mlpg_adjust.specs.Trajectory.{recordSize}
-use Rattle.mlpg_adjust.proofs.Readings.{part-elem}
-use Rattle.mlpg_adjust.proofs.MaskClosing.{column-at}
+use Rattle.region.proofs.Readings.{part-elem}
+use Rattle.voicing.proofs.Records.{column-at}
 
 -- the s-th record of so many numbers, k of them means: its pair n
 module _ (size : ℕ) (records : List Float) (s n k : ℕ) (half : size / 2 ≡ k) (room : s * size + size ≤ length records) (h : n < k) where

@@ -1,26 +1,5 @@
--- What the contracts of src/ cite.
-pub mod Frames
-pub mod MaskVoicing
-pub mod MaskBoundaries
-pub mod MaskWindows
-pub mod MaskStates
-pub mod Ends
-pub mod MaskPromise
-pub mod MaskCases
-pub mod Sums
-pub mod Rows
-pub mod Paper
-pub mod Solve
+-- What the contracts of src/ cite, in reading order. What only private contracts and proofs need is in Inner.
+pub mod Trajectory  -- the trajectory of a stream, from its records
+pub mod Promise  -- what the call promises
+pub mod Cases  -- a worked case
 pub mod Inner
-pub mod Region
-pub mod Passes
-pub mod Gv
-pub mod Parmgen
-pub mod GvInner
-pub mod BandPromise
-pub mod BandCases
-pub mod GvCases
-pub mod Trajectory
-pub mod TrajectoryPromise
-pub mod TrajectoryInner
-pub mod TrajectoryCases

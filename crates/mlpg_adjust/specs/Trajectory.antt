@@ -1,4 +1,4 @@
--- The trajectory of one stream, from its records: mask, boundaries, closing up, normal equations, global variance, filling back. Assumes nothing.
+-- The trajectory of one stream, from its records: mask, boundaries, closing up, normal equations, global variance, filling back.
 use mathlib.Core.Bool.{Bool, true, false}
 use mathlib.Core.List.{List, map}
 use Prim.Native.Nat.{ℕ, _+_, _*_, _/_, _%_}
@@ -7,13 +7,15 @@ use lib.Ieee.{Float, binary64, mul}
 use Rattle.lists.specs.Totals.{total}
 use Rattle.lists.specs.Build.{build}
 use Rattle.model.specs.Windows.{bandWidth}
-use Rattle.mlpg_adjust.specs.Frames.{expand, select, fill, count}
-use Rattle.mlpg_adjust.specs.Rows.{elem, rows}
-use Rattle.mlpg_adjust.specs.Paper.{bandRows, rightSide}
-use Rattle.mlpg_adjust.specs.Solve.{solution}
-use Rattle.mlpg_adjust.specs.Parmgen.{parmgen}
-use Rattle.mlpg_adjust.specs.MaskVoicing.{flag, isOn, maskOf, weightsOf}
-use Rattle.mlpg_adjust.specs.MaskWindows.{meansIn, ivarsIn}
+use Rattle.lists.specs.Frames.{expand, select, fill, count}
+use Rattle.region.specs.Rows.{elem}
+use Rattle.lists.specs.Build.{rows}
+use Rattle.band.specs.Paper.{bandRows, rightSide}
+use Rattle.solve.specs.Solve.{solution}
+use Rattle.gv.specs.Parmgen.{parmgen}
+use Rattle.lists.specs.Flags.{flag, isOn}
+use Rattle.voicing.specs.Mask.{streamMask}
+use Rattle.voicing.specs.Windows.{meansIn, ivarsIn}
 use Rattle.mlpg_adjust.specs.declared.GlobalVariance.{GlobalVariance}
 use Rattle.mlpg_adjust.specs.declared.GlobalVariance.the-variants.{Off, On}
 use Rattle.mlpg_adjust.specs.declared.Stream.{Stream}
@@ -25,29 +27,29 @@ recordSize v windows masked = windows * v + windows * v + flag masked
 -- a stream of records of so many numbers, with its mask and windows
 module _ (size : ℕ) (records : List Float) (threshold : Float) (ds : List ℕ) where
   -- RULES, Mask: which of the stream's frames are voiced
-  abbrev pub streamMask : List Bool
-  streamMask = maskOf threshold (weightsOf size records (length ds)) ds
+  abbrev mask : List Bool
+  mask = streamMask size records threshold ds
 
   module _ (v : ℕ) (widths : List ℕ) (coefs : List Float) (component : ℕ) where
     -- the component's inverse variances of the voiced frames, window after window
     unfoldable pub ivarsOf : List Float
     unfolding rows ivarsIn
-    ivarsOf = rows (ivarsIn size records v component widths streamMask ds) (length widths)
+    ivarsOf = rows (ivarsIn size records v component widths mask ds) (length widths)
 
     -- and its means
     unfoldable pub meansOf : List Float
     unfolding rows meansIn
-    meansOf = rows (meansIn size records v component streamMask ds) (length widths)
+    meansOf = rows (meansIn size records v component mask ds) (length widths)
 
     -- RULES, Mask: all voiced frames, closed up, are solved together: the matrix of their normal equations
     unfoldable pub matrix : List Float
     unfolding bandRows ivarsOf
-    matrix = bandRows widths coefs (count streamMask) ivarsOf (bandWidth widths)
+    matrix = bandRows widths coefs (count mask) ivarsOf (bandWidth widths)
 
     -- and the right side
     unfoldable pub side : List Float
     unfolding rightSide ivarsOf meansOf
-    side = rightSide widths coefs (count streamMask) ivarsOf meansOf
+    side = rightSide widths coefs (count mask) ivarsOf meansOf
 
     -- RULES, Band rows: the values that solve them
     unfoldable pub solved : List Float
@@ -58,13 +60,13 @@ module _ (size : ℕ) (records : List Float) (threshold : Float) (ds : List ℕ)
     unfoldable pub varied : Float → List Float → List ℕ → List Float
     unfolding parmgen select expand matrix side solved
     varied weight gv switches =
-        parmgen (bandWidth widths) matrix side (map isOn (select streamMask (expand ds switches))) (length widths)
+        parmgen (bandWidth widths) matrix side (map isOn (select mask (expand ds switches))) (length widths)
         (mul binary64 (elem gv component) weight) (elem gv (v + component)) solved
 
   -- RULES, Sizes: a trajectory has frames * v numbers, that of a frame and component at frame * v + component; unvoiced frames get the fill number
   unfoldable pub trajectory : ℕ → Float → (ℕ → List Float) → List Float
   unfolding build fill
-  trajectory v none values = build (λ p. elem (fill none streamMask (values (p % v))) (p / v)) (total ds * v)
+  trajectory v none values = build (λ p. elem (fill none mask (values (p % v))) (p / v)) (total ds * v)
 
 -- RULES, Global variance: what f makes of the weight where GV is on, and x where it is off
 abbrev pub withGv : {A : Type 0} → GlobalVariance → (Float → A) → A → A

@@ -1,282 +1,162 @@
 // Several components side by side: their regions of the work space lie one after the other.
 ghost use mathlib.Core.Path.{_≡_};
 ghost use mathlib.Core.Bool.{true};
-ghost use mathlib.Core.List.{List};
-ghost use Prim.Native.Nat.{ℕ, _+_, _*_, _<_, _≤_};
+ghost use Prim.Native.Nat.{_+_, _*_, _≤_};
 ghost use lib.ListN.{length};
-ghost use lib.Ieee.{Float};
 ghost use Rattle.lists.specs.Totals.{total};
-ghost use Rattle.mlpg_adjust.specs.Frames.{fill};
-ghost use Rattle.mlpg_adjust.specs.Rows.{part};
-ghost use Rattle.mlpg_adjust.specs.Inner.{Taps};
-ghost use Rattle.mlpg_adjust.specs.Region.{regionOf};
-ghost use Rattle.mlpg_adjust.specs.Trajectory.{gvOn, withGv, streamMask};
-ghost use Rattle.mlpg_adjust.specs.TrajectoryInner.{Framed, Planned, Distances, Paired, Holds, Columned, Varying, variedOf, columnOf};
+ghost use Rattle.region.specs.Region.{sizeOf, eachRegion};
+ghost use Rattle.voicing.specs.Mask.{maskIn};
+ghost use Rattle.voicing.specs.Space.{pairedIn};
+ghost use Rattle.band.specs.Promise.{rowedIn};
+ghost use Rattle.solve.specs.Promise.{solvedIn};
+ghost use Rattle.mlpg_adjust.specs.Trajectory.{gvOn, withGv};
+ghost use Rattle.mlpg_adjust.specs.Inner.Groups.{Ready, Varying, targetIn, columnOf, Columned};
 use super::GlobalVariance;
 use super::Stream;
-use super::closing::close_state;
-use super::closing::closed_of;
-use super::filling::fill_state;
-use super::gv::MlpgGlobalVariance;
-use super::mask::Voicing;
-use super::mask::voiced_at;
-use super::solve::Plan;
-use super::solve::solve;
+use region::Group;
+use region::Layout;
 
-// The components first, first + 1, and so on, so many.
-pub(crate) struct Group {
-    pub(crate) first: usize,
-    pub(crate) lanes: usize,
+// What is the same for every component: the stream, the layout of a region, how many numbers a record has, and how many frames there are.
+pub(crate) struct Plan {
+    pub(crate) stream: Stream,
+    pub(crate) layout: Layout,
+    pub(crate) size: usize,
+    pub(crate) frames: usize,
 }
 
-// The pairs of each component are closed up in its region, state by state: a state's record is read once a group.
-fn close_up_group(
-    records: &[f64],
-    u: Voicing,
-    g: Plan,
-    group: Group,
-    widths: &[u32],
-    durations: &[u32],
-    left: &[u32],
-    right: &[u32],
-    work: &mut [f64],
-)
-    requires { ⌜ Planned u g (now widths) (now records) (now durations) × Distances u (now records) (now durations) (now left) (now right)
-        × (group .first + group .lanes ≤ g .v) × (group .lanes * g .size ≤ length (now work)) ⌝ }
-    ensures { λ _. ⌜ ((l : ℕ) → l < group .lanes
-        → Paired (u .size) (now (records .entry)) (u .threshold) (now (durations .entry)) (g .v) (now (widths .entry)) (group .first + l) (g .places) (regionOf (g .size) l (now (work .exit)))) ⌝ }
-{
-    let first = group.first;
-    let lanes = group.lanes;
-    let mut s = 0;
-    let mut f = 0;
-    let mut k = 0;
-    while s < durations.len() {
-        let d = lists::wide(durations[s]);
-        let closed = closed_of(voiced_at(records, u, s), d);
-        close_state(
-            records,
-            u,
-            g,
-            first,
-            lanes,
-            widths,
-            left,
-            right,
-            s,
-            f,
-            closed,
-            k,
-            work,
-        );
-        k += closed;
-        f += d;
-        s += 1;
-    }
-}
-
-// The normal equations of each component, solved side by side.
+// The pairs of each component, closed up, and their normal equations, solved.
 fn solve_group(
-    records: &[f64],
-    u: Voicing,
-    g: Plan,
-    group: Group,
+    p: Plan,
+    c: Group,
     widths: &[u32],
     coefficients: &[f64],
+    records: &[f64],
     durations: &[u32],
-    left: &[u32],
-    right: &[u32],
+    marks: &[u32],
+    gv: &[f64],
     work: &mut [f64],
 )
-    requires { ⌜ Planned u g (now widths) (now records) (now durations) × Taps (now widths) (now coefficients) (g .w) × Distances u (now records) (now durations) (now left) (now right)
-        × (group .first + group .lanes ≤ g .v) × (group .lanes * g .size ≤ length (now work)) ⌝ }
-    ensures { λ _. ⌜ ((l : ℕ) → l < group .lanes
-        → Holds (u .size) (now (records .entry)) (u .threshold) (now (durations .entry)) (g .v) (now (widths .entry)) (now (coefficients .entry)) (group .first + l) (g .places) (regionOf (g .size) l (now (work .exit)))) ⌝ }
+    requires { ⌜ Ready p (now widths) (now coefficients) (now records) (now durations) (now marks) (now gv)
+        × (c .v ≡ p .stream .v) × (c .first + c .lanes ≤ c .v) × (c .lanes * sizeOf (p .layout) ≤ length (now work)) ⌝ }
+    ensures { λ _. ⌜ now (work .exit) ≡ eachRegion (p .layout) (c .lanes) (λ l. solvedIn (p .layout))
+        (eachRegion (p .layout) (c .lanes) (λ l. rowedIn (now (widths .entry)) (now (coefficients .entry)) (p .layout))
+        (eachRegion (p .layout) (c .lanes) (λ l. pairedIn (p .size) (now (records .entry)) (c .v) (now (widths .entry)) (maskIn (now (durations .entry)) (now (marks .entry))) (now (durations .entry)) (c .first + l)) (now (work .entry)))) ⌝ }
 {
-    close_up_group(records, u, g, group, widths, durations, left, right, work);
-    solve(
-        work,
-        widths,
-        coefficients,
-        g.places,
-        g.n,
-        g.w,
-        g.size,
-        group.lanes,
-    );
+    let g = p.layout;
+    voicing::close_up(p.size, records, widths, durations, marks, g, c, work);
+    band::calc_rows(widths, coefficients, g, c.lanes, work);
+    solve::solve(g, c.lanes, work);
 }
 
 // The global variance of each component, with the weight of its means.
-fn vary_group(
-    s: MlpgGlobalVariance,
-    g: Plan,
-    group: Group,
-    on: &[u32],
-    gv: &[f64],
-    weight: f64,
-    work: &mut [f64],
-)
-    requires { ⌜ Varying s g (now on) × (length (now gv) ≡ g .v + g .v) × (group .first + group .lanes ≤ g .v) × (group .lanes * g .size ≤ length (now work)) ⌝ }
-    ensures { λ _. ⌜ ((l : ℕ) → l < group .lanes → part (g .places .values) (g .n) (regionOf (g .size) l (now (work .exit)))
-        ≡ variedOf s g (now (on .entry)) (now (gv .entry)) weight (group .first + l) (regionOf (g .size) l (now (work .entry)))) ⌝ }
+fn vary_group(p: Plan, c: Group, marks: &[u32], gv: &[f64], weight: f64, work: &mut [f64])
+    requires { ⌜ Varying p c (length (now marks)) (length (now work)) × (length (now gv) ≡ c .v + c .v) ⌝ }
+    ensures { λ _. ⌜ now (work .exit) ≡ eachRegion (p .layout) (c .lanes) (targetIn p c (now (marks .entry)) (now (gv .entry)) weight) (now (work .entry)) ⌝ }
 {
-    let v = g.v;
-    let size = g.size;
-    let first = group.first;
-    let lanes = group.lanes;
-    let mut l = 0;
-    let mut o = 0;
-    while l < lanes {
-        let e = o + size;
-        let c = first + l;
-        s.parmgen(&mut work[o..e], g.places, on, gv[c] * weight, gv[v + c]);
-        o = e;
-        l += 1;
-    }
+    let g = p.layout;
+    let from = p.frames;
+    let to = from + lists::wide(g.n);
+    let first = c.first;
+    let last = first + c.lanes;
+    let varis = c.v + first;
+    let end = varis + c.lanes;
+    gv::vary(
+        g,
+        &marks[from..to],
+        &gv[first..last],
+        &gv[varis..end],
+        weight,
+        work,
+    );
 }
 
 // The same where the global variance is on, and nothing where it is off.
-fn vary(
-    switch: GlobalVariance,
-    s: MlpgGlobalVariance,
-    g: Plan,
-    group: Group,
-    on: &[u32],
-    gv: &[f64],
-    work: &mut [f64],
-)
-    requires { ⌜ Varying s g (now on) × (gvOn switch ≡ true → length (now gv) ≡ g .v + g .v) × (group .first + group .lanes ≤ g .v) × (group .lanes * g .size ≤ length (now work)) ⌝ }
-    ensures { λ _. ⌜ ((l : ℕ) → l < group .lanes → part (g .places .values) (g .n) (regionOf (g .size) l (now (work .exit)))
-        ≡ withGv switch (λ weight. variedOf s g (now (on .entry)) (now (gv .entry)) weight (group .first + l) (regionOf (g .size) l (now (work .entry))))
-        (part (g .places .values) (g .n) (regionOf (g .size) l (now (work .entry))))) ⌝ }
+fn vary(switch: GlobalVariance, p: Plan, c: Group, marks: &[u32], gv: &[f64], work: &mut [f64])
+    requires { ⌜ Varying p c (length (now marks)) (length (now work)) × (gvOn switch ≡ true → length (now gv) ≡ c .v + c .v) ⌝ }
+    ensures { λ _. ⌜ now (work .exit) ≡ withGv switch (λ weight. eachRegion (p .layout) (c .lanes) (targetIn p c (now (marks .entry)) (now (gv .entry)) weight) (now (work .entry))) (now (work .entry)) ⌝ }
 {
     let GlobalVariance::On(weight) = switch else {
         return;
     };
-    vary_group(s, g, group, on, gv, weight, work);
-}
-
-// The values of each component are filled back into the trajectory, state by state, so that a frame's numbers are written together.
-fn fill_group(
-    records: &[f64],
-    u: Voicing,
-    g: Plan,
-    group: Group,
-    durations: &[u32],
-    none: f64,
-    work: &[f64],
-    out: &mut [f64],
-)
-    requires { ⌜ Framed u g (now records) (now durations) × (g .places .values + g .n ≤ g .size)
-        × (group .first + group .lanes ≤ g .v) × (group .lanes * g .size ≤ length (now work)) × (length (now out) ≡ total (now durations) * g .v) ⌝ }
-    ensures { λ _. ⌜ ((f : ℕ → List Float)
-        → ((l : ℕ) → l < group .lanes → f (group .first + l) ≡ fill none (streamMask (u .size) (now (records .entry)) (u .threshold) (now (durations .entry))) (part (g .places .values) (g .n) (regionOf (g .size) l (now (work .entry)))))
-        → Columned f (g .v) (group .first) (now (out .entry)) → Columned f (g .v) (group .first + group .lanes) (now (out .exit))) ⌝ }
-{
-    let v = g.v;
-    let size = g.size;
-    let lanes = group.lanes;
-    let mut s = 0;
-    let mut p = group.first;
-    let mut k = g.places.values;
-    while s < durations.len() {
-        let d = durations[s] as usize;
-        let voiced = voiced_at(records, u, s);
-        k = fill_state(voiced, d, none, work, k, size, lanes, v, p, out);
-        p += d * v;
-        s += 1;
-    }
+    vary_group(p, c, marks, gv, weight, work);
 }
 
 // The columns of each component of the group stand in the trajectory.
 fn render_group(
-    stream: Stream,
-    u: Voicing,
-    g: Plan,
-    s: MlpgGlobalVariance,
-    group: Group,
+    p: Plan,
+    c: Group,
     widths: &[u32],
     coefficients: &[f64],
     records: &[f64],
     durations: &[u32],
-    left: &[u32],
-    right: &[u32],
-    on: &[u32],
+    marks: &[u32],
     gv: &[f64],
     work: &mut [f64],
     out: &mut [f64],
 )
-    requires { ⌜ Planned u g (now widths) (now records) (now durations) × Taps (now widths) (now coefficients) (g .w) × Distances u (now records) (now durations) (now left) (now right)
-        × Varying s g (now on) × (s .windows ≡ length (now widths)) × (gvOn (stream .gv) ≡ true → length (now gv) ≡ g .v + g .v)
-        × (group .first + group .lanes ≤ g .v) × (group .lanes * g .size ≤ length (now work)) × (length (now out) ≡ total (now durations) * g .v) ⌝ }
-    ensures { λ _. ⌜ (Columned (columnOf u (g .v) (now (records .entry)) (now (durations .entry)) (now (widths .entry)) (now (coefficients .entry)) (stream .gv) (now (on .entry)) (now (gv .entry)) (stream .fill)) (g .v) (group .first) (now (out .entry))
-        → Columned (columnOf u (g .v) (now (records .entry)) (now (durations .entry)) (now (widths .entry)) (now (coefficients .entry)) (stream .gv) (now (on .entry)) (now (gv .entry)) (stream .fill)) (g .v) (group .first + group .lanes) (now (out .exit))) ⌝ }
+    requires { ⌜ Ready p (now widths) (now coefficients) (now records) (now durations) (now marks) (now gv)
+        × (c .v ≡ p .stream .v) × (c .first + c .lanes ≤ c .v) × (c .lanes * sizeOf (p .layout) ≤ length (now work)) × (length (now out) ≡ total (now durations) * c .v) ⌝ }
+    ensures { λ _. ⌜ (Columned (columnOf (p .stream) (now (widths .entry)) (now (coefficients .entry)) (now (records .entry)) (now (durations .entry)) (now (marks .entry)) (now (gv .entry))) (c .v) (c .first) (now (out .entry))
+        → Columned (columnOf (p .stream) (now (widths .entry)) (now (coefficients .entry)) (now (records .entry)) (now (durations .entry)) (now (marks .entry)) (now (gv .entry))) (c .v) (c .first + c .lanes) (now (out .exit))) ⌝ }
 {
     solve_group(
-        records,
-        u,
-        g,
-        group,
+        p,
+        c,
         widths,
         coefficients,
+        records,
         durations,
-        left,
-        right,
+        marks,
+        gv,
         work,
     );
+    let stream = p.stream;
     let switch = stream.gv;
-    vary(switch, s, g, group, on, gv, work);
-    fill_group(records, u, g, group, durations, stream.fill, work, out);
+    vary(switch, p, c, marks, gv, work);
+    let g = p.layout;
+    voicing::fill_back(stream.fill, durations, marks, g, c, work, out);
 }
 
-// Group after group, of at most so many lanes.
+// Group after group, of as many components as the work space holds.
 pub(crate) fn render_groups(
-    stream: Stream,
-    u: Voicing,
-    g: Plan,
-    s: MlpgGlobalVariance,
-    lanes: usize,
+    p: Plan,
     widths: &[u32],
     coefficients: &[f64],
     records: &[f64],
     durations: &[u32],
-    left: &[u32],
-    right: &[u32],
-    on: &[u32],
+    marks: &[u32],
     gv: &[f64],
     work: &mut [f64],
     out: &mut [f64],
 )
-    requires { ⌜ Planned u g (now widths) (now records) (now durations) × Taps (now widths) (now coefficients) (g .w) × Distances u (now records) (now durations) (now left) (now right)
-        × Varying s g (now on) × (s .windows ≡ length (now widths)) × (gvOn (stream .gv) ≡ true → length (now gv) ≡ g .v + g .v)
-        × (0 < g .v) × (0 < lanes) × (lanes * g .size ≤ length (now work)) × (length (now out) ≡ total (now durations) * g .v) ⌝ }
-    ensures { λ _. ⌜ Columned (columnOf u (g .v) (now (records .entry)) (now (durations .entry)) (now (widths .entry)) (now (coefficients .entry)) (stream .gv) (now (on .entry)) (now (gv .entry)) (stream .fill)) (g .v) (g .v) (now (out .exit)) ⌝ }
+    requires { ⌜ Ready p (now widths) (now coefficients) (now records) (now durations) (now marks) (now gv)
+        × (length (now work) ≡ total (now durations) * 48) × (length (now out) ≡ total (now durations) * p .stream .v) ⌝ }
+    ensures { λ _. ⌜ Columned (columnOf (p .stream) (now (widths .entry)) (now (coefficients .entry)) (now (records .entry)) (now (durations .entry)) (now (marks .entry)) (now (gv .entry))) (p .stream .v) (p .stream .v) (now (out .exit)) ⌝ }
 {
-    let v = g.v;
-    let mut c = 0;
-    while c < v {
-        let most = lists::least(lanes, v - c);
-        let group = Group {
-            first: c,
-            lanes: most,
+    let stream = p.stream;
+    let v = lists::wide(stream.v);
+    let layout = p.layout;
+    let lanes = 48 / layout.floats();
+    let mut first = 0;
+    while first < v {
+        let some = lists::least(lanes, v - first);
+        let c = Group {
+            v,
+            first,
+            lanes: some,
         };
         render_group(
-            stream,
-            u,
-            g,
-            s,
-            group,
+            p,
+            c,
             widths,
             coefficients,
             records,
             durations,
-            left,
-            right,
-            on,
+            marks,
             gv,
             work,
             out,
         );
-        c += most;
+        first += some;
     }
 }

@@ -1,24 +1,19 @@
 // Maximum likelihood parameter generation: the records of a stream become its trajectory.
 ghost use mathlib.Core.Path.{_≡_};
+ghost use mathlib.Core.Bool.{true};
 ghost use Prim.Native.Nat.{_≤_};
 ghost use lib.ListN.{length};
 ghost use Rattle.lists.specs.Totals.{total};
 ghost use Rattle.lists.specs.Answers.{written};
-ghost use Rattle.mlpg_adjust.specs.Trajectory.{recordSize, numbersOf};
-ghost use Rattle.mlpg_adjust.specs.TrajectoryPromise.{zeroFloats, zeroMarks, CreateSays};
-ghost use Rattle.mlpg_adjust.specs.TrajectoryInner.{Shaped, Room};
+ghost use Rattle.mlpg_adjust.specs.Trajectory.{recordSize, gvOn, numbersOf};
+ghost use Rattle.mlpg_adjust.specs.Promise.{lengthsOf, zeroFloats, zeroMarks, CreateSays};
+ghost use Rattle.mlpg_adjust.specs.Inner.Groups.{Shaped, Room};
 
-pub mod band;
-mod closing;
-mod filling;
 mod group;
-mod gv;
-pub mod mask;
-mod mlpg;
-mod passes;
 mod refusing;
 mod render;
-mod solve;
+
+use refusing::Lengths;
 
 // Global variance: off, or on with the weight of its means.
 pub enum GlobalVariance {
@@ -49,12 +44,6 @@ impl Stream {
     }
 }
 
-// How many frames lists were filled for, or the number of why none was.
-pub enum Filled {
-    Done(u32),
-    Refused(u8),
-}
-
 // Whether the trajectory is written, or the number of why not.
 pub enum Created {
     Done,
@@ -77,18 +66,15 @@ pub fn create(
     ensures { λ r. ⌜ CreateSays stream (now (widths .entry)) (now (coefficients .entry)) (now (records .entry)) (now (durations .entry)) (now (gv .entry)) (now (switches .entry))
         (now (out .entry)) (now (work .entry)) (now (marks .entry)) r (now (out .exit)) (now (work .exit)) (now (marks .exit)) ⌝ }
 {
-    let refused = refusing::refusal(
-        stream,
-        widths,
-        coefficients,
-        records.len(),
-        durations,
-        gv.len(),
-        switches.len(),
-        out.len(),
-        work.len(),
-        marks.len(),
-    );
+    let n = Lengths {
+        records: records.len(),
+        gv: gv.len(),
+        switches: switches.len(),
+        out: out.len(),
+        work: work.len(),
+        marks: marks.len(),
+    };
+    let refused = refusing::refusal(stream, widths, coefficients, durations, n);
     if refused != 0 {
         return Created::Refused(refused);
     }
@@ -120,8 +106,8 @@ fn write(
     work: &mut [f64],
     marks: &mut [u32],
 )
-    requires { ⌜ Shaped stream (now widths) (now coefficients) (now records) (now durations) (now gv) (now switches)
-        × Room (stream .v) (total (now durations)) (length (now out)) (length (now work)) (length (now marks)) ⌝ }
+    requires { ⌜ Shaped stream (now widths) (now coefficients) (now records) (now durations) (now gv) × (gvOn (stream .gv) ≡ true → length (now switches) ≡ length (now durations))
+        × Room (stream .v) (total (now durations)) (lengthsOf (now records) (now gv) (now switches) (now out) (now work) (now marks)) ⌝ }
     ensures { λ _. ⌜ (now (out .exit) ≡ written 0 (numbersOf stream (now (widths .entry)) (now (coefficients .entry)) (now (records .entry)) (now (durations .entry)) (now (gv .entry)) (now (switches .entry))) (now (out .entry)))
         × (now (work .exit) ≡ written 0 (zeroFloats (total (now (durations .entry)))) (now (work .entry)))
         × (now (marks .exit) ≡ written 0 (zeroMarks (total (now (durations .entry)))) (now (marks .entry))) ⌝ }

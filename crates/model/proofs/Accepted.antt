@@ -1,4 +1,4 @@
--- What an accepted window set has. Assumes nothing.
+-- What an accepted window set has.
 use mathlib.Core.Path.{_≡_, refl, ap}
 use mathlib.Core.List.{List, [], _∷_}
 use mathlib.Core.Bool.{Bool, true, false, cond}

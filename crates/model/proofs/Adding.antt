@@ -1,4 +1,4 @@
--- Laws of a record added to another: its flat list is each part added over the shorter. Assumes nothing.
+-- Laws of a record added to another: its flat list is each part added over the shorter.
 use mathlib.Core.Path.{_≡_, refl, sym, ap, _∙_}
 use mathlib.Core.List.{List, [], _∷_, _++_, append-assoc, append-nil}
 use mathlib.Core.Logic.{⊎-elim}

@@ -6,4 +6,3 @@ pub mod Records
 pub mod Scaling
 pub mod Adding
 pub mod Promises
-mod Cases

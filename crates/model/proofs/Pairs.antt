@@ -1,4 +1,4 @@
--- Laws of pairs and their sums. Assumes nothing.
+-- Laws of pairs and their sums.
 use mathlib.Core.Path.{_≡_, refl, sym, ap, _∙_}
 use mathlib.Core.List.{List, [], _∷_}
 use mathlib.Core.Bool.{true, false}

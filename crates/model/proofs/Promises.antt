@@ -1,4 +1,4 @@
--- The promises of the calls that write a record: how each is kept, and that any two outcomes it allows are equal. Assumes nothing.
+-- The promises of the calls that write a record: how each is kept, and that any two outcomes it allows are equal.
 use mathlib.Core.Path.{_≡_, refl, sym, ap, _∙_}
 use mathlib.Core.List.{List, _++_, map}
 use Prim.Native.Nat.{ℕ, _+_, _-_, _*_, _/_, _<_, _≤_}

@@ -1,4 +1,4 @@
--- Laws of records: a flat list is the pairs and the weight that it says, and nothing else. Assumes nothing.
+-- Laws of records: a flat list is the pairs and the weight that it says, and nothing else.
 use mathlib.Core.Path.{_≡_, refl, sym, ap, _∙_}
 use mathlib.Core.List.{List, [], _∷_, _++_, map}
 use Prim.Native.Nat.{ℕ, zero, suc, _+_, _-_, _*_, _/_, _%_, _<_, _≤_}

@@ -1,4 +1,4 @@
--- Laws of a record scaled: its flat list is every number scaled. Assumes nothing.
+-- Laws of a record scaled: its flat list is every number scaled.
 use mathlib.Core.Path.{_≡_, refl, sym, ap, _∙_}
 use mathlib.Core.List.{List, [], _∷_, _++_, map, map-append}
 use mathlib.Core.Bool.{Bool, true, false, cond}

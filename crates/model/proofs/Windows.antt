@@ -1,4 +1,4 @@
--- Laws of window sets. Assumes nothing.
+-- Laws of window sets.
 use mathlib.Core.Path.{_≡_, refl, sym, ap, _∙_}
 use mathlib.Core.List.{List, [], _∷_}
 use mathlib.Core.Bool.{Bool, true, false, not, _&&_, true≢false}

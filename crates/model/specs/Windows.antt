@@ -5,6 +5,7 @@ use Prim.Native.Nat.{ℕ, _+_, _-_, _*_, _/_, max}
 use lib.ListN.{length, take, drop, getD}
 use lib.Dec.{leb, eqb}
 use lib.Ieee.{Float, nan, inf, fin}
+use Rattle.lists.specs.Sizes.{mostWindows, mostTaps}
 use Rattle.lists.specs.Totals.{total}
 use Rattle.lists.specs.Build.{foldFrom}
 use Rattle.lists.specs.Refusals.{orElse}
@@ -21,7 +22,7 @@ allOf p (x ∷ xs) = p x && allOf p xs
 -- RULES, Sizes: a set has 1 to 4 windows, and each 1 to 15 coefficients
 unfoldable pub widthsFit : List ℕ → Bool
 unfolding allOf
-widthsFit widths = between 1 4 (length widths) && allOf (between 1 15) widths
+widthsFit widths = between 1 mostWindows (length widths) && allOf (between 1 mostTaps) widths
 
 -- neither infinite nor NaN
 unfoldable pub finite : Float → Bool

@@ -1,11 +1,11 @@
--- What a list that is read leaves of the lent one. Assumes nothing.
+-- What a list that is read leaves of the lent one.
 use Prim.Native.Nat.{ℕ, _+_, _≤_, _<_}
 use native.Mathlib.Omega.{arith}
 use mathlib.Core.Path.{_≡_, refl, subst, _∙_}
 use mathlib.Core.List.{List}
 use lib.ListN.{length, drop, set, length-set}
 use lib.Seq.{drop-set-lt}
-use Rattle.replay.specs.Input.{Within, Front}
+use Rattle.replay.specs.Input.{Within}
 use Rattle.replay.specs.declared.input.Listed.{Listed}
 use Rattle.replay.specs.declared.input.Listed.the-variants.{Of}
 
@@ -14,10 +14,6 @@ pub within : {r : Listed} (n room : ℕ) → Within r room → r ≡ Of n → n 
 within n room h e = subst (λ (l : Listed). Within l room) e h
 
 module _ {A : Type 0} where
-  -- what a list that came leaves
-  pub front : {r : Listed} {n : ℕ} (before after : List A) → Front r before after → r ≡ Of n → Front (Of n) before after
-  front before after h e = subst (λ (l : Listed). Front l before after) e h
-
   -- i of n elements were stored over the lent list
   pub record Begun (lent : List A) (n : ℕ) (into : List A) (i : ℕ) : Type 0 where
     pub sofar : i ≤ n

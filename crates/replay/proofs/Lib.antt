@@ -1,3 +1,4 @@
 -- The laws that the functions' proofs cite.
-mod Sames
+mod Held
+mod Places
 mod Fronts

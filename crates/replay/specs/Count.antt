@@ -1,4 +1,4 @@
--- The tally of a replay. Assumes nothing.
+-- The tally of a replay.
 use Prim.Native.Nat.{ℕ, _+_, _-_, _^_, min}
 use mathlib.Core.Bool.{Bool, true, false, cond}
 use lib.Dec.{eqb}

@@ -1,4 +1,4 @@
--- What a list that is read leaves of the lent one. Assumes nothing.
+-- What a list that is read leaves of the lent one.
 use Prim.Native.Nat.{ℕ, _≤_}
 use mathlib.Core.Path.{_≡_}
 use mathlib.Core.List.{List}

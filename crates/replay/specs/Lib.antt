@@ -1,4 +1,4 @@
 -- What the contracts of src/ cite.
 pub mod Count
+pub mod Holds
 pub mod Input
-pub mod Same

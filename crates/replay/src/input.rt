@@ -10,13 +10,13 @@ pub enum Came {
 }
 
 // A number of 32 bits, if it came whole.
-pub enum Number {
+enum Number {
     Of(u32),
     Cut,
 }
 
 // A float, if it came whole.
-pub enum Float {
+enum Float {
     Of(f64),
     Cut,
 }
@@ -27,7 +27,7 @@ pub enum Listed {
     Cut,
 }
 
-// Fills bytes, all of a case or a part of one.
+// Fills bytes, all of a vector or a part of a case.
 pub fn read(bytes: &mut [u8]) -> Came {
     let got = io::read_full(libc::STDIN_FILENO, bytes);
     if got == bytes.len() {
@@ -44,7 +44,7 @@ fn number_of(bytes: &[u8]) -> Number {
     Number::Of((lists::little_endian(bytes, 0, 4) % 0x1_0000_0000) as u32)
 }
 
-pub fn read_byte() -> Number {
+fn read_byte() -> Number {
     let mut bytes = [0u8; 1];
     let Came::Whole = read(&mut bytes) else {
         return Number::Cut;
@@ -52,7 +52,7 @@ pub fn read_byte() -> Number {
     number_of(&bytes)
 }
 
-pub fn read_number() -> Number {
+fn read_number() -> Number {
     let mut bytes = [0u8; 4];
     let Came::Whole = read(&mut bytes) else {
         return Number::Cut;
@@ -60,20 +60,26 @@ pub fn read_number() -> Number {
     number_of(&bytes)
 }
 
-// How many cases a file says at its start that it has, and none where it doesn't.
-pub fn read_cases() -> u32 {
-    let Number::Of(cases) = read_number() else {
-        return 0;
-    };
-    cases
-}
-
-pub fn read_float() -> Float {
+fn read_float() -> Float {
     let mut bytes = [0u8; 8];
     let Came::Whole = read(&mut bytes) else {
         return Float::Cut;
     };
     Float::Of(floats::of_bytes(&bytes, 0))
+}
+
+// How many cases a section says at its start that it has, and none where it isn't one of that kind.
+pub fn read_section(kind: u32) -> u32 {
+    let Number::Of(begun) = read_byte() else {
+        return 0;
+    };
+    if begun != kind {
+        return 0;
+    }
+    let Number::Of(cases) = read_number() else {
+        return 0;
+    };
+    cases
 }
 
 // A list's count, if there is room for so many.
@@ -136,21 +142,5 @@ pub fn read_bytes(into: &mut [u8]) -> Listed
     let Came::Whole = read(&mut into[..n]) else {
         return Listed::Cut;
     };
-    Listed::Of(n)
-}
-
-// Means and as many variances, each over the first of those that are lent.
-pub fn read_pairs(means: &mut [f64], varis: &mut [f64]) -> Listed
-    ensures { λ r. ⌜ Front r (now (means .entry)) (now (means .exit)) × Front r (now (varis .entry)) (now (varis .exit)) ⌝ }
-{
-    let Listed::Of(n) = read_floats(means) else {
-        return Listed::Cut;
-    };
-    let Listed::Of(m) = read_floats(varis) else {
-        return Listed::Cut;
-    };
-    if m != n {
-        return Listed::Cut;
-    }
     Listed::Of(n)
 }

@@ -7,22 +7,19 @@ ghost use Rattle.replay.specs.Count.{fresh, counted, closed};
 mod compare;
 mod input;
 
-pub use compare::front_u32;
-pub use compare::same_f64;
-pub use compare::same_u32;
+pub use compare::at_f64;
+pub use compare::at_u32;
+pub use compare::holds_f64;
+pub use compare::holds_u32;
+pub use compare::part_u8;
+pub use compare::part_u32;
 pub use input::Came;
-pub use input::Float;
 pub use input::Listed;
-pub use input::Number;
 pub use input::read;
-pub use input::read_byte;
 pub use input::read_bytes;
-pub use input::read_cases;
-pub use input::read_float;
 pub use input::read_floats;
-pub use input::read_number;
 pub use input::read_numbers;
-pub use input::read_pairs;
+pub use input::read_section;
 
 // What a lent output holds at entry, and still where nothing is written.
 pub const OUT: u32 = 0xa5a5_a5a5;
@@ -101,20 +98,8 @@ impl Tally {
         self.with(false).at_end()
     }
 
-    // After as many cases as the file says nothing may come: if anything does, it counts as one that differs. No contract can say what is read.
-    fn past_the_last(self) -> Self {
-        if self.ended {
-            return self;
-        }
-        let mut byte = [0u8; 1];
-        let Came::Nothing = input::read(&mut byte) else {
-            return self.cut();
-        };
-        self.at_end()
-    }
-
     // `NAME: N ITEMs, M differ`, and which is the first where any does. No contract can say what is written.
-    fn say_line(self, name: &[u8], item: &[u8]) {
+    pub fn print(self, name: &[u8], item: &[u8]) {
         say(name);
         say(b": ");
         say_number(self.seen);
@@ -131,16 +116,15 @@ impl Tally {
             say(b"\n");
         }
     }
+}
 
-    // The line of vectors that were replayed until the input ended.
-    pub fn print(self, name: &[u8]) {
-        self.say_line(name, b"vector");
-    }
-
-    // The line of a file that says at its start how many cases it has.
-    pub fn finish(self, name: &[u8]) {
-        self.past_the_last().say_line(name, b"case");
-    }
+// After the last section nothing may come; where anything does, a line says so. No contract can say what is read or written.
+pub fn end() {
+    let mut byte = [0u8; 1];
+    let Came::Nothing = input::read(&mut byte) else {
+        say(b"more follows\n");
+        return;
+    };
 }
 
 // n + 1, or n where no larger number is left.

@@ -67,5 +67,5 @@ fn main() {
         tally = next(tally);
         left -= 1;
     }
-    tally.print(b"floats");
+    tally.print(b"floats", b"vector");
 }

@@ -1,4 +1,4 @@
--- How much was read, and what it leaves of the room. Assumes nothing.
+-- How much was read, and what it leaves of the room.
 use mathlib.Core.Path.{_≡_, subst, _∙_}
 use mathlib.Core.List.{List}
 use Prim.Native.Nat.{ℕ, _+_, _-_, _≤_, _<_}

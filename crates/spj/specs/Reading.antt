@@ -1,4 +1,4 @@
--- What reading gives. No contract can say which bytes are read. Assumes nothing.
+-- What reading gives. No contract can say which bytes are read.
 use Prim.Native.Nat.{ℕ, _≤_}
 use Rattle.spj.specs.declared.Input.{Input}
 use Rattle.spj.specs.declared.Input.the-variants.{Bytes, Failed}

@@ -1,4 +1,4 @@
--- Excerpts lie in the trajectory, and all of them joined are the trajectory. Assumes nothing.
+-- Excerpts lie in the trajectory, and all of them joined are the trajectory.
 use mathlib.Core.Path.{_≡_, sym, ap, _∙_}
 use mathlib.Core.List.{List, [], _∷_, _++_, append-assoc, append-nil, flatten}
 use Prim.Native.Nat.{ℕ, zero, suc, _+_, _*_, _<_, _≤_}

@@ -1,4 +1,4 @@
--- Two outcomes that a promise allows are one. Assumes nothing.
+-- Two outcomes that a promise allows are one.
 use mathlib.Core.Path.{_≡_, sym, _∙_}
 use mathlib.Core.List.{List}
 use Prim.Native.Nat.{ℕ}

@@ -1,4 +1,4 @@
--- Places of the spool. Assumes nothing.
+-- Places of the spool.
 use mathlib.Core.Path.{_≡_, refl, sym, ap, _∙_}
 use mathlib.Core.List.{[], _∷_}
 use mathlib.Core.Logic.{_⊎_, inl, ⊎-elim}

@@ -1,4 +1,4 @@
--- When each refusal is given. Assumes nothing.
+-- When each refusal is given.
 use mathlib.Core.Path.{_≡_, refl}
 use mathlib.Core.Bool.{true, false, cond, _||_}
 use mathlib.Core.List.{List}
@@ -11,11 +11,11 @@ use lib.ListN.{length}
 use Rattle.lists.specs.Totals.{total}
 use Rattle.lists.proofs.Numbers.{le-or-lt}
 use Rattle.lists.proofs.Refusals.{or-none}
-use Rattle.spool.specs.Refusal.{outside, placeRefusal, trajectoryRefusal, excerptRefusal}
+use Rattle.lists.specs.Sizes.{outside}
+use Rattle.spool.specs.Refusal.{placeRefusal, trajectoryRefusal, excerptRefusal}
 
 -- a v that is not out of range
 pub in-range : (v : ℕ) → outside v ≡ false → (1 ≤ v) × (v ≤ 64)
-unfolding outside
 in-range v =
     (elim (ltb v 1) as (λ s. ltb v 1 ≡ s → (s || ltb 64 v) ≡ false → (1 ≤ v) × (v ≤ 64)) [
       | true ↦ λ g h. let z : _≡_ {A = ℕ} 0 1 = cc in absurd (omega arith)

@@ -1,4 +1,4 @@
--- What an answer of `excerpt_span` tells of the excerpt. Assumes nothing.
+-- What an answer of `excerpt_span` tells of the excerpt.
 use mathlib.Core.Path.{_≡_, refl, sym, ap, _∙_}
 use mathlib.Core.List.{List, [], _∷_}
 use Prim.Native.Nat.{ℕ, _+_, _≤_}

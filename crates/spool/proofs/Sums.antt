@@ -1,4 +1,4 @@
--- The scan in two parts, and products that 64 bits hold. Assumes nothing.
+-- The scan in two parts, and products that 64 bits hold.
 use mathlib.Core.Path.{_≡_, _∙_}
 use mathlib.Core.List.{List}
 use Prim.Native.Nat.{ℕ, _+_, _-_, _*_, _^_, _≤_}

@@ -1,4 +1,4 @@
--- The ways out of the calls. Assumes nothing.
+-- The ways out of the calls.
 use mathlib.Core.Path.{_≡_, sym, ap, _∙_}
 use mathlib.Core.List.{List, [], _∷_}
 use Prim.Native.Nat.{ℕ, _+_, _-_, _*_}

@@ -1,4 +1,4 @@
--- The part of a trajectory that one state has. Assumes nothing.
+-- The part of a trajectory that one state has.
 use mathlib.Core.List.{List}
 use Prim.Native.Nat.{ℕ, _*_}
 use lib.ListN.{take, drop, getD}

@@ -1,6 +1,6 @@
--- What the contracts of src/ cite, and worked cases.
-pub mod Place
-pub mod Excerpt
-pub mod Refusal
-pub mod Promise
-pub mod Cases
+-- What the contracts of src/ cite, in reading order.
+pub mod Place  -- a number's byte in the spool
+pub mod Excerpt  -- a state's part of a trajectory
+pub mod Refusal  -- why a call is refused
+pub mod Promise  -- what the calls promise
+pub mod Cases  -- worked cases

@@ -1,4 +1,4 @@
--- Where a number of a trajectory stands, and where it stands in the spool. Assumes nothing.
+-- Where a number of a trajectory stands, and where it stands in the spool.
 use Prim.Native.Nat.{ℕ, _+_, _*_}
 
 -- RULES, Sizes: a trajectory stands frame after frame, v numbers each

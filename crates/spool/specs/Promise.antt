@@ -1,4 +1,4 @@
--- What the calls promise. Assumes nothing.
+-- What the calls promise.
 use mathlib.Core.Path.{_≡_}
 use mathlib.Core.List.{List, [], _∷_}
 use Prim.Native.Nat.{ℕ, _+_, _*_, _≤_}

@@ -1,15 +1,12 @@
--- The numbers of refused calls: the smallest that applies, 0 for none. Assumes nothing.
-use mathlib.Core.Bool.{Bool, cond, _||_}
+-- The numbers of refused calls: the smallest that applies, 0 for none.
+use mathlib.Core.Bool.{cond}
 use mathlib.Core.List.{List}
 use Prim.Native.Nat.{ℕ, _*_}
 use lib.Dec.{ltb, eqb}
 use lib.ListN.{length}
+use Rattle.lists.specs.Sizes.{mostStates, mostFrames, outside}
 use Rattle.lists.specs.Totals.{total}
 use Rattle.lists.specs.Refusals.{orElse}
-
--- RULES, Sizes: a frame has 1 to 64 components; v is out of that range
-unfoldable pub outside : ℕ → Bool
-outside v = ltb v 1 || ltb 64 v
 
 -- RULES, Refusals: 3 for v out of range, 10 for a component that is not there; a frame is any 32-bit number
 unfoldable pub placeRefusal : ℕ → ℕ → ℕ
@@ -18,7 +15,7 @@ placeRefusal component v = cond (outside v) 3 (cond (ltb component v) 0 10)
 -- RULES, Refusals: 3 for too many states or v out of range, 4 unless the trajectory has v numbers for each of the durations' frames, 5 for more than 65,536 frames
 unfoldable pub trajectoryRefusal : ℕ → List ℕ → ℕ → ℕ
 trajectoryRefusal numbers durations v =
-    cond (ltb 4096 (length durations)) 3 (cond (outside v) 3 (cond (eqb numbers (total durations * v)) (cond (ltb 65536 (total durations)) 5 0) 4))
+    cond (ltb mostStates (length durations)) 3 (cond (outside v) 3 (cond (eqb numbers (total durations * v)) (cond (ltb mostFrames (total durations)) 5 0) 4))
 
 -- RULES, Refusals: then 10 for a state that is not there
 unfoldable pub excerptRefusal : ℕ → List ℕ → ℕ → ℕ → ℕ

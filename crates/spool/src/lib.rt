@@ -3,7 +3,8 @@ ghost use mathlib.Core.Path.{_≡_};
 ghost use Prim.Native.Nat.{_^_, _≤_, _<_};
 ghost use lib.ListN.{length};
 ghost use Rattle.spool.specs.Place.{numberOf};
-ghost use Rattle.spool.specs.Refusal.{outside, excerptRefusal};
+ghost use Rattle.lists.specs.Sizes.{outside};
+ghost use Rattle.spool.specs.Refusal.{excerptRefusal};
 ghost use Rattle.spool.specs.Promise.{PlaceSays, SpanSays, ExcerptSays, Summed};
 
 // A byte place in the spool, or why there is none.

@@ -1,4 +1,4 @@
--- `duration::create` meets its contract. Assumes nothing.
+-- `duration::create` meets its contract.
 use mathlib.Core.Path.{_≡_, sym, _∙_, subst}
 use mathlib.Core.List.{List}
 use Prim.Native.Nat.{ℕ, _≤_}
@@ -23,9 +23,6 @@ W c = c .fit-at .last .1 .1 .1 .0
 W-length : (c : tie.After-fit-at) → length (W c) ≡ length (c .before .before .before .before .before .before .before .before .args .means .now)
 W-length c = c .fit-at .kept .1 .1 .1 .0 ∙ length-take-le _ _ (lists (c .before .before) .workspace)
 
-refusal-of-lists-requires : tie.Need-refusal-of-lists-requires
-refusal-of-lists-requires c κs = search needs
-
 returns : tie.Need-returns
 returns c =
     let e = c .before .refusal-of-lists .ensures in
@@ -40,15 +37,6 @@ slice-aggregate-fit-at c = sym (length-take-le _ _ (lists (c .before) .workspace
 fit-at-requires : tie.Need-fit-at-requires
 fit-at-requires c κs = let s = lists (c .before) in record { few = s .few; varis = s .agree; workspace = length-take-le _ _ (s .workspace) }
 
-hand-out-requires : tie.Need-hand-out-requires
-hand-out-requires c κs = search needs
-
-same-length : tie.Need-same-length
-same-length c = search needs
-
-same-length-2 : tie.Need-same-length-2
-same-length-2 c = search needs
-
 returns-2 : tie.Need-returns-2
 returns-2 c =
     let f = c .before .before .before .before .before .before .before .before .before in
@@ -59,12 +47,12 @@ pub create-spec : {M : Type 1} → statement M
 create-spec =
     tie.close
     (tie.spec
-    refusal-of-lists-requires
+    (λ c κs. search needs)
     returns
     slice-relend-prefix-fit-at
     slice-aggregate-fit-at
     fit-at-requires
-    hand-out-requires
-    same-length
-    same-length-2
+    (λ c κs. search needs)
+    (λ c. search needs)
+    (λ c. search needs)
     returns-2)

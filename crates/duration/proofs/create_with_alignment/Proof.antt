@@ -1,4 +1,4 @@
--- `duration::create_with_alignment` meets its contract. Assumes nothing.
+-- `duration::create_with_alignment` meets its contract.
 use mathlib.Core.Path.{_≡_, refl, sym, ap, _∙_, subst}
 use mathlib.Core.List.{List}
 use Prim.Native.Nat.{ℕ, _≤_}
@@ -23,9 +23,6 @@ W c = c .fit-along .last .1 .1 .1 .1 .0
 W-length : (c : tie.After-fit-along) → length (W c) ≡ length (c .before .before .before .before .before .before .before .before .before .args .means .now)
 W-length c = c .fit-along .kept .1 .1 .1 .1 .0 ∙ length-take-le _ _ (lists (c .before .before) .1 .workspace)
 
-refusal-of-labels-requires : tie.Need-refusal-of-labels-requires
-refusal-of-labels-requires c κs = search needs
-
 returns : tie.Need-returns
 returns c =
     let e = c .before .refusal-of-labels .ensures in
@@ -42,38 +39,11 @@ fit-along-requires c κs =
     let s = lists (c .before) in
     record { lists = record { few = s .1 .few; varis = s .1 .agree; workspace = length-take-le _ _ (s .1 .workspace) }; some = s .0 .some; cover = s .0 .cover }
 
-enum-known-answer : tie.Need-enum-known-answer
-enum-known-answer c = search needs
-
-enum-told : tie.Need-enum-told
-enum-told c = search needs
-
-fill-u32-requires : tie.Need-fill-u32-requires
-fill-u32-requires c κs = search needs
-
-same-length : tie.Need-same-length
-same-length c = search needs
-
 returns-2 : tie.Need-returns-2
 returns-2 c =
     let f = c .before .before .before .before .before .before .before .before in
     let e : refusalOfLabels _ _ _ _ _ _ ≡ 0 = sym (c .before .before .before .before .before .before .before .before .before .before .before .refusal-of-labels .ensures) ∙ c .before .before .before .before .before .before .before .before .before .before .if1 .left in
     rw e (says-late _ _ _ _ _ (W f) (W-length f) (along-clears _ _ _ _) _ _ _ _ _ (ap aligned (c .before .before .before .before .enum-told .given .1)) (f .fit-along .ensures .answer) (c .before .before .fill-u32 .ensures))
-
-cast-copy-u32 : tie.Need-cast-copy-u32
-cast-copy-u32 c = search needs
-
-copy-u32-requires : tie.Need-copy-u32-requires
-copy-u32-requires c κs = search needs
-
-fill-u32-requires-2 : tie.Need-fill-u32-requires-2
-fill-u32-requires-2 c κs = search needs
-
-same-length-2 : tie.Need-same-length-2
-same-length-2 c = search needs
-
-same-length-3 : tie.Need-same-length-3
-same-length-3 c = search needs
 
 returns-3 : tie.Need-returns-3
 returns-3 c =
@@ -85,19 +55,19 @@ pub create-with-alignment-spec : {M : Type 1} → statement M
 create-with-alignment-spec =
     tie.close
     (tie.spec
-    refusal-of-labels-requires
+    (λ c κs. search needs)
     returns
     slice-relend-prefix-fit-along
     slice-aggregate-fit-along
     fit-along-requires
-    enum-known-answer
-    enum-told
-    fill-u32-requires
-    same-length
+    (λ c. search needs)
+    (λ c. search needs)
+    (λ c κs. search needs)
+    (λ c. search needs)
     returns-2
-    cast-copy-u32
-    copy-u32-requires
-    fill-u32-requires-2
-    same-length-2
-    same-length-3
+    (λ c. search needs)
+    (λ c κs. search needs)
+    (λ c κs. search needs)
+    (λ c. search needs)
+    (λ c. search needs)
     returns-3)

@@ -1,4 +1,4 @@
--- `duration::estimate_duration_with_frame_length` meets its contract. Assumes nothing.
+-- `duration::estimate_duration_with_frame_length` meets its contract.
 use mathlib.Core.Path.{_≡_, sym, _∙_, subst}
 use mathlib.Core.List.{List}
 use Prim.Native.Nat.{ℕ, _≤_}
@@ -23,16 +23,10 @@ W c = c .fit .last .1 .1 .1 .0
 W-length : (c : tie.After-fit) → length (W c) ≡ length (c .before .before .before .before .before .before .before .before .before .args .means .now)
 W-length c = c .fit .kept .1 .1 .1 .0 ∙ length-take-le _ _ (lists (c .before .before .before) .workspace)
 
-refusal-of-lists-requires : tie.Need-refusal-of-lists-requires
-refusal-of-lists-requires c κs = search needs
-
 returns : tie.Need-returns
 returns c =
     let e = c .before .refusal-of-lists .ensures in
     rw (← e) (says-early _ _ _ _ _ _ _ (c .if1 .taken) (subst (λ (k : ℕ). k ≤ 6) (sym e) (lists-early _ _ _ _)))
-
-rounded-requires : tie.Need-rounded-requires
-rounded-requires c κs = search needs
 
 slice-relend-prefix-fit : tie.Need-slice-relend-prefix-fit
 slice-relend-prefix-fit c = lists (c .before) .workspace
@@ -42,15 +36,6 @@ slice-aggregate-fit c = sym (length-take-le _ _ (lists (c .before .before) .work
 
 fit-requires : tie.Need-fit-requires
 fit-requires c κs = let s = lists (c .before .before) in record { few = s .few; varis = s .agree; workspace = length-take-le _ _ (s .workspace) }
-
-hand-out-requires : tie.Need-hand-out-requires
-hand-out-requires c κs = search needs
-
-same-length : tie.Need-same-length
-same-length c = search needs
-
-same-length-2 : tie.Need-same-length-2
-same-length-2 c = search needs
 
 returns-2 : tie.Need-returns-2
 returns-2 c =
@@ -62,13 +47,13 @@ pub estimate-duration-with-frame-length-spec : {M : Type 1} → statement M
 estimate-duration-with-frame-length-spec =
     tie.close
     (tie.spec
-    refusal-of-lists-requires
+    (λ c κs. search needs)
     returns
-    rounded-requires
+    (λ c κs. search needs)
     slice-relend-prefix-fit
     slice-aggregate-fit
     fit-requires
-    hand-out-requires
-    same-length
-    same-length-2
+    (λ c κs. search needs)
+    (λ c. search needs)
+    (λ c. search needs)
     returns-2)

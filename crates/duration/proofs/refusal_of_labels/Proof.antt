@@ -1,4 +1,4 @@
--- `duration::refusal_of_labels` meets its contract. Assumes nothing.
+-- `duration::refusal_of_labels` meets its contract.
 use native.Mathlib.Nat.{mul-le-mul-left}
 use native.Mathlib.Omega.{arith}
 use borrow.Author.Needs.{needs}
@@ -24,13 +24,10 @@ mul-if5 c = omega (arith, mul-le-mul-left (c .before .before .before .before .ar
 returns-5 : tie.Need-returns-5
 returns-5 c = labels-differ _ _ _ _ _ _ (c .before .before .before .before .if1 .left) (c .before .before .before .if2 .left) (c .before .before .if3 .left) (c .if5 .taken)
 
-refusal-of-lists-requires : tie.Need-refusal-of-lists-requires
-refusal-of-lists-requires c κs = search needs
-
 returns-6 : tie.Need-returns-6
 returns-6 c = labels-agree _ _ _ _ _ _ (c .before .before .before .before .before .if1 .left) (c .before .before .before .before .if2 .left) (c .before .before .before .if3 .left) _ (c .before .if5 .left) (c .refusal-of-lists .ensures)
 
 pub refusal-of-labels-spec : {M : Type 1} → statement M
 refusal-of-labels-spec =
     tie.close
-    (tie.spec returns returns-2 returns-3 returns-4 mul-if5 returns-5 refusal-of-lists-requires returns-6)
+    (tie.spec returns returns-2 returns-3 returns-4 mul-if5 returns-5 (λ c κs. search needs) returns-6)

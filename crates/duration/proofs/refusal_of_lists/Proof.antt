@@ -1,4 +1,4 @@
--- `duration::refusal_of_lists` meets its contract. Assumes nothing.
+-- `duration::refusal_of_lists` meets its contract.
 use Rattle.duration.proofs.Refusals.{states-over, varis-differ, output-short, work-short, lists-fit}
 use Rattle.duration.proofs.refusal_of_lists.Statement.{statement}
 use Rattle.duration.proofs.refusal_of_lists.Tie as tie

@@ -1,4 +1,4 @@
--- `floats::magnitude_bits` meets its contract. Assumes nothing.
+-- `floats::magnitude_bits` meets its contract.
 use mathlib.Core.Path.{_≡_, sym, ap, _∙_, subst}
 use mathlib.Core.Bool.{false}
 use Prim.Native.Nat.{ℕ, _%_, _^_}

@@ -1,4 +1,4 @@
--- `floats::of_bits` meets its contract. Assumes nothing.
+-- `floats::of_bits` meets its contract.
 use mathlib.Core.Path.{sym}
 use lib.Ieee.{div, ofBits}
 use Rattle.floats.proofs.Fields.{nan-pattern, number-pattern, not-of}
@@ -13,8 +13,5 @@ returns c = sym (nan-pattern (c .before .args .bits) (c .if1 .taken))
 float-from-bits-result : tie.Need-float-from-bits-result
 float-from-bits-result c = not-of (number-pattern (c .before .args .bits) (c .if1 .left))
 
-returns-2 : tie.Need-returns-2
-returns-2 c = search needs
-
 pub of-bits-spec : {M : Type 1} → statement M
-of-bits-spec = tie.close (tie.spec returns float-from-bits-result returns-2)
+of-bits-spec = tie.close (tie.spec returns float-from-bits-result (λ c. search needs))

@@ -1,4 +1,4 @@
--- `floats::one_nan` meets its contract. Assumes nothing.
+-- `floats::one_nan` meets its contract.
 use mathlib.Core.Path.{sym}
 use lib.Ieee.{div, ofBits}
 use Rattle.floats.proofs.Fields.{is-nan}
@@ -10,8 +10,5 @@ returns : tie.Need-returns
 unfolding div ofBits
 returns c = sym (is-nan (c .before .args .x) (c .if1 .taken))
 
-returns-2 : tie.Need-returns-2
-returns-2 c = search needs
-
 pub one-nan-spec : {M : Type 1} → statement M
-one-nan-spec = tie.close (tie.spec returns returns-2)
+one-nan-spec = tie.close (tie.spec returns (λ c. search needs))

@@ -1,4 +1,4 @@
--- `floats::rounded` meets its contract. Assumes nothing.
+-- `floats::rounded` meets its contract.
 use mathlib.Core.Path.{_≡_, sym, ap, _∙_, subst}
 use Prim.Native.Nat.{_≤_}
 use native.Mathlib.Nat.{le-of-lt, le-trans, le-of-eq}
@@ -41,9 +41,6 @@ returns-4 c =
     let s = c .before .before .before .before in
     when-large (x s) (held s) (c .before .before .if2 .left) (c .if4 .taken) (no-nan (x s) (c .before .before .before .if1 .left))
 
-sub-without-fraction : tie.Need-sub-without-fraction
-sub-without-fraction c = search needs
-
 without-fraction-requires : tie.Need-without-fraction-requires
 without-fraction-requires c κs =
     let s = c .before .before .before .before in
@@ -63,9 +60,6 @@ module _ (c : tie.After-without-fraction) where
 returns-5 : tie.Need-returns-5
 returns-5 c = sym (is (c .before) ∙ frames-many (c .before .without-fraction .result) (le-of-lt (c .if5 .taken)))
 
-cast-result : tie.Need-cast-result
-cast-result c = search needs
-
 returns-6 : tie.Need-returns-6
 returns-6 c = sym (is (c .before) ∙ frames-some (c .before .without-fraction .result) (some (c .before)) (c .if5 .left))
 
@@ -78,8 +72,8 @@ rounded-spec =
     returns-2
     returns-3
     returns-4
-    sub-without-fraction
+    (λ c. search needs)
     without-fraction-requires
     returns-5
-    cast-result
+    (λ c. search needs)
     returns-6)

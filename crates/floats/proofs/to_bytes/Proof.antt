@@ -1,4 +1,4 @@
--- `floats::to_bytes` meets its contract. Assumes nothing.
+-- `floats::to_bytes` meets its contract.
 use mathlib.Core.Path.{ap, _∙_}
 use Prim.Native.Nat.{ℕ}
 use lib.Seq.{sets}
@@ -7,15 +7,6 @@ use borrow.Author.Needs.{needs}
 use Rattle.floats.proofs.to_bytes.Statement.{statement}
 use Rattle.floats.proofs.to_bytes.Tie as tie
 
-bits-of-requires : tie.Need-bits-of-requires
-bits-of-requires c κs = search needs
-
-put-little-endian-requires : tie.Need-put-little-endian-requires
-put-little-endian-requires c κs = search needs
-
-same-length : tie.Need-same-length
-same-length c = search needs
-
 returns : tie.Need-returns
 returns c =
     let a = c .before .before .before .before .before .before .args in
@@ -23,4 +14,4 @@ returns c =
 
 pub to-bytes-spec : {M : Type 1} → statement M
 to-bytes-spec =
-    tie.close (tie.spec bits-of-requires put-little-endian-requires same-length returns)
+    tie.close (tie.spec (λ c κs. search needs) (λ c κs. search needs) (λ c. search needs) returns)

@@ -1,4 +1,4 @@
--- `hejmirov::variance_of` meets its contract. Assumes nothing.
+-- `hejmirov::variance_of` meets its contract.
 use borrow.Author.Tests.{eq-eqb, ne-eqb}
 use Rattle.hejmirov.proofs.variance_of.Statement.{statement}
 use Rattle.hejmirov.proofs.variance_of.Tie as tie

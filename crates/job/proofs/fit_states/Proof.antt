@@ -1,4 +1,4 @@
--- `job::fit_states` meets its contract. Assumes nothing.
+-- `job::fit_states` meets its contract.
 use mathlib.Core.Path.{sym}
 use native.Mathlib.Omega.{arith}
 use borrow.Author.Needs.{needs}
@@ -7,17 +7,11 @@ use Rattle.job.proofs.Pairs.{front-few, read-room, read-again, read-fro
 use Rattle.job.proofs.fit_states.Statement.{statement}
 use Rattle.job.proofs.fit_states.Tie as tie
 
-array-borrow-prefix-means : tie.Need-array-borrow-prefix-means
-array-borrow-prefix-means c = search needs
-
 slice-aggregate-read-floats : tie.Need-slice-aggregate-read-floats
 slice-aggregate-read-floats c = sym (length-take-le _ _ (c .before .before .before .before .pre))
 
 read-floats-requires : tie.Need-read-floats-requires
 read-floats-requires c κs = let h = c .before .before .before .before .pre in (omega arith, front-few _ _ _ h h)
-
-array-borrow-prefix-varis : tie.Need-array-borrow-prefix-varis
-array-borrow-prefix-varis c = search needs
 
 slice-aggregate-read-floats-2 : tie.Need-slice-aggregate-read-floats-2
 slice-aggregate-read-floats-2 c = sym (length-take-le _ _ (c .before .before .before .before .before .before .before .pre))
@@ -37,18 +31,6 @@ array-share-prefix-varis c = read-room _ 23 _ _ _ (c .before .before .before .be
 slice-aggregate-create-2 : tie.Need-slice-aggregate-create-2
 slice-aggregate-create-2 c = read-again _ 23 _ _ _ (c .before .before .before .before .before .before .before .before .before .before .before .pre) (c .before .before .before .read-floats2 .ensures)
 
-of-bytes-requires : tie.Need-of-bytes-requires
-of-bytes-requires c κs = search needs
-
-create-requires : tie.Need-create-requires
-create-requires c κs = search needs
-
-same-length : tie.Need-same-length
-same-length c = search needs
-
-same-length-2 : tie.Need-same-length-2
-same-length-2 c = search needs
-
 returns : tie.Need-returns
 returns c =
     let d = c .before .before .before .before .before .before .before in
@@ -60,18 +42,18 @@ pub fit-states-spec : {M : Type 1} → statement M
 fit-states-spec =
     tie.close
     (tie.spec
-    array-borrow-prefix-means
+    (λ c. search needs)
     slice-aggregate-read-floats
     read-floats-requires
-    array-borrow-prefix-varis
+    (λ c. search needs)
     slice-aggregate-read-floats-2
     read-floats-requires-2
     array-share-prefix-means
     slice-aggregate-create
     array-share-prefix-varis
     slice-aggregate-create-2
-    of-bytes-requires
-    create-requires
-    same-length
-    same-length-2
+    (λ c κs. search needs)
+    (λ c κs. search needs)
+    (λ c. search needs)
+    (λ c. search needs)
     returns)

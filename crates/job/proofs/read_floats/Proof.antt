@@ -1,4 +1,4 @@
--- `job::read_floats` meets its contract. The first i floats are read, and the rest is as it was. Assumes nothing.
+-- `job::read_floats` meets its contract. The first i floats are read, and the rest is as it was.
 use mathlib.Core.Path.{_≡_, refl}
 use mathlib.Core.List.{_++_}
 use Prim.Native.Nat.{ℕ, _+_, _-_, _*_, _≤_, zero-le}
@@ -21,27 +21,6 @@ abbrev μ-loop : tie.MeasureT-loop
 loop-holds : tie.Need-loop-holds Inv-loop μ-loop
 unfolding build
 loop-holds c = (zero-le, refl, refl)
-
-mul-of-bytes : tie.Need-mul-of-bytes Inv-loop μ-loop
-mul-of-bytes c = search needs
-
-add-of-bytes : tie.Need-add-of-bytes Inv-loop μ-loop
-add-of-bytes c = search needs
-
-of-bytes-requires : tie.Need-of-bytes-requires Inv-loop μ-loop
-of-bytes-requires c κs = search needs
-
-mul-into : tie.Need-mul-into Inv-loop μ-loop
-mul-into c = search needs
-
-slice-write-into : tie.Need-slice-write-into Inv-loop μ-loop
-slice-write-into c = search needs
-
-add-i : tie.Need-add-i Inv-loop μ-loop
-add-i c = search needs
-
-loop-less : tie.Need-loop-less Inv-loop μ-loop
-loop-less c = search needs
 
 loop-again : tie.Need-loop-again Inv-loop μ-loop
 loop-again c =
@@ -66,13 +45,13 @@ read-floats-spec =
     Inv-loop
     μ-loop
     loop-holds
-    mul-of-bytes
-    add-of-bytes
-    of-bytes-requires
-    mul-into
-    slice-write-into
-    add-i
-    loop-less
+    (λ c. search needs)
+    (λ c. search needs)
+    (λ c κs. search needs)
+    (λ c. search needs)
+    (λ c. search needs)
+    (λ c. search needs)
+    (λ c. search needs)
     loop-again
     same-length
     returns)

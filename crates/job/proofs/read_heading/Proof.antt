@@ -1,26 +1,18 @@
--- `job::read_heading` meets its contract. Assumes nothing.
+-- `job::read_heading` meets its contract.
 use mathlib.Core.Path.{_≡_, sym, ap, _∙_, subst}
+use Rattle.lists.specs.Sizes.{mostJobStates}
 use Rattle.lists.specs.Bytes.{startsWith}
 use mathlib.Core.Bool.{true}
 use Prim.Native.Nat.{ℕ, _≤_, _<_}
 use borrow.Author.Needs.{needs}
 use borrow.Author.Tests.{not-true, not-false}
-use Rattle.job.specs.Format.{mark, versionOf, version, countOf, mostStates, lengthOf}
+use Rattle.job.specs.Format.{mark, versionOf, version, countOf, lengthOf}
 use Rattle.job.proofs.Departures.{departs-mark, departs-version, departs-count, departs-length, departs-nowhere, heading-damaged, heading-states}
 use Rattle.job.proofs.read_heading.Statement.{statement}
 use Rattle.job.proofs.read_heading.Tie as tie
 
-slice-aggregate-starts-with : tie.Need-slice-aggregate-starts-with
-slice-aggregate-starts-with c = search needs
-
-starts-with-requires : tie.Need-starts-with-requires
-starts-with-requires c κs = search needs
-
 returns : tie.Need-returns
 returns c = heading-damaged _ (departs-mark _ (sym (c .before .starts-with .ensures) ∙ not-true _ (c .if1 .taken)))
-
-little-endian-requires : tie.Need-little-endian-requires
-little-endian-requires c κs = search needs
 
 -- the bytes begin with the mark
 marked : (c : tie.Else1) → startsWith mark (c .before .before .before .before .args .bytes .now) ≡ true
@@ -33,31 +25,19 @@ returns-2 c = heading-damaged _ (departs-version _ (marked (c .before .before)) 
 versioned : (c : tie.Else2) → versionOf (c .before .before .before .before .before .before .args .bytes .now) ≡ version
 versioned c = sym (c .before .little-endian .ensures) ∙ c .if2 .left
 
-little-endian-requires-2 : tie.Need-little-endian-requires-2
-little-endian-requires-2 c κs = search needs
-
 returns-3 : tie.Need-returns-3
 returns-3 c =
     let d = c .before .before in
-    heading-damaged _ (departs-count _ (marked (d .before .before)) (versioned d) (subst (λ (n : ℕ). mostStates < n) (c .before .little-endian2 .ensures) (c .if3 .taken)))
+    heading-damaged _ (departs-count _ (marked (d .before .before)) (versioned d) (subst (λ (n : ℕ). mostJobStates < n) (c .before .little-endian2 .ensures) (c .if3 .taken)))
 
 -- and of not too many states
-few : (c : tie.Else3) → countOf (c .before .before .before .before .before .before .before .before .args .bytes .now) ≤ mostStates
-few c = subst (λ (n : ℕ). n ≤ mostStates) (c .before .little-endian2 .ensures) (c .if3 .left)
-
-mul-if4 : tie.Need-mul-if4
-mul-if4 c = search needs
-
-add-if4 : tie.Need-add-if4
-add-if4 c = search needs
+few : (c : tie.Else3) → countOf (c .before .before .before .before .before .before .before .before .args .bytes .now) ≤ mostJobStates
+few c = subst (λ (n : ℕ). n ≤ mostJobStates) (c .before .little-endian2 .ensures) (c .if3 .left)
 
 returns-4 : tie.Need-returns-4
 returns-4 c =
     let d = c .before .before .before in
     heading-damaged _ (departs-length _ (marked (d .before .before)) (versioned d) (few (c .before)) (λ q. c .if4 .taken (q ∙ sym (ap lengthOf (c .before .before .little-endian2 .ensures)))))
-
-cast-t12 : tie.Need-cast-t12
-cast-t12 c = search needs
 
 returns-5 : tie.Need-returns-5
 returns-5 c =
@@ -69,15 +49,15 @@ pub read-heading-spec : {M : Type 1} → statement M
 read-heading-spec =
     tie.close
     (tie.spec
-    slice-aggregate-starts-with
-    starts-with-requires
+    (λ c. search needs)
+    (λ c κs. search needs)
     returns
-    little-endian-requires
+    (λ c κs. search needs)
     returns-2
-    little-endian-requires-2
+    (λ c κs. search needs)
     returns-3
-    mul-if4
-    add-if4
+    (λ c. search needs)
+    (λ c. search needs)
     returns-4
-    cast-t12
+    (λ c. search needs)
     returns-5)

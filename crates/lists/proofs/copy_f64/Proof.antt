@@ -1,4 +1,4 @@
--- `lists::copy_f64` meets its contract. Assumes nothing.
+-- `lists::copy_f64` meets its contract.
 use mathlib.Core.Path.{_≡_, refl, ap, _∙_}
 use Prim.Native.Nat.{ℕ, _-_, min}
 use native.Mathlib.Omega.{arith}
@@ -18,32 +18,14 @@ abbrev μ-loop : tie.MeasureT-loop
 far : (c : tie.At-loop Inv-loop μ-loop) → c .before .least2 .result ≡ min (min (c .before .before .before .before .before .args .n) (length (c .before .before .before .before .before .args .src .now))) (length (c .before .before .before .before .before .args .dst .now))
 far c = c .before .least2 .ensures ∙ ap (λ (k : ℕ). min k (length (c .before .before .before .before .before .args .dst .now))) (c .before .before .least .ensures)
 
-least-requires : tie.Need-least-requires Inv-loop μ-loop
-least-requires c κs = search needs
-
-least-requires-2 : tie.Need-least-requires-2 Inv-loop μ-loop
-least-requires-2 c κs = search needs
-
 loop-holds : tie.Need-loop-holds Inv-loop μ-loop
 loop-holds c = storing _ _ _
-
-mul-dst : tie.Need-mul-dst Inv-loop μ-loop
-mul-dst c = search needs
 
 shared-slice-read-dst : tie.Need-shared-slice-read-dst Inv-loop μ-loop
 shared-slice-read-dst c = omega (arith, far (c .before .before))
 
-mul-dst-2 : tie.Need-mul-dst-2 Inv-loop μ-loop
-mul-dst-2 c = search needs
-
 slice-write-dst : tie.Need-slice-write-dst Inv-loop μ-loop
 slice-write-dst c = omega (arith, far (c .before .before))
-
-add-i : tie.Need-add-i Inv-loop μ-loop
-add-i c = search needs
-
-loop-less : tie.Need-loop-less Inv-loop μ-loop
-loop-less c = search needs
 
 loop-again : tie.Need-loop-again Inv-loop μ-loop
 loop-again c = copying-next _ _ _ _ _ _ (far (c .before .before)) (c .before .before .loop .inv) _ _ (c .before .loop-test .taken) refl
@@ -60,15 +42,15 @@ copy-f64-spec =
     (tie.spec
     Inv-loop
     μ-loop
-    least-requires
-    least-requires-2
+    (λ c κs. search needs)
+    (λ c κs. search needs)
     loop-holds
-    mul-dst
+    (λ c. search needs)
     shared-slice-read-dst
-    mul-dst-2
+    (λ c. search needs)
     slice-write-dst
-    add-i
-    loop-less
+    (λ c. search needs)
+    (λ c. search needs)
     loop-again
     same-length
     returns)

@@ -1,4 +1,4 @@
--- `lists::fill_f64` meets its contract. Assumes nothing.
+-- `lists::fill_f64` meets its contract.
 use Prim.Native.Nat.{_-_}
 use native.Mathlib.Omega.{arith}
 use borrow.Author.Needs.{needs}
@@ -13,23 +13,11 @@ Inv-loop s₀ n v end i₀ s i = Storing (replicate n v) s₀ s end i
 abbrev μ-loop : tie.MeasureT-loop
 μ-loop s₀ n v end i₀ s i = end - i
 
-least-requires : tie.Need-least-requires Inv-loop μ-loop
-least-requires c κs = search needs
-
 loop-holds : tie.Need-loop-holds Inv-loop μ-loop
 loop-holds c = storing _ _ _
 
-mul-s : tie.Need-mul-s Inv-loop μ-loop
-mul-s c = search needs
-
 slice-write-s : tie.Need-slice-write-s Inv-loop μ-loop
 slice-write-s c = omega arith
-
-add-i : tie.Need-add-i Inv-loop μ-loop
-add-i c = search needs
-
-loop-less : tie.Need-loop-less Inv-loop μ-loop
-loop-less c = search needs
 
 loop-again : tie.Need-loop-again Inv-loop μ-loop
 loop-again c = filling-next _ _ _ _ _ _ (c .before .before .least .ensures) (c .before .loop .inv) (c .loop-test .taken)
@@ -46,12 +34,12 @@ fill-f64-spec =
     (tie.spec
     Inv-loop
     μ-loop
-    least-requires
+    (λ c κs. search needs)
     loop-holds
-    mul-s
+    (λ c. search needs)
     slice-write-s
-    add-i
-    loop-less
+    (λ c. search needs)
+    (λ c. search needs)
     loop-again
     same-length
     returns)

@@ -1,4 +1,4 @@
--- `lists::little_endian` meets its contract. Assumes nothing.
+-- `lists::little_endian` meets its contract.
 use mathlib.Core.Path.{_≡_, ap, _∙_}
 use mathlib.Core.List.{List}
 use Prim.Native.Nat.{ℕ, _+_, _-_, _*_, _^_, _<_, _≤_, min}
@@ -41,38 +41,14 @@ room c = let a = c .before in reading-fits (bytes a) (at a) (end a) (begins a) (
 returns : tie.Need-returns Inv-loop μ-loop
 returns c = let a = c .before .before .args in little-past (a .bytes .now) (a .at) (min (a .width) 8) (c .if1 .taken)
 
-least-requires : tie.Need-least-requires Inv-loop μ-loop
-least-requires c κs = search needs
-
-sub-least : tie.Need-sub-least Inv-loop μ-loop
-sub-least c = search needs
-
-least-requires-2 : tie.Need-least-requires-2 Inv-loop μ-loop
-least-requires-2 c κs = search needs
-
-add-end : tie.Need-add-end Inv-loop μ-loop
-add-end c = search needs
-
 loop-holds : tie.Need-loop-holds Inv-loop μ-loop
 loop-holds c = let a = c .before .before .before .before .args in reading (a .bytes .now) (a .at) _ (omega arith) (omega (arith, c .least2 .ensures))
-
-sub-i : tie.Need-sub-i Inv-loop μ-loop
-sub-i c = search needs
 
 mul-number : tie.Need-mul-number Inv-loop μ-loop
 mul-number c = omega (arith, room c)
 
-shared-slice-read-wide-u8 : tie.Need-shared-slice-read-wide-u8 Inv-loop μ-loop
-shared-slice-read-wide-u8 c = search needs
-
-wide-u8-requires : tie.Need-wide-u8-requires Inv-loop μ-loop
-wide-u8-requires c κs = search needs
-
 add-number : tie.Need-add-number Inv-loop μ-loop
 add-number c = omega (arith, room (c .before .before), c .wide-u8 .ensures, c .before .shared-slice-known2 .given (c .before .before .before .loop .i - 1))
-
-loop-less : tie.Need-loop-less Inv-loop μ-loop
-loop-less c = search needs
 
 loop-again : tie.Need-loop-again Inv-loop μ-loop
 loop-again c =
@@ -91,16 +67,16 @@ little-endian-spec =
     Inv-loop
     μ-loop
     returns
-    least-requires
-    sub-least
-    least-requires-2
-    add-end
+    (λ c κs. search needs)
+    (λ c. search needs)
+    (λ c κs. search needs)
+    (λ c. search needs)
     loop-holds
-    sub-i
+    (λ c. search needs)
     mul-number
-    shared-slice-read-wide-u8
-    wide-u8-requires
+    (λ c. search needs)
+    (λ c κs. search needs)
     add-number
-    loop-less
+    (λ c. search needs)
     loop-again
     returns-2)

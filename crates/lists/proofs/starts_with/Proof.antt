@@ -1,4 +1,4 @@
--- `lists::starts_with` meets its contract. The first i bytes are alike, and the rest decides. Assumes nothing.
+-- `lists::starts_with` meets its contract. The first i bytes are alike, and the rest decides.
 use Prim.Native.Nat.{_-_}
 use borrow.Author.Needs.{needs}
 use lib.ListN.{length}
@@ -18,20 +18,8 @@ loop-holds c = alike _ _
 returns : tie.Need-returns Inv-loop μ-loop
 returns c = alike-short (c .before .before .loop .inv) (c .before .loop-test .taken) (c .if1 .taken)
 
-shared-slice-read-if2 : tie.Need-shared-slice-read-if2 Inv-loop μ-loop
-shared-slice-read-if2 c = search needs
-
-shared-slice-read-if2-2 : tie.Need-shared-slice-read-if2-2 Inv-loop μ-loop
-shared-slice-read-if2-2 c = search needs
-
 returns-2 : tie.Need-returns-2 Inv-loop μ-loop
 returns-2 c = alike-not (c .before .before .before .before .before .loop .inv) (c .before .before .before .before .loop-test .taken) (c .before .before .before .if1 .left) (c .if2 .taken)
-
-add-i : tie.Need-add-i Inv-loop μ-loop
-add-i c = search needs
-
-loop-less : tie.Need-loop-less Inv-loop μ-loop
-loop-less c = search needs
 
 loop-again : tie.Need-loop-again Inv-loop μ-loop
 loop-again c = alike-next (c .before .before .before .before .before .loop .inv) (c .before .before .before .before .loop-test .taken) (c .before .before .before .if1 .left) (c .if2 .left)
@@ -47,10 +35,10 @@ starts-with-spec =
     μ-loop
     loop-holds
     returns
-    shared-slice-read-if2
-    shared-slice-read-if2-2
+    (λ c. search needs)
+    (λ c. search needs)
     returns-2
-    add-i
-    loop-less
+    (λ c. search needs)
+    (λ c. search needs)
     loop-again
     returns-3)

@@ -1,32 +1,27 @@
--- `mlpg_adjust::write` meets its contract. Assumes nothing.
+-- `mlpg_adjust::write` meets its contract.
 use mathlib.Core.Path.{_≡_, sym, ap, _∙_}
 use Prim.Native.Nat.{ℕ, _*_, _≤_}
 use native.Mathlib.Nat.{mul-le-mul-left}
 use native.Mathlib.Omega.{arith}
-use lib.ListN.{length}
 use lib.Seq.{length-take-le}
 use Rattle.lists.specs.Totals.{total}
-use Rattle.mlpg_adjust.specs.TrajectoryInner.{Room}
-use Rattle.mlpg_adjust.proofs.CreateWays.{frames-are, numbers-written, zeroed}
+use Rattle.mlpg_adjust.specs.Promise.{lengthsOf}
+use Rattle.mlpg_adjust.specs.Inner.Groups.{Room}
+use Rattle.mlpg_adjust.proofs.Ways.{frames-are, numbers-written, zeroed}
 use borrow.Author.Needs.{needs}
 use Rattle.mlpg_adjust.proofs.write.Statement.{statement}
 use Rattle.mlpg_adjust.proofs.write.Tie as tie
 
 -- so many frames, and the room for them
-count : (c : tie.After-total-u32) → c .total-u32 .result ≡ total (c .before .before .before .before .before .before .before .before .before .before .args .durations .now)
-count c = frames-are _ _ (c .total-u32 .ensures) (c .before .before .before .before .before .before .before .before .before .before .pre .0 .few)
+module _ (c : tie.After-total-u32) where
+  count : c .total-u32 .result ≡ total (c .before .before .before .before .before .before .before .before .before .before .args .durations .now)
+  count = frames-are _ _ (c .total-u32 .ensures) (c .before .before .before .before .before .before .before .before .before .before .pre .0 .few)
 
-room : (c : tie.After-total-u32) → Room (c .before .before .before .before .before .before .before .before .before .before .args .stream .v) (c .total-u32 .result) (length (c .before .before .before .before .before .before .before .before .before .before .args .out .now)) (length (c .before .before .before .before .before .before .before .before .before .before .args .work .now)) (length (c .before .before .before .before .before .before .before .before .before .before .args .marks .now))
-room c = rw (count c) (c .before .before .before .before .before .before .before .before .before .before .pre .1)
+  room : let a = c .before .before .before .before .before .before .before .before .before .before .args in Room (a .stream .v) (c .total-u32 .result) (lengthsOf (a .records .now) (a .gv .now) (a .switches .now) (a .out .now) (a .work .now) (a .marks .now))
+  room = rw count (c .before .before .before .before .before .before .before .before .before .before .pre .2)
 
-few : (c : tie.After-total-u32) → c .total-u32 .result ≤ 65536
-few c = rw (count c) (c .before .before .before .before .before .before .before .before .before .before .pre .0 .frames)
-
-total-u32-requires : tie.Need-total-u32-requires
-total-u32-requires c κs = search needs
-
-cast-numbers : tie.Need-cast-numbers
-cast-numbers c = search needs
+  few : c .total-u32 .result ≤ 65536
+  few = rw count (c .before .before .before .before .before .before .before .before .before .before .pre .0 .frames)
 
 mul-numbers : tie.Need-mul-numbers
 mul-numbers c = omega (arith, few (c .before), mul-le-mul-left (c .before .total-u32 .result) (c .before .before .before .before .before .before .before .before .before .before .before .pre .0 .most-v))
@@ -59,22 +54,8 @@ render-requires : tie.Need-render-requires
 render-requires c κs =
     let t = c .before .before .before .before in
     let r = room t in
-    (c .before .before .before .before .before .before .before .before .before .before .before .before .before .before .pre .0, length-take-le _ _ (r .numbers) ∙ rw (count t), length-take-le _ _ (r .floats) ∙ rw (count t), length-take-le _ _ (r .counts) ∙ rw (count t))
-
-fill-f64-requires : tie.Need-fill-f64-requires
-fill-f64-requires c κs = search needs
-
-fill-u32-requires : tie.Need-fill-u32-requires
-fill-u32-requires c κs = search needs
-
-same-length : tie.Need-same-length
-same-length c = search needs
-
-same-length-2 : tie.Need-same-length-2
-same-length-2 c = search needs
-
-same-length-3 : tie.Need-same-length-3
-same-length-3 c = search needs
+    let s = c .before .before .before .before .before .before .before .before .before .before .before .before .before .before in
+    (s .pre .0, s .pre .1, length-take-le _ _ (r .numbers) ∙ rw (count t), length-take-le _ _ (r .floats) ∙ rw (count t), length-take-le _ _ (r .counts) ∙ rw (count t))
 
 returns : tie.Need-returns
 returns c =
@@ -91,8 +72,8 @@ pub write-spec : {M : Type 1} → statement M
 write-spec =
     tie.close
     (tie.spec
-    total-u32-requires
-    cast-numbers
+    (λ c κs. search needs)
+    (λ c. search needs)
     mul-numbers
     mul-floats
     mul-counts
@@ -103,9 +84,9 @@ write-spec =
     slice-relend-prefix-render-3
     slice-aggregate-render-3
     render-requires
-    fill-f64-requires
-    fill-u32-requires
-    same-length
-    same-length-2
-    same-length-3
+    (λ c κs. search needs)
+    (λ c κs. search needs)
+    (λ c. search needs)
+    (λ c. search needs)
+    (λ c. search needs)
     returns)

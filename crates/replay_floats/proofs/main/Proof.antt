@@ -1,41 +1,13 @@
 -- `replay_floats::main` is safe and ends. The measure is the number of turns that are left; nothing has to hold from turn to turn.
--- Assumes nothing.
 use borrow.Author.Needs.{needs}
 use Rattle.replay_floats.proofs.main.Statement.{statement}
 use Rattle.replay_floats.proofs.main.Tie as tie
 
 abbrev Inv-loop : tie.InvT-loop
-Inv-loop tally₀ left₀ t3 tally left = Unit {0}
+Inv-loop tally₀ left₀ t3 t4 tally left = Unit {0}
 
 abbrev μ-loop : tie.MeasureT-loop
-μ-loop tally₀ left₀ t3 tally left = left
-
-new-requires : tie.Need-new-requires Inv-loop μ-loop
-new-requires c κs = tt
-
-loop-holds : tie.Need-loop-holds Inv-loop μ-loop
-loop-holds c = tt
-
-next-requires : tie.Need-next-requires Inv-loop μ-loop
-next-requires c κs = tt
-
-sub-left : tie.Need-sub-left Inv-loop μ-loop
-sub-left c = search needs
-
-loop-less : tie.Need-loop-less Inv-loop μ-loop
-loop-less c = search needs
-
-loop-again : tie.Need-loop-again Inv-loop μ-loop
-loop-again c = tt
-
-slice-aggregate-print : tie.Need-slice-aggregate-print Inv-loop μ-loop
-slice-aggregate-print c = search needs
-
-print-requires : tie.Need-print-requires Inv-loop μ-loop
-print-requires c κs = tt
-
-returns : tie.Need-returns Inv-loop μ-loop
-returns c = tt
+μ-loop tally₀ left₀ t3 t4 tally left = left
 
 pub main-spec : {M : Type 1} → statement M
 main-spec =
@@ -43,12 +15,13 @@ main-spec =
     (tie.spec
     Inv-loop
     μ-loop
-    new-requires
-    loop-holds
-    next-requires
-    sub-left
-    loop-less
-    loop-again
-    slice-aggregate-print
-    print-requires
-    returns)
+    (λ c κs. tt)
+    (λ c. tt)
+    (λ c κs. tt)
+    (λ c. search needs)
+    (λ c. search needs)
+    (λ c. tt)
+    (λ c. search needs)
+    (λ c. search needs)
+    (λ c κs. tt)
+    (λ c. tt))

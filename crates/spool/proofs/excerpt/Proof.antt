@@ -1,4 +1,4 @@
--- `spool::excerpt` meets its contract. Assumes nothing.
+-- `spool::excerpt` meets its contract.
 use mathlib.Core.Path.{refl}
 use Prim.Native.Nat.{_+_, _≤_}
 use native.Mathlib.Omega.{arith}
@@ -8,18 +8,6 @@ use Rattle.spool.proofs.Spans.{span-fits}
 use Rattle.spool.proofs.Ways.{part-says, empty-says}
 use Rattle.spool.proofs.excerpt.Statement.{statement}
 use Rattle.spool.proofs.excerpt.Tie as tie
-
-excerpt-span-requires : tie.Need-excerpt-span-requires
-excerpt-span-requires c κs = search needs
-
-enum-known-first : tie.Need-enum-known-first
-enum-known-first c = search needs
-
-enum-told : tie.Need-enum-told
-enum-told c = search needs
-
-slice-aggregate-result : tie.Need-slice-aggregate-result
-slice-aggregate-result c = search needs
 
 returns : tie.Need-returns
 returns c =
@@ -40,12 +28,6 @@ add-end c = omega (arith, fits c)
 mul-result : tie.Need-mul-result
 mul-result c = omega (arith, fits c)
 
-sub-result : tie.Need-sub-result
-sub-result c = search needs
-
-part-result-start : tie.Need-part-result-start
-part-result-start c = search needs
-
 part-result-end : tie.Need-part-result-end
 part-result-end c = omega (arith, fits c)
 
@@ -59,14 +41,14 @@ pub excerpt-spec : {M : Type 1} → statement M
 excerpt-spec =
     tie.close
     (tie.spec
-    excerpt-span-requires
-    enum-known-first
-    enum-told
-    slice-aggregate-result
+    (λ c κs. search needs)
+    (λ c. search needs)
+    (λ c. search needs)
+    (λ c. search needs)
     returns
     add-end
     mul-result
-    sub-result
-    part-result-start
+    (λ c. search needs)
+    (λ c. search needs)
     part-result-end
     returns-2)

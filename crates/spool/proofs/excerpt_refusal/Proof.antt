@@ -1,18 +1,9 @@
--- `spool::excerpt_refusal` meets its contract. Assumes nothing.
+-- `spool::excerpt_refusal` meets its contract.
 use mathlib.Core.Path.{sym}
 use borrow.Author.Needs.{needs}
 use Rattle.spool.proofs.Spans.{span-none, span-refused}
 use Rattle.spool.proofs.excerpt_refusal.Statement.{statement}
 use Rattle.spool.proofs.excerpt_refusal.Tie as tie
-
-excerpt-span-requires : tie.Need-excerpt-span-requires
-excerpt-span-requires c κs = search needs
-
-enum-known-number : tie.Need-enum-known-number
-enum-known-number c = search needs
-
-enum-told : tie.Need-enum-told
-enum-told c = search needs
 
 returns : tie.Need-returns
 returns c =
@@ -28,4 +19,4 @@ returns-2 c =
 
 pub excerpt-refusal-spec : {M : Type 1} → statement M
 excerpt-refusal-spec =
-    tie.close (tie.spec excerpt-span-requires enum-known-number enum-told returns returns-2)
+    tie.close (tie.spec (λ c κs. search needs) (λ c. search needs) (λ c. search needs) returns returns-2)

@@ -1,4 +1,4 @@
--- `spool::excerpt_span` meets its contract. Assumes nothing.
+-- `spool::excerpt_span` meets its contract.
 use mathlib.Core.Path.{_≡_, sym, ap, _∙_}
 use mathlib.Core.Bool.{false}
 use mathlib.Core.List.{List}
@@ -8,7 +8,8 @@ use borrow.Author.Needs.{needs}
 use lib.ListN.{length}
 use lib.Seq.{length-take-le}
 use Rattle.lists.specs.Totals.{total}
-use Rattle.spool.specs.Refusal.{outside, trajectoryRefusal}
+use Rattle.lists.specs.Sizes.{outside}
+use Rattle.spool.specs.Refusal.{trajectoryRefusal}
 use Rattle.spool.proofs.Refusals.{in-range, many-3, width-3, disagree-4, long-5, accepted-0, excerpt-refused, excerpt-10, excerpt-0}
 use Rattle.spool.proofs.Sums.{total-split, product-fits}
 use Rattle.lists.proofs.Answers.{refused-as, accepted}
@@ -21,18 +22,12 @@ returns c =
     let a = c .before .before .before .args in
     refused-as 2 _ _ (excerpt-refused _ _ _ (a .state) 2 (many-3 (length (a .trajectory .now)) (a .durations .now) (a .v) (c .if1 .taken)))
 
-out-of-range-requires : tie.Need-out-of-range-requires
-out-of-range-requires c κs = search needs
-
 returns-2 : tie.Need-returns-2
 returns-2 c =
     let a = c .before .before .before .before .before .args in
     refused-as 2 _ _
     (excerpt-refused _ _ _ (a .state) 2
     (width-3 (length (a .trajectory .now)) (a .durations .now) (a .v) (c .before .before .if1 .left) (sym (c .before .out-of-range .ensures) ∙ c .if2 .taken)))
-
-least-requires : tie.Need-least-requires
-least-requires c κs = search needs
 
 slice-aggregate-frames-of : tie.Need-slice-aggregate-frames-of
 slice-aggregate-frames-of c = sym (length-take-le _ _ (omega (arith, c .before .least .ensures)))
@@ -41,27 +36,6 @@ frames-of-requires : tie.Need-frames-of-requires
 frames-of-requires c κs =
     let l = length-take-le (c .before .least .result) (c .before .before .before .before .before .before .before .args .durations .now) (omega (arith, c .before .least .ensures)) in
     omega (arith, l, c .before .least .ensures)
-
-mul-frames-of : tie.Need-mul-frames-of
-mul-frames-of c = search needs
-
-sub-frames-of : tie.Need-sub-frames-of
-sub-frames-of c = search needs
-
-part-frames-of-start : tie.Need-part-frames-of-start
-part-frames-of-start c = search needs
-
-part-frames-of-end : tie.Need-part-frames-of-end
-part-frames-of-end c = search needs
-
-frames-of-requires-2 : tie.Need-frames-of-requires-2
-frames-of-requires-2 c κs = search needs
-
-add-frames : tie.Need-add-frames
-add-frames c = search needs
-
-long-requires : tie.Need-long-requires
-long-requires c κs = search needs
 
 -- what is known once the durations are summed
 module _ (c : tie.After-long) where
@@ -128,15 +102,6 @@ number-of-requires c κs =
     let p = product-fits 65536 (b .before .before .before .frames-of .result) (b .long .result) (omega (arith, c .before .if4 .left)) (narrow b) in
     omega (arith, p)
 
-mul-long : tie.Need-mul-long
-mul-long c = search needs
-
-shared-slice-read-long : tie.Need-shared-slice-read-long
-shared-slice-read-long c = search needs
-
-long-requires-2 : tie.Need-long-requires-2
-long-requires-2 c κs = search needs
-
 mul-t23 : tie.Need-mul-t23
 mul-t23 c =
     let b = c .before .before .before .before .before .before in
@@ -162,25 +127,25 @@ excerpt-span-spec =
     tie.close
     (tie.spec
     returns
-    out-of-range-requires
+    (λ c κs. search needs)
     returns-2
-    least-requires
+    (λ c κs. search needs)
     slice-aggregate-frames-of
     frames-of-requires
-    mul-frames-of
-    sub-frames-of
-    part-frames-of-start
-    part-frames-of-end
-    frames-of-requires-2
-    add-frames
-    long-requires
+    (λ c. search needs)
+    (λ c. search needs)
+    (λ c. search needs)
+    (λ c. search needs)
+    (λ c κs. search needs)
+    (λ c. search needs)
+    (λ c κs. search needs)
     mul-if3
     returns-3
     returns-4
     returns-5
     number-of-requires
-    mul-long
-    shared-slice-read-long
-    long-requires-2
+    (λ c. search needs)
+    (λ c. search needs)
+    (λ c κs. search needs)
     mul-t23
     returns-6)

@@ -1,12 +1,9 @@
--- `spool::frames_of` meets its contract. Assumes nothing.
+-- `spool::frames_of` meets its contract.
 use native.Mathlib.Omega.{arith}
 use borrow.Author.Needs.{needs}
 use Rattle.spool.proofs.Sums.{summed}
 use Rattle.spool.proofs.frames_of.Statement.{statement}
 use Rattle.spool.proofs.frames_of.Tie as tie
-
-total-u32-requires : tie.Need-total-u32-requires
-total-u32-requires c κs = search needs
 
 returns : tie.Need-returns
 returns c =
@@ -15,4 +12,4 @@ returns c =
 
 pub frames-of-spec : {M : Type 1} → statement M
 frames-of-spec =
-    tie.close (tie.spec total-u32-requires returns)
+    tie.close (tie.spec (λ c κs. search needs) returns)

@@ -1,19 +1,16 @@
--- `spool::place` meets its contract. Assumes nothing.
+-- `spool::place` meets its contract.
 use mathlib.Core.Path.{_≡_, sym, _∙_}
 use mathlib.Core.Bool.{false}
 use Prim.Native.Nat.{_≤_}
 use native.Mathlib.Omega.{arith}
 use borrow.Author.Needs.{needs}
 use Rattle.spool.specs.Place.{placeOf}
-use Rattle.spool.specs.Refusal.{outside}
+use Rattle.lists.specs.Sizes.{outside}
 use Rattle.spool.proofs.Refusals.{in-range, place-3, place-10, place-0}
 use Rattle.spool.proofs.Places.{place-most}
 use Rattle.lists.proofs.Answers.{refused-as, accepted}
 use Rattle.spool.proofs.place.Statement.{statement}
 use Rattle.spool.proofs.place.Tie as tie
-
-out-of-range-requires : tie.Need-out-of-range-requires
-out-of-range-requires c κs = search needs
 
 returns : tie.Need-returns
 returns c =
@@ -24,15 +21,6 @@ returns-2 : tie.Need-returns-2
 returns-2 c =
     let a = c .before .before .before .args in
     refused-as 9 _ _ (place-10 (a .component) (a .v) (sym (c .before .before .out-of-range .ensures) ∙ c .before .if1 .left) (c .if2 .taken))
-
-long-requires : tie.Need-long-requires
-long-requires c κs = search needs
-
-long-requires-2 : tie.Need-long-requires-2
-long-requires-2 c κs = search needs
-
-long-requires-3 : tie.Need-long-requires-3
-long-requires-3 c κs = search needs
 
 module _ (c : tie.After-long3) where
   width : outside (c .before .before .before .before .before .before .args .v) ≡ false
@@ -63,12 +51,12 @@ pub place-spec : {M : Type 1} → statement M
 place-spec =
     tie.close
     (tie.spec
-    out-of-range-requires
+    (λ c κs. search needs)
     returns
     returns-2
-    long-requires
-    long-requires-2
-    long-requires-3
+    (λ c κs. search needs)
+    (λ c κs. search needs)
+    (λ c κs. search needs)
     number-of-requires
     mul-t10
     returns-3)

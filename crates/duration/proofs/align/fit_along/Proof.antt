@@ -1,4 +1,4 @@
--- `duration::align::fit_along` meets its contract. Assumes nothing.
+-- `duration::align::fit_along` meets its contract.
 use mathlib.Core.Path.{_∙_}
 use Prim.Native.Nat.{_-_}
 use native.Mathlib.Omega.{arith}
@@ -21,44 +21,14 @@ turn c = record { labels = c .before .before .before .before .before .before .be
 loop-holds : tie.Need-loop-holds Inv-loop μ-loop
 loop-holds c = along _ _ _ _ _ (c .before .before .before .before .pre)
 
-mul-new : tie.Need-mul-new Inv-loop μ-loop
-mul-new c = search needs
-
-shared-slice-read-new : tie.Need-shared-slice-read-new Inv-loop μ-loop
-shared-slice-read-new c = search needs
-
-new-requires : tie.Need-new-requires Inv-loop μ-loop
-new-requires c κs = search needs
-
 add-next : tie.Need-add-next Inv-loop μ-loop
 add-next c = omega (arith, next-in _ _ _ _ _ _ _ _ _ _ _ (c .before .before .before .before .before .before .before .before .before .pre) (c .before .before .before .before .loop .inv) (c .before .before .before .loop-test .taken) _ (c .before .new .ensures))
-
-add-i : tie.Need-add-i Inv-loop μ-loop
-add-i c = search needs
-
-enum-told : tie.Need-enum-told Inv-loop μ-loop
-enum-told c = search needs
-
-loop-less : tie.Need-loop-less Inv-loop μ-loop
-loop-less c = search needs
 
 loop-again : tie.Need-loop-again Inv-loop μ-loop
 loop-again c = along-open _ _ _ _ _ _ _ _ _ _ _ (c .before .before .before .before .before .before .before .before .before .before .before .pre) (c .before .before .before .before .before .before .loop .inv) (c .before .before .before .before .before .loop-test .taken) _ (c .before .before .before .new .ensures) (c .enum-told .given .1)
 
-enum-known-end : tie.Need-enum-known-end Inv-loop μ-loop
-enum-known-end c = search needs
-
 close-group-requires : tie.Need-close-group-requires Inv-loop μ-loop
 close-group-requires c κs = group-lies _ _ _ _ _ _ _ _ _ _ _ (c .before .before .before .before .before .before .before .before .before .before .before .before .before .pre) (c .before .before .before .before .before .before .before .before .loop .inv) (c .before .before .before .before .before .before .before .loop-test .taken) _ (c .before .before .before .before .before .new .ensures) _ (c .before .before .end .given .1)
-
-enum-known-group : tie.Need-enum-known-group Inv-loop μ-loop
-enum-known-group c = search needs
-
-enum-told-2 : tie.Need-enum-told-2 Inv-loop μ-loop
-enum-told-2 c = search needs
-
-number-of-group-requires : tie.Need-number-of-group-requires Inv-loop μ-loop
-number-of-group-requires c κs = search needs
 
 same-length : tie.Need-same-length Inv-loop μ-loop
 same-length c = c .before .before .before .before .before .close-group .kept .1 .1 .1 .1 .1 .1 .0 ∙ c .before .before .before .before .before .before .before .before .before .before .before .before .before .before .loop .inv .long
@@ -71,9 +41,6 @@ add-changes c = omega (arith, turn-changes _ _ _ _ (turn (c .before .before .bef
 
 add-frames : tie.Need-add-frames Inv-loop μ-loop
 add-frames c = omega (arith, turn-frames _ _ _ _ (turn (c .before .before .before .before .before)) _ _ (c .before .group .given .1))
-
-loop-less-2 : tie.Need-loop-less-2 Inv-loop μ-loop
-loop-less-2 c = search needs
 
 loop-again-2 : tie.Need-loop-again-2 Inv-loop μ-loop
 loop-again-2 c = turn-grown _ _ _ _ (turn (c .before .before .before .before .before)) _ _ (c .before .group .given .1) (c .before .before .before .before .before .close-group .kept .1 .1 .1 .1 .1 .1 .0)
@@ -94,24 +61,24 @@ fit-along-spec =
     Inv-loop
     μ-loop
     loop-holds
-    mul-new
-    shared-slice-read-new
-    new-requires
+    (λ c. search needs)
+    (λ c. search needs)
+    (λ c κs. search needs)
     add-next
-    add-i
-    enum-told
-    loop-less
+    (λ c. search needs)
+    (λ c. search needs)
+    (λ c. search needs)
     loop-again
-    enum-known-end
+    (λ c. search needs)
     close-group-requires
-    enum-known-group
-    enum-told-2
-    number-of-group-requires
+    (λ c. search needs)
+    (λ c. search needs)
+    (λ c κs. search needs)
     same-length
     returns
     add-changes
     add-frames
-    loop-less-2
+    (λ c. search needs)
     loop-again-2
     cast-t25
     same-length-2

@@ -1,9 +1,9 @@
--- `duration::costs::better_of` meets its contract. Assumes nothing.
+-- `duration::costs::better_of` meets its contract.
 use Prim.Native.Nat.{_≤_}
 use native.Mathlib.Omega.{arith}
 use borrow.Author.Needs.{needs}
 use Rattle.duration.specs.Steps.Key.{Fixed}
-use Rattle.duration.specs.Scores.{rank}
+use Rattle.duration.specs.Inner.Scores.{rank}
 use Rattle.duration.proofs.Order.{score-fixed}
 use Rattle.duration.proofs.costs.better_of.Statement.{statement}
 use Rattle.duration.proofs.costs.better_of.Tie as tie

@@ -1,4 +1,4 @@
--- `duration::costs::is_sooner` meets its contract. Assumes nothing.
+-- `duration::costs::is_sooner` meets its contract.
 use Rattle.duration.proofs.Order.{score-tie, score-key}
 use Rattle.duration.proofs.costs.is_sooner.Statement.{statement}
 use Rattle.duration.proofs.costs.is_sooner.Tie as tie

@@ -1,4 +1,4 @@
--- `duration::fit::estimate_duration` meets its contract. Assumes nothing.
+-- `duration::fit::estimate_duration` meets its contract.
 use Prim.Native.Nat.{_-_}
 use native.Mathlib.Omega.{arith}
 use borrow.Author.Needs.{needs}
@@ -27,9 +27,6 @@ mul-estimate-2 c = omega arith
 
 shared-slice-read-estimate-2 : tie.Need-shared-slice-read-estimate-2 Inv-loop μ-loop
 shared-slice-read-estimate-2 c = omega arith
-
-estimate-requires : tie.Need-estimate-requires Inv-loop μ-loop
-estimate-requires c κs = search needs
 
 mul-work : tie.Need-mul-work Inv-loop μ-loop
 mul-work c = omega arith
@@ -67,7 +64,7 @@ estimate-duration-spec =
     shared-slice-read-estimate
     mul-estimate-2
     shared-slice-read-estimate-2
-    estimate-requires
+    (λ c κs. search needs)
     mul-work
     slice-write-work
     add-i

@@ -1,13 +1,14 @@
--- `duration::fit::fit` meets its contract. Assumes nothing.
+-- `duration::fit::fit` meets its contract.
 use mathlib.Core.Path.{_≡_, ap, _∙_, subst}
 use mathlib.Core.List.{List}
 use Prim.Native.Nat.{ℕ, _≤_, _<_}
 use native.Mathlib.Omega.{arith}
 use borrow.Author.Needs.{needs}
 use lib.ListN.{length}
+use Rattle.lists.specs.Sizes.{mostFrames}
 use Rattle.lists.specs.Totals.{total}
 use Rattle.lists.proofs.Sums.{total-whole}
-use Rattle.duration.specs.Fit.{mostFrames, startOf}
+use Rattle.duration.specs.Fit.{startOf}
 use Rattle.duration.proofs.Fits.{all-filled, start-is, settled-is, fit-none, fit-over, fit-plain, fit-long, fit-settled}
 use Rattle.duration.proofs.fit.fit.Statement.{statement}
 use Rattle.duration.proofs.fit.fit.Tie as tie
@@ -35,26 +36,8 @@ returns c = let st = c .before .before .before .before in fit-none _ _ _ _ (st .
 returns-2 : tie.Need-returns-2
 returns-2 c = fit-over _ _ _ (some (c .before)) _ (c .if2 .taken)
 
-fill-u32-requires : tie.Need-fill-u32-requires
-fill-u32-requires c κs = search needs
-
-same-length : tie.Need-same-length
-same-length c = search needs
-
 returns-3 : tie.Need-returns-3
 returns-3 c = fit-plain _ _ _ (some (c .before .before .before .before .before .before)) (c .before .before .before .before .before .if2 .left) _ (c .before .before .before .before .if3 .taken) (c .before .before .fill-u32 .ensures ∙ all-filled _ _ _ (c .before .before .before .before .before .before .before .before .before .before .pre .workspace))
-
-rho-of-requires : tie.Need-rho-of-requires
-rho-of-requires c κs = search needs
-
-estimate-duration-requires : tie.Need-estimate-duration-requires
-estimate-duration-requires c κs = search needs
-
-total-u32-requires : tie.Need-total-u32-requires
-total-u32-requires c κs = search needs
-
-same-length-2 : tie.Need-same-length-2
-same-length-2 c = search needs
 
 returns-4 : tie.Need-returns-4
 returns-4 c = fit-long _ _ _ (some (c .before .before .before .before .before .before .before .before .before .before)) (c .before .before .before .before .before .before .before .before .before .if2 .left) (c .before .before .before .before .before .before .before .before .if3 .left) _ (subst (λ (n : ℕ). mostFrames < n) (sum (c .before) ∙ ap total (start (c .before))) (c .if4 .taken))
@@ -68,9 +51,6 @@ settle-requires c κs =
     let s = sum t in
     (record { some = some (c .before .before .before .before .before .before .before .before .before .before .before); few = c .before .before .before .before .before .before .before .before .before .before .before .before .before .before .before .pre .few; varis = c .before .before .before .before .before .before .before .before .before .before .before .before .before .before .before .pre .varis; work = W-length t; small = omega (arith, s, c .before .if4 .left) }, record { known = s; above = c .before .before .before .before .before .before .before .before .before .if3 .left; within = c .before .before .before .before .before .before .before .before .before .before .if2 .left })
 
-same-length-3 : tie.Need-same-length-3
-same-length-3 c = search needs
-
 returns-5 : tie.Need-returns-5
 returns-5 c =
     let t = c .before .before .before .before .before in
@@ -83,15 +63,15 @@ fit-spec =
     (tie.spec
     returns
     returns-2
-    fill-u32-requires
-    same-length
+    (λ c κs. search needs)
+    (λ c. search needs)
     returns-3
-    rho-of-requires
-    estimate-duration-requires
-    total-u32-requires
-    same-length-2
+    (λ c κs. search needs)
+    (λ c κs. search needs)
+    (λ c κs. search needs)
+    (λ c. search needs)
     returns-4
     cast-settle
     settle-requires
-    same-length-3
+    (λ c. search needs)
     returns-5)

@@ -1,30 +1,15 @@
--- `duration::pack::put_duration` meets its contract. Assumes nothing.
+-- `duration::pack::put_duration` meets its contract.
 use native.Mathlib.Omega.{arith}
 use borrow.Author.Needs.{needs}
 use Rattle.duration.proofs.Packs.{puts-duration}
 use Rattle.duration.proofs.pack.put_duration.Statement.{statement}
 use Rattle.duration.proofs.pack.put_duration.Tie as tie
 
-mul-work : tie.Need-mul-work
-mul-work c = search needs
-
-slice-read-work : tie.Need-slice-read-work
-slice-read-work c = search needs
-
 mul-work-2 : tie.Need-mul-work-2
 mul-work-2 c = omega (arith, c .slice-known .given (c .before .args .p))
 
 add-work : tie.Need-add-work
 add-work c = omega (arith, c .slice-known .given (c .before .args .p))
-
-mul-work-3 : tie.Need-mul-work-3
-mul-work-3 c = search needs
-
-slice-write-work : tie.Need-slice-write-work
-slice-write-work c = search needs
-
-same-length : tie.Need-same-length
-same-length c = search needs
 
 returns : tie.Need-returns
 returns c = puts-duration (c .before .args .work .now) (c .before .args .p) (c .before .args .d) (c .before .pre .1)
@@ -33,11 +18,11 @@ pub put-duration-spec : {M : Type 1} → statement M
 put-duration-spec =
     tie.close
     (tie.spec
-    mul-work
-    slice-read-work
+    (λ c. search needs)
+    (λ c. search needs)
     mul-work-2
     add-work
-    mul-work-3
-    slice-write-work
-    same-length
+    (λ c. search needs)
+    (λ c. search needs)
+    (λ c. search needs)
     returns)

@@ -1,4 +1,4 @@
--- `duration::pack::unpack` meets its contract. Assumes nothing.
+-- `duration::pack::unpack` meets its contract.
 use Prim.Native.Nat.{_-_}
 use native.Mathlib.Omega.{arith}
 use borrow.Author.Needs.{needs}
@@ -15,21 +15,6 @@ abbrev μ-loop : tie.MeasureT-loop
 
 loop-holds : tie.Need-loop-holds Inv-loop μ-loop
 loop-holds c = unpacking _
-
-mul-work : tie.Need-mul-work Inv-loop μ-loop
-mul-work c = search needs
-
-slice-read-work : tie.Need-slice-read-work Inv-loop μ-loop
-slice-read-work c = search needs
-
-mul-work-2 : tie.Need-mul-work-2 Inv-loop μ-loop
-mul-work-2 c = search needs
-
-slice-write-work : tie.Need-slice-write-work Inv-loop μ-loop
-slice-write-work c = search needs
-
-add-i : tie.Need-add-i Inv-loop μ-loop
-add-i c = search needs
 
 loop-less : tie.Need-loop-less Inv-loop μ-loop
 loop-less c = let u = unpacking-next _ _ _ (c .before .before .loop .inv) (c .before .loop-test .taken) in omega (arith, u .long, c .before .before .loop .inv .long)
@@ -50,11 +35,11 @@ unpack-spec =
     Inv-loop
     μ-loop
     loop-holds
-    mul-work
-    slice-read-work
-    mul-work-2
-    slice-write-work
-    add-i
+    (λ c. search needs)
+    (λ c. search needs)
+    (λ c. search needs)
+    (λ c. search needs)
+    (λ c. search needs)
     loop-less
     loop-again
     same-length

@@ -1,9 +1,9 @@
--- `duration::scan::least_of` meets its contract. Assumes nothing.
+-- `duration::scan::least_of` meets its contract.
 use Prim.Native.Nat.{_-_}
 use native.Mathlib.Omega.{arith}
 use borrow.Author.Needs.{needs}
 use lib.ListN.{length}
-use Rattle.duration.specs.Scores.{keyAt}
+use Rattle.duration.specs.Inner.Scores.{keyAt}
 use Rattle.duration.proofs.Keys.{least-place}
 use Rattle.duration.proofs.Scans.{Scanning, scan-start, scan-fits, scan-next}
 use Rattle.duration.proofs.scan.least_of.Statement.{statement}
@@ -21,14 +21,8 @@ entry-of-requires c κs = let st = c .before .before .before in (st .pre, st .pr
 loop-holds : tie.Need-loop-holds Inv-loop μ-loop
 loop-holds c = scan-start _ _ _ (c .before .before .before .before .pre .some) (c .entry-of .ensures)
 
-entry-of-requires-2 : tie.Need-entry-of-requires-2 Inv-loop μ-loop
-entry-of-requires-2 c κs = search needs
-
 better-of-requires : tie.Need-better-of-requires Inv-loop μ-loop
 better-of-requires c κs = scan-fits _ _ _ _ (c .before .before .loop .inv) (c .before .loop-test .taken) _ (c .entry-of2 .ensures) (c .before .before .before .before .before .before .before .pre .few)
-
-add-i : tie.Need-add-i Inv-loop μ-loop
-add-i c = search needs
 
 loop-less : tie.Need-loop-less Inv-loop μ-loop
 loop-less c = omega arith
@@ -50,9 +44,9 @@ least-of-spec =
     μ-loop
     entry-of-requires
     loop-holds
-    entry-of-requires-2
+    (λ c κs. search needs)
     better-of-requires
-    add-i
+    (λ c. search needs)
     loop-less
     loop-again
     returns)

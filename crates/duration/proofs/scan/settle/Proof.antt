@@ -1,4 +1,4 @@
--- `duration::scan::settle` meets its contract. Assumes nothing.
+-- `duration::scan::settle` meets its contract.
 use Rattle.lists.specs.Totals.{gap}
 use Rattle.duration.proofs.Stepping.{Going, going, going-room, going-may, going-few, going-again, going-less, going-done}
 use native.Mathlib.Omega.{arith}

@@ -1,4 +1,4 @@
--- `duration::scan::step_once` meets its contract. Assumes nothing.
+-- `duration::scan::step_once` meets its contract.
 use Prim.Native.Nat.{_<_}
 use native.Mathlib.Omega.{arith}
 use borrow.Author.Needs.{needs}
@@ -10,9 +10,6 @@ use Rattle.duration.proofs.scan.step_once.Tie as tie
 -- where `least_of` has returned: its place is one of the states
 inside : (c : tie.After-least-of) → c .least-of .result < length (c .before .before .before .before .before .args .work .now)
 inside c = found-in _ _ _ _ _ (c .before .before .before .before .before .pre .0) _ (c .least-of .ensures)
-
-least-of-requires : tie.Need-least-of-requires
-least-of-requires c κs = search needs
 
 mul-moved-one : tie.Need-mul-moved-one
 mul-moved-one c = omega (arith, inside c)
@@ -31,9 +28,6 @@ mul-work c = omega (arith, inside (c .before .before))
 slice-write-work : tie.Need-slice-write-work
 slice-write-work c = omega (arith, inside (c .before .before))
 
-same-length : tie.Need-same-length
-same-length c = search needs
-
 returns : tie.Need-returns
 returns c = found-step _ _ _ _ _ (c .before .before .before .before .before .before .before .pre .0) _ (c .before .before .least-of .ensures) _ (c .moved-one .ensures)
 
@@ -41,11 +35,11 @@ pub step-once-spec : {M : Type 1} → statement M
 step-once-spec =
     tie.close
     (tie.spec
-    least-of-requires
+    (λ c κs. search needs)
     mul-moved-one
     slice-read-moved-one
     moved-one-requires
     mul-work
     slice-write-work
-    same-length
+    (λ c. search needs)
     returns)

@@ -1,4 +1,4 @@
--- `duration::speed::fit_at` meets its contract. Assumes nothing.
+-- `duration::speed::fit_at` meets its contract.
 use mathlib.Core.Path.{_≡_, ap, _∙_, subst}
 use mathlib.Core.List.{List}
 use Prim.Native.Nat.{ℕ, _≤_, _<_}
@@ -7,11 +7,11 @@ use borrow.Author.Needs.{needs}
 use lib.Dec.{le→leb}
 use lib.ListN.{length}
 use lib.Ieee.{binary64, div, inFloat}
+use Rattle.lists.specs.Sizes.{mostFrames}
 use Rattle.lists.specs.Totals.{total}
 use Rattle.lists.proofs.Sums.{total-whole}
 use Rattle.floats.specs.Rounding.{roundedOf}
 use Rattle.floats.specs.Numbers.{number}
-use Rattle.duration.specs.Fit.{mostFrames}
 use Rattle.duration.specs.Speed.{naturals, targetAt}
 use Rattle.duration.proofs.Fits.{speed-long, speed-one, speed-other}
 use Rattle.duration.proofs.speed.fit_at.Statement.{statement}
@@ -30,20 +30,8 @@ sum c =
     let n : length (W c) ≡ length (c .before .before .before .before .before .before .before .before .before .args .means .now) = c .before .before .before .before .estimate-duration .kept .1 .1 .1 .0 ∙ c .before .before .before .before .before .before .before .before .before .pre .workspace in
     c .total-u32 .ensures ∙ total-whole (W c) (omega (arith, c .before .before .before .before .before .before .before .before .before .pre .few)) ∙ ap total (natural c)
 
-estimate-duration-requires : tie.Need-estimate-duration-requires
-estimate-duration-requires c κs = search needs
-
-total-u32-requires : tie.Need-total-u32-requires
-total-u32-requires c κs = search needs
-
-same-length : tie.Need-same-length
-same-length c = search needs
-
 returns : tie.Need-returns
 returns c = speed-long _ _ _ _ (subst (λ (n : ℕ). mostFrames < n) (sum (c .before)) (c .if1 .taken))
-
-same-length-2 : tie.Need-same-length-2
-same-length-2 c = search needs
 
 returns-2 : tie.Need-returns-2
 returns-2 c = speed-one _ _ _ _ (subst (λ (n : ℕ). n ≤ mostFrames) (sum (c .before .before)) (c .before .if1 .left)) (c .if2 .taken) (natural (c .before .before))
@@ -54,15 +42,6 @@ int-to-float-rounded c =
     let n = c .before .before .before .total-u32 .result in
     let h : n ≤ 9007199254740992 = omega (arith, c .before .before .if1 .left) in
     le→leb n 9007199254740992 h
-
-rounded-requires : tie.Need-rounded-requires
-rounded-requires c κs = search needs
-
-fit-requires : tie.Need-fit-requires
-fit-requires c κs = search needs
-
-same-length-3 : tie.Need-same-length-3
-same-length-3 c = search needs
 
 returns-3 : tie.Need-returns-3
 unfolding targetAt
@@ -75,14 +54,14 @@ pub fit-at-spec : {M : Type 1} → statement M
 fit-at-spec =
     tie.close
     (tie.spec
-    estimate-duration-requires
-    total-u32-requires
-    same-length
+    (λ c κs. search needs)
+    (λ c κs. search needs)
+    (λ c. search needs)
     returns
-    same-length-2
+    (λ c. search needs)
     returns-2
     int-to-float-rounded
-    rounded-requires
-    fit-requires
-    same-length-3
+    (λ c κs. search needs)
+    (λ c κs. search needs)
+    (λ c. search needs)
     returns-3)

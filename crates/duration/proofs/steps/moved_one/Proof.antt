@@ -1,10 +1,10 @@
--- `duration::steps::moved_one` meets its contract. Assumes nothing.
+-- `duration::steps::moved_one` meets its contract.
 use mathlib.Core.Path.{sym, ap}
 use mathlib.Core.Bool.{Bool}
 use Prim.Native.Nat.{_≤_}
 use native.Mathlib.Omega.{arith}
+use Rattle.lists.specs.Sizes.{mostFrames}
 use Rattle.duration.specs.Steps.{moved}
-use Rattle.duration.specs.Fit.{mostFrames}
 use Rattle.duration.proofs.steps.moved_one.Statement.{statement}
 use Rattle.duration.proofs.steps.moved_one.Tie as tie
 

@@ -1,4 +1,4 @@
--- `duration::tree::play_above` meets its contract. Assumes nothing.
+-- `duration::tree::play_above` meets its contract.
 use native.Mathlib.Omega.{arith}
 use borrow.Author.Needs.{needs}
 use Rattle.duration.proofs.Order.{sooner-in}
@@ -23,9 +23,6 @@ loop-holds c = let st = c .before .before .before .before .before in rising _ _ 
 
 add-entry-at : tie.Need-add-entry-at Inv-loop μ-loop
 add-entry-at c = let st = c .before .before .before .before .before .before .before .before in omega (arith, st .pre .0 .few, c .before .before .loop .inv .climb .high)
-
-mul-entry-at : tie.Need-mul-entry-at Inv-loop μ-loop
-mul-entry-at c = search needs
 
 sub-entry-at : tie.Need-sub-entry-at Inv-loop μ-loop
 sub-entry-at c = omega (arith, c .before .loop-test .taken)
@@ -73,7 +70,7 @@ play-above-spec =
     entry-at-requires
     loop-holds
     add-entry-at
-    mul-entry-at
+    (λ c. search needs)
     sub-entry-at
     entry-at-requires-2
     sooner-of-requires

@@ -1,4 +1,4 @@
--- `duration::tree::play_all` meets its contract. Assumes nothing.
+-- `duration::tree::play_all` meets its contract.
 use native.Mathlib.Omega.{arith}
 use borrow.Author.Needs.{needs}
 use Rattle.duration.proofs.Order.{sooner-in}
@@ -14,9 +14,6 @@ abbrev μ-loop : tie.MeasureT-loop
 
 loop-holds : tie.Need-loop-holds Inv-loop μ-loop
 loop-holds c = playing _ _ _ _ _ (c .before .before .before .pre)
-
-sub-i : tie.Need-sub-i Inv-loop μ-loop
-sub-i c = search needs
 
 mul-entry-at : tie.Need-mul-entry-at Inv-loop μ-loop
 mul-entry-at c = omega (arith, sized _ _ _ (c .before .before .before .before .before .before .pre), c .before .before .before .before .before .before .pre .few, c .before .before .loop .inv .high, c .before .before .loop .inv .long)
@@ -73,7 +70,7 @@ play-all-spec =
     Inv-loop
     μ-loop
     loop-holds
-    sub-i
+    (λ c. search needs)
     mul-entry-at
     entry-at-requires
     mul-entry-at-2

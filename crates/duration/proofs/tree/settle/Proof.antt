@@ -1,4 +1,4 @@
--- `duration::tree::settle` meets its contract. Assumes nothing.
+-- `duration::tree::settle` meets its contract.
 use mathlib.Core.Path.{refl, _∙_}
 use native.Mathlib.Omega.{arith}
 use borrow.Author.Needs.{needs}
@@ -37,9 +37,6 @@ loop-again c =
     let s = c .before .before .before .step-once in
     tended-next _ _ _ _ _ _ _ _ _ _ _ (c .before .before .before .before .before .loop-test .taken) (c .before .before .before .before .before .before .loop .inv) (s .kept .1 .1 .1 .1 .0) (s .ensures) (c .moved-one .ensures)
 
-unpack-requires : tie.Need-unpack-requires Inv-loop μ-loop
-unpack-requires c κs = search needs
-
 same-length : tie.Need-same-length Inv-loop μ-loop
 same-length c = c .before .before .unpack .kept .0 ∙ c .before .before .before .before .before .loop .inv .long ∙ c .before .before .before .before .before .before .before .before .play-all .kept .1 .1 .1 .1 .0
 
@@ -61,6 +58,6 @@ settle-spec =
     add-changes
     loop-less
     loop-again
-    unpack-requires
+    (λ c κs. search needs)
     same-length
     returns)

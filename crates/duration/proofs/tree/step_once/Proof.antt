@@ -1,11 +1,8 @@
--- `duration::tree::step_once` meets its contract. Assumes nothing.
+-- `duration::tree::step_once` meets its contract.
 use borrow.Author.Needs.{needs}
 use Rattle.duration.proofs.Playing.{root-place, root-inside, root-moves, root-small, root-ready, root-path, root-stepped}
 use Rattle.duration.proofs.tree.step_once.Statement.{statement}
 use Rattle.duration.proofs.tree.step_once.Tie as tie
-
-place-at-requires : tie.Need-place-at-requires
-place-at-requires c κs = search needs
 
 duration-at-requires : tie.Need-duration-at-requires
 duration-at-requires c κs = let st = c .before .before .before .before .before .before in root-place _ _ _ _ _ (st .pre .0) (st .pre .1 .0) (st .pre .1 .1) _ (c .before .place-at .ensures)
@@ -28,9 +25,6 @@ play-above-requires c κs =
     let t = c .before .before .before .put-duration .ensures in
     (root-ready _ _ _ _ _ (st .pre .0) (st .pre .1 .0) (st .pre .1 .1) _ at _ d _ m _ t, (root-inside _ _ _ _ _ (st .pre .0) (st .pre .1 .0) (st .pre .1 .1) _ at, root-path _ _ _ _ _ (st .pre .0) (st .pre .1 .0) (st .pre .1 .1) _ at _ d _ m _ t))
 
-same-length : tie.Need-same-length
-same-length c = search needs
-
 returns : tie.Need-returns
 returns c =
     let st = c .before .before .before .before .before .before .before .before .before .before .before .before .before .before .before .before in
@@ -43,10 +37,10 @@ pub step-once-spec : {M : Type 1} → statement M
 step-once-spec =
     tie.close
     (tie.spec
-    place-at-requires
+    (λ c κs. search needs)
     duration-at-requires
     moved-one-requires
     put-duration-requires
     play-above-requires
-    same-length
+    (λ c. search needs)
     returns)

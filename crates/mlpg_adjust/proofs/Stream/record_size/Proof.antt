@@ -1,6 +1,6 @@
--- `mlpg_adjust::Stream::record_size` meets its contract. Assumes nothing.
+-- `mlpg_adjust::Stream::record_size` meets its contract.
 use native.Mathlib.Omega.{arith}
-use Rattle.mlpg_adjust.proofs.CreateWays.{pairs-few}
+use Rattle.mlpg_adjust.proofs.Ways.{pairs-few}
 use borrow.Author.Needs.{needs}
 use Rattle.mlpg_adjust.proofs.Stream.record_size.Statement.{statement}
 use Rattle.mlpg_adjust.proofs.Stream.record_size.Tie as tie

@@ -1,4 +1,4 @@
--- `mlpg_adjust::refusing::is_out_of_range` meets its contract. Assumes nothing.
+-- `mlpg_adjust::refusing::is_out_of_range` meets its contract.
 use borrow.Author.Tests.{lt-ltb, le-ltb}
 use Rattle.mlpg_adjust.proofs.refusing.is_out_of_range.Statement.{statement}
 use Rattle.mlpg_adjust.proofs.refusing.is_out_of_range.Tie as tie

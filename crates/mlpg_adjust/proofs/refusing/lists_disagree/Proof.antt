@@ -1,21 +1,15 @@
--- `mlpg_adjust::refusing::lists_disagree` meets its contract. Assumes nothing.
+-- `mlpg_adjust::refusing::lists_disagree` meets its contract.
 use mathlib.Core.Path.{_∙_}
 use Prim.Native.Nat.{_≤_}
 use native.Mathlib.Nat.{mul-le-mul-left}
 use native.Mathlib.Omega.{arith}
-use Rattle.mlpg_adjust.proofs.CreateWays.{size-small, disagree-taps, disagree-records, disagree-rest}
+use Rattle.mlpg_adjust.proofs.Ways.{size-small, disagree-taps, disagree-records, disagree-rest}
 use borrow.Author.Needs.{needs}
 use Rattle.mlpg_adjust.proofs.refusing.lists_disagree.Statement.{statement}
 use Rattle.mlpg_adjust.proofs.refusing.lists_disagree.Tie as tie
 
-total-u32-requires : tie.Need-total-u32-requires
-total-u32-requires c κs = search needs
-
 returns : tie.Need-returns
-returns c = disagree-taps _ _ (c .before .before .before .pre .1) _ _ _ _ _ _ (c .before .total-u32 .ensures) (c .if1 .taken)
-
-record-size-requires : tie.Need-record-size-requires
-record-size-requires c κs = search needs
+returns c = disagree-taps _ _ (c .before .before .before .pre .1) _ _ _ _ (c .before .total-u32 .ensures) (c .if1 .taken)
 
 mul-if2 : tie.Need-mul-if2
 mul-if2 c =
@@ -25,22 +19,23 @@ mul-if2 c =
     omega (arith, p .2, mul-le-mul-left (a .states) m)
 
 returns-2 : tie.Need-returns-2
-returns-2 c = disagree-records _ _ (c .before .before .before .before .before .pre .1) _ _ _ _ _ _ (c .before .before .before .total-u32 .ensures) (c .before .before .if1 .left) _ (c .before .record-size .ensures) (c .if2 .taken)
-
-gv-disagrees-requires : tie.Need-gv-disagrees-requires
-gv-disagrees-requires c κs = search needs
+returns-2 c =
+    let k = c .before .before .before .before in
+    disagree-records _ _ (k .before .before .pre .1) _ _ _ _ (k .total-u32 .ensures) (c .before .before .before .if1 .left) _ (c .before .before .record-size .ensures) (c .if2 .taken)
 
 returns-3 : tie.Need-returns-3
-returns-3 c = c .gv-disagrees .ensures ∙ disagree-rest _ _ (c .before .before .before .before .before .before .pre .1) _ _ _ _ _ _ (c .before .before .before .before .total-u32 .ensures) (c .before .before .before .if1 .left) _ (c .before .before .record-size .ensures) (c .before .if2 .left)
+returns-3 c =
+    let k = c .before .before .before .before .before in
+    c .gv-disagrees .ensures ∙ disagree-rest _ _ (k .before .before .pre .1) _ _ _ _ (k .total-u32 .ensures) (c .before .before .before .before .if1 .left) _ (c .before .before .before .record-size .ensures) (c .before .if2 .left)
 
 pub lists-disagree-spec : {M : Type 1} → statement M
 lists-disagree-spec =
     tie.close
     (tie.spec
-    total-u32-requires
+    (λ c κs. search needs)
     returns
-    record-size-requires
+    (λ c κs. search needs)
     mul-if2
     returns-2
-    gv-disagrees-requires
+    (λ c κs. search needs)
     returns-3)

@@ -1,9 +1,9 @@
--- `mlpg_adjust::refusing::refusal` meets its contract. Assumes nothing.
+-- `mlpg_adjust::refusing::refusal` meets its contract.
 use mathlib.Core.Path.{sym, _∙_}
 use borrow.Author.Tests.{not-false}
 use lib.ListN.{length}
 use Rattle.model.proofs.Windows.{fit-few}
-use Rattle.mlpg_adjust.proofs.CreateWays.{in-range, refused-1, refused-2, refused-3, refused-4, refused-5, refused-6, refused-none}
+use Rattle.mlpg_adjust.proofs.Ways.{in-range, refused-1, refused-2, refused-3, refused-4, refused-5, refused-6, refused-none}
 use borrow.Author.Needs.{needs}
 use Rattle.mlpg_adjust.proofs.refusing.refusal.Statement.{statement}
 use Rattle.mlpg_adjust.proofs.refusing.refusal.Tie as tie
@@ -12,19 +12,19 @@ widths-fit-requires : tie.Need-widths-fit-requires
 widths-fit-requires c κs = search needs
 
 returns : tie.Need-returns
-returns c = refused-1 _ _ _ _ _ _ _ _ _ _ _ (c .before .widths-fit .ensures) (c .if1 .taken)
+returns c = refused-1 _ _ _ _ _ _ (c .before .widths-fit .ensures) (c .if1 .taken)
 
 all-finite-requires : tie.Need-all-finite-requires
 all-finite-requires c κs = search needs
 
 returns-2 : tie.Need-returns-2
-returns-2 c = refused-2 _ _ _ _ _ _ _ _ _ _ _ (c .before .before .before .widths-fit .ensures) (c .before .before .if1 .left) _ (c .before .all-finite .ensures) (c .if2 .taken)
+returns-2 c = refused-2 _ _ _ _ _ _ (c .before .before .before .widths-fit .ensures) (c .before .before .if1 .left) _ (c .before .all-finite .ensures) (c .if2 .taken)
 
 is-out-of-range-requires : tie.Need-is-out-of-range-requires
 is-out-of-range-requires c κs = search needs
 
 returns-3 : tie.Need-returns-3
-returns-3 c = refused-3 _ _ _ _ _ _ _ _ _ _ _ (c .before .before .before .before .before .widths-fit .ensures) (c .before .before .before .before .if1 .left) _ (c .before .before .before .all-finite .ensures) (c .before .before .if2 .left) _ (c .before .is-out-of-range .ensures) (c .if3 .taken)
+returns-3 c = refused-3 _ _ _ _ _ _ (c .before .before .before .before .before .widths-fit .ensures) (c .before .before .before .before .if1 .left) _ (c .before .before .before .all-finite .ensures) (c .before .before .if2 .left) _ (c .before .is-out-of-range .ensures) (c .if3 .taken)
 
 lists-disagree-requires : tie.Need-lists-disagree-requires
 lists-disagree-requires c κs =
@@ -32,22 +32,22 @@ lists-disagree-requires c κs =
     (r .most-v, fit-few _ (sym (c .before .before .before .before .before .widths-fit .ensures) ∙ not-false _ (c .before .before .before .before .if1 .left)), r .few)
 
 returns-4 : tie.Need-returns-4
-returns-4 c = refused-4 _ _ _ _ _ _ _ _ _ _ _ (c .before .before .before .before .before .before .before .widths-fit .ensures) (c .before .before .before .before .before .before .if1 .left) _ (c .before .before .before .before .before .all-finite .ensures) (c .before .before .before .before .if2 .left) _ (c .before .before .before .is-out-of-range .ensures) (c .before .before .if3 .left) _ (c .before .lists-disagree .ensures) (c .if4 .taken)
+returns-4 c = refused-4 _ _ _ _ _ _ (c .before .before .before .before .before .before .before .widths-fit .ensures) (c .before .before .before .before .before .before .if1 .left) _ (c .before .before .before .before .before .all-finite .ensures) (c .before .before .before .before .if2 .left) _ (c .before .before .before .is-out-of-range .ensures) (c .before .before .if3 .left) _ (c .before .lists-disagree .ensures) (c .if4 .taken)
 
 total-u32-requires : tie.Need-total-u32-requires
 total-u32-requires c κs = search needs
 
 returns-5 : tie.Need-returns-5
-returns-5 c = refused-5 _ _ _ _ _ _ _ _ _ _ _ (c .before .before .before .before .before .before .before .before .before .widths-fit .ensures) (c .before .before .before .before .before .before .before .before .if1 .left) _ (c .before .before .before .before .before .before .before .all-finite .ensures) (c .before .before .before .before .before .before .if2 .left) _ (c .before .before .before .before .before .is-out-of-range .ensures) (c .before .before .before .before .if3 .left) _ (c .before .before .before .lists-disagree .ensures) (c .before .before .if4 .left) _ (c .before .total-u32 .ensures) (c .if5 .taken)
+returns-5 c = refused-5 _ _ _ _ _ _ (c .before .before .before .before .before .before .before .before .before .widths-fit .ensures) (c .before .before .before .before .before .before .before .before .if1 .left) _ (c .before .before .before .before .before .before .before .all-finite .ensures) (c .before .before .before .before .before .before .if2 .left) _ (c .before .before .before .before .before .is-out-of-range .ensures) (c .before .before .before .before .if3 .left) _ (c .before .before .before .lists-disagree .ensures) (c .before .before .if4 .left) _ (c .before .total-u32 .ensures) (c .if5 .taken)
 
 is-short-requires : tie.Need-is-short-requires
 is-short-requires c κs = (in-range (c .before .before .before .before .before .before .before .before .before .before .before .before .before .args .stream .v) (length (c .before .before .before .before .before .before .before .before .before .before .before .before .before .args .durations .now)) (sym (c .before .before .before .before .before .is-out-of-range .ensures) ∙ c .before .before .before .before .if3 .left) .most-v, c .if5 .left)
 
 returns-6 : tie.Need-returns-6
-returns-6 c = refused-6 _ _ _ _ _ _ _ _ _ _ _ (c .before .before .before .before .before .before .before .before .before .before .before .widths-fit .ensures) (c .before .before .before .before .before .before .before .before .before .before .if1 .left) _ (c .before .before .before .before .before .before .before .before .before .all-finite .ensures) (c .before .before .before .before .before .before .before .before .if2 .left) _ (c .before .before .before .before .before .before .before .is-out-of-range .ensures) (c .before .before .before .before .before .before .if3 .left) _ (c .before .before .before .before .before .lists-disagree .ensures) (c .before .before .before .before .if4 .left) _ (c .before .before .before .total-u32 .ensures) (c .before .before .if5 .left) _ (c .before .is-short .ensures) (c .if6 .taken)
+returns-6 c = refused-6 _ _ _ _ _ _ (c .before .before .before .before .before .before .before .before .before .before .before .widths-fit .ensures) (c .before .before .before .before .before .before .before .before .before .before .if1 .left) _ (c .before .before .before .before .before .before .before .before .before .all-finite .ensures) (c .before .before .before .before .before .before .before .before .if2 .left) _ (c .before .before .before .before .before .before .before .is-out-of-range .ensures) (c .before .before .before .before .before .before .if3 .left) _ (c .before .before .before .before .before .lists-disagree .ensures) (c .before .before .before .before .if4 .left) _ (c .before .before .before .total-u32 .ensures) (c .before .before .if5 .left) _ (c .before .is-short .ensures) (c .if6 .taken)
 
 returns-7 : tie.Need-returns-7
-returns-7 c = refused-none _ _ _ _ _ _ _ _ _ _ _ (c .before .before .before .before .before .before .before .before .before .before .before .widths-fit .ensures) (c .before .before .before .before .before .before .before .before .before .before .if1 .left) _ (c .before .before .before .before .before .before .before .before .before .all-finite .ensures) (c .before .before .before .before .before .before .before .before .if2 .left) _ (c .before .before .before .before .before .before .before .is-out-of-range .ensures) (c .before .before .before .before .before .before .if3 .left) _ (c .before .before .before .before .before .lists-disagree .ensures) (c .before .before .before .before .if4 .left) _ (c .before .before .before .total-u32 .ensures) (c .before .before .if5 .left) _ (c .before .is-short .ensures) (c .if6 .left)
+returns-7 c = refused-none _ _ _ _ _ _ (c .before .before .before .before .before .before .before .before .before .before .before .widths-fit .ensures) (c .before .before .before .before .before .before .before .before .before .before .if1 .left) _ (c .before .before .before .before .before .before .before .before .before .all-finite .ensures) (c .before .before .before .before .before .before .before .before .if2 .left) _ (c .before .before .before .before .before .before .before .is-out-of-range .ensures) (c .before .before .before .before .before .before .if3 .left) _ (c .before .before .before .before .before .lists-disagree .ensures) (c .before .before .before .before .if4 .left) _ (c .before .before .before .total-u32 .ensures) (c .before .before .if5 .left) _ (c .before .is-short .ensures) (c .if6 .left)
 
 pub refusal-spec : {M : Type 1} → statement M
 refusal-spec =

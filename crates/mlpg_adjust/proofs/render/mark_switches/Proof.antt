@@ -1,30 +1,20 @@
--- `mlpg_adjust::render::mark_switches` meets its contract. Assumes nothing.
-use Rattle.mlpg_adjust.proofs.Renders.{on-said, off-said}
+-- `mlpg_adjust::render::mark_switches` meets its contract.
+use mathlib.Core.Path.{_∙_}
+use Rattle.mlpg_adjust.proofs.Calls.{gv-off, gv-on, on-said}
+use Rattle.mlpg_adjust.proofs.Marks.{switches-written}
 use borrow.Author.Needs.{needs}
 use Rattle.mlpg_adjust.proofs.render.mark_switches.Statement.{statement}
 use Rattle.mlpg_adjust.proofs.render.mark_switches.Tie as tie
 
-enum-told : tie.Need-enum-told
-enum-told c = search needs
-
-enum-told-2 : tie.Need-enum-told-2
-enum-told-2 c = search needs
-
 returns : tie.Need-returns
-returns c = λ o. absurd (off-said _ (c .enum-told2 .given .1) o)
-
-close-up-switches-requires : tie.Need-close-up-switches-requires
-close-up-switches-requires c κs =
-    let s = c .before .before .before .before .before .before .before in
-    (s .pre .0, s .pre .1 (on-said _ _ (c .before .enum-told .given .1)), s .pre .2)
-
-same-length : tie.Need-same-length
-same-length c = search needs
+returns c = gv-off _ _ _ (c .enum-told2 .given .1)
 
 returns-2 : tie.Need-returns-2
-returns-2 c = λ o. c .before .before .close-up-switches .ensures
+returns-2 c =
+    let s = c .before .before .before .before .before .before .before .before .before in
+    let e = c .before .before .before .before .enum-told .given .1 in
+    switches-written _ _ _ _ (s .pre .0) (s .pre .1) (s .pre .2 (on-said _ _ e)) (s .pre .3) (c .before .before .mark-switches .ensures) ∙ gv-on _ _ _ _ e
 
 pub mark-switches-spec : {M : Type 1} → statement M
 mark-switches-spec =
-    tie.close
-    (tie.spec enum-told enum-told-2 returns close-up-switches-requires same-length returns-2)
+    tie.close (tie.spec (λ c. search needs) (λ c. search needs) returns (λ c κs. search needs) (λ c. search needs) returns-2)

@@ -1,4 +1,4 @@
--- `model::mean_vari::sum` meets its contract. The invariant: the pairs from i on, added to the total, give the sum. Assumes nothing.
+-- `model::mean_vari::sum` meets its contract. The invariant: the pairs from i on, added to the total, give the sum.
 use mathlib.Core.Path.{_≡_}
 use Prim.Native.Nat.{_-_, _≤_}
 use native.Mathlib.Omega.{arith}
@@ -16,39 +16,9 @@ Inv-loop means varis end total₀ i₀ total i = (i ≤ end) × (foldFrom plus t
 abbrev μ-loop : tie.MeasureT-loop
 μ-loop means varis end total₀ i₀ total i = end - i
 
-least-requires : tie.Need-least-requires Inv-loop μ-loop
-least-requires c κs = search needs
-
-zero-requires : tie.Need-zero-requires Inv-loop μ-loop
-zero-requires c κs = search needs
-
 loop-holds : tie.Need-loop-holds Inv-loop μ-loop
 unfolding sumOf
 loop-holds c = (omega arith, rw (c .zero .ensures))
-
-mul-new : tie.Need-mul-new Inv-loop μ-loop
-mul-new c = search needs
-
-shared-slice-read-new : tie.Need-shared-slice-read-new Inv-loop μ-loop
-shared-slice-read-new c = search needs
-
-mul-new-2 : tie.Need-mul-new-2 Inv-loop μ-loop
-mul-new-2 c = search needs
-
-shared-slice-read-new-2 : tie.Need-shared-slice-read-new-2 Inv-loop μ-loop
-shared-slice-read-new-2 c = search needs
-
-new-requires : tie.Need-new-requires Inv-loop μ-loop
-new-requires c κs = search needs
-
-add-requires : tie.Need-add-requires Inv-loop μ-loop
-add-requires c κs = search needs
-
-add-i : tie.Need-add-i Inv-loop μ-loop
-add-i c = search needs
-
-loop-less : tie.Need-loop-less Inv-loop μ-loop
-loop-less c = search needs
 
 loop-again : tie.Need-loop-again Inv-loop μ-loop
 loop-again c =
@@ -69,16 +39,16 @@ sum-spec =
     (tie.spec
     Inv-loop
     μ-loop
-    least-requires
-    zero-requires
+    (λ c κs. search needs)
+    (λ c κs. search needs)
     loop-holds
-    mul-new
-    shared-slice-read-new
-    mul-new-2
-    shared-slice-read-new-2
-    new-requires
-    add-requires
-    add-i
-    loop-less
+    (λ c. search needs)
+    (λ c. search needs)
+    (λ c. search needs)
+    (λ c. search needs)
+    (λ c κs. search needs)
+    (λ c κs. search needs)
+    (λ c. search needs)
+    (λ c. search needs)
     loop-again
     returns)

@@ -1,4 +1,4 @@
--- `duration::align::Label::new` meets its contract. Assumes nothing.
+-- `duration::align::Label::new` meets its contract.
 use mathlib.Core.Path.{sym, ap}
 use mathlib.Core.Bool.{Bool}
 use Rattle.duration.specs.Align.{endIf}

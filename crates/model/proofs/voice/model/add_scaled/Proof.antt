@@ -1,4 +1,4 @@
--- `model::voice::model::add_scaled` meets its contract. The invariant: what is done, with the rest as it is to be, is the whole. Assumes nothing.
+-- `model::voice::model::add_scaled` meets its contract. The invariant: what is done, with the rest as it is to be, is the whole.
 use native.Mathlib.Omega.{arith}
 use borrow.Author.Needs.{needs}
 use Prim.Native.Nat.{_-_, _≤_}
@@ -17,38 +17,8 @@ Inv-loop lhs₀ weight rhs end i₀ lhs i = (i ≤ end) × (take i lhs ++ overSh
 abbrev μ-loop : tie.MeasureT-loop
 μ-loop lhs₀ weight rhs end i₀ lhs i = end - i
 
-least-requires : tie.Need-least-requires Inv-loop μ-loop
-least-requires c κs = search needs
-
 loop-holds : tie.Need-loop-holds Inv-loop μ-loop
 loop-holds c = (omega arith, refl, refl)
-
-mul-one-nan : tie.Need-mul-one-nan Inv-loop μ-loop
-mul-one-nan c = search needs
-
-slice-read-one-nan : tie.Need-slice-read-one-nan Inv-loop μ-loop
-slice-read-one-nan c = search needs
-
-mul-one-nan-2 : tie.Need-mul-one-nan-2 Inv-loop μ-loop
-mul-one-nan-2 c = search needs
-
-shared-slice-read-one-nan : tie.Need-shared-slice-read-one-nan Inv-loop μ-loop
-shared-slice-read-one-nan c = search needs
-
-one-nan-requires : tie.Need-one-nan-requires Inv-loop μ-loop
-one-nan-requires c κs = search needs
-
-mul-lhs : tie.Need-mul-lhs Inv-loop μ-loop
-mul-lhs c = search needs
-
-slice-write-lhs : tie.Need-slice-write-lhs Inv-loop μ-loop
-slice-write-lhs c = search needs
-
-add-i : tie.Need-add-i Inv-loop μ-loop
-add-i c = search needs
-
-loop-less : tie.Need-loop-less Inv-loop μ-loop
-loop-less c = search needs
 
 loop-again : tie.Need-loop-again Inv-loop μ-loop
 loop-again c =
@@ -73,17 +43,17 @@ add-scaled-spec =
     (tie.spec
     Inv-loop
     μ-loop
-    least-requires
+    (λ c κs. search needs)
     loop-holds
-    mul-one-nan
-    slice-read-one-nan
-    mul-one-nan-2
-    shared-slice-read-one-nan
-    one-nan-requires
-    mul-lhs
-    slice-write-lhs
-    add-i
-    loop-less
+    (λ c. search needs)
+    (λ c. search needs)
+    (λ c. search needs)
+    (λ c. search needs)
+    (λ c κs. search needs)
+    (λ c. search needs)
+    (λ c. search needs)
+    (λ c. search needs)
+    (λ c. search needs)
     loop-again
     same-length
     returns)

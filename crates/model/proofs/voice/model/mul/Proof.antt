@@ -1,4 +1,4 @@
--- `model::voice::model::mul` meets its contract. The invariant: the first i numbers are stored. Assumes nothing.
+-- `model::voice::model::mul` meets its contract. The invariant: the first i numbers are stored.
 use borrow.Author.Needs.{needs}
 use native.Mathlib.Omega.{arith}
 use Prim.Native.Nat.{_-_, min}
@@ -31,27 +31,6 @@ returns c = mul-refused _ _ _ (c .if1 .taken)
 loop-holds : tie.Need-loop-holds Inv-loop μ-loop
 loop-holds c = storing _ _ _
 
-mul-one-nan : tie.Need-mul-one-nan Inv-loop μ-loop
-mul-one-nan c = search needs
-
-shared-slice-read-one-nan : tie.Need-shared-slice-read-one-nan Inv-loop μ-loop
-shared-slice-read-one-nan c = search needs
-
-one-nan-requires : tie.Need-one-nan-requires Inv-loop μ-loop
-one-nan-requires c κs = search needs
-
-mul-out : tie.Need-mul-out Inv-loop μ-loop
-mul-out c = search needs
-
-slice-write-out : tie.Need-slice-write-out Inv-loop μ-loop
-slice-write-out c = search needs
-
-add-i : tie.Need-add-i Inv-loop μ-loop
-add-i c = search needs
-
-loop-less : tie.Need-loop-less Inv-loop μ-loop
-loop-less c = search needs
-
 loop-again : tie.Need-loop-again Inv-loop μ-loop
 loop-again c =
     let at = c .before .before .before in
@@ -72,13 +51,13 @@ mul-spec =
     μ-loop
     returns
     loop-holds
-    mul-one-nan
-    shared-slice-read-one-nan
-    one-nan-requires
-    mul-out
-    slice-write-out
-    add-i
-    loop-less
+    (λ c. search needs)
+    (λ c. search needs)
+    (λ c κs. search needs)
+    (λ c. search needs)
+    (λ c. search needs)
+    (λ c. search needs)
+    (λ c. search needs)
     loop-again
     same-length
     returns-2)

@@ -1,4 +1,4 @@
--- `model::voice::model::pair_number` meets its contract. Assumes nothing.
+-- `model::voice::model::pair_number` meets its contract.
 use native.Mathlib.Omega.{arith}
 use borrow.Author.Needs.{needs}
 use Prim.Native.Nat.{_*_, _≤_}
@@ -15,8 +15,5 @@ mul-result c = omega (arith, product c)
 add-result : tie.Need-add-result
 add-result c = omega (arith, product c)
 
-returns : tie.Need-returns
-returns c = search needs
-
 pub pair-number-spec : {M : Type 1} → statement M
-pair-number-spec = tie.close (tie.spec mul-result add-result returns)
+pair-number-spec = tie.close (tie.spec mul-result add-result (λ c. search needs))

@@ -1,4 +1,4 @@
--- `model::voice::window::all_finite` meets its contract. The invariant: what the numbers from i on say is what all say. Assumes nothing.
+-- `model::voice::window::all_finite` meets its contract. The invariant: what the numbers from i on say is what all say.
 use native.Mathlib.Omega.{arith}
 use borrow.Author.Needs.{needs}
 use Prim.Native.Nat.{_-_, _≤_}
@@ -15,27 +15,9 @@ Inv-loop coefficients i₀ i = (i ≤ length coefficients) × (allOf finite (dro
 abbrev μ-loop : tie.MeasureT-loop
 μ-loop coefficients i₀ i = length coefficients - i
 
-loop-holds : tie.Need-loop-holds Inv-loop μ-loop
-loop-holds c = search needs
-
-mul-is-finite : tie.Need-mul-is-finite Inv-loop μ-loop
-mul-is-finite c = search needs
-
-shared-slice-read-is-finite : tie.Need-shared-slice-read-is-finite Inv-loop μ-loop
-shared-slice-read-is-finite c = search needs
-
-is-finite-requires : tie.Need-is-finite-requires Inv-loop μ-loop
-is-finite-requires c κs = search needs
-
 returns : tie.Need-returns Inv-loop μ-loop
 unfolding allFinite
 returns c = let l = c .before .before .before .before .loop in all-stop finite _ (l .i) _ (l .inv .1) _ _ (c .before .before .before .loop-test .taken) (c .before .is-finite .ensures) (c .if1 .taken)
-
-add-i : tie.Need-add-i Inv-loop μ-loop
-add-i c = search needs
-
-loop-less : tie.Need-loop-less Inv-loop μ-loop
-loop-less c = search needs
 
 loop-again : tie.Need-loop-again Inv-loop μ-loop
 loop-again c = let l = c .before .before .before .before .loop in (omega arith, all-next finite _ (l .i) _ (l .inv .1) _ _ (c .before .before .before .loop-test .taken) (c .before .is-finite .ensures) (c .if1 .left))
@@ -50,12 +32,12 @@ all-finite-spec =
     (tie.spec
     Inv-loop
     μ-loop
-    loop-holds
-    mul-is-finite
-    shared-slice-read-is-finite
-    is-finite-requires
+    (λ c. search needs)
+    (λ c. search needs)
+    (λ c. search needs)
+    (λ c κs. search needs)
     returns
-    add-i
-    loop-less
+    (λ c. search needs)
+    (λ c. search needs)
     loop-again
     returns-2)

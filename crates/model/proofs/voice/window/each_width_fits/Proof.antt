@@ -1,4 +1,4 @@
--- `model::voice::window::each_width_fits` meets its contract. The invariant: what the widths from i on say is what all say. Assumes nothing.
+-- `model::voice::window::each_width_fits` meets its contract. The invariant: what the widths from i on say is what all say.
 use native.Mathlib.Omega.{arith}
 use borrow.Author.Needs.{needs}
 use Prim.Native.Nat.{_-_, _≤_}
@@ -15,29 +15,8 @@ Inv-loop widths i₀ i = (i ≤ length widths) × (allOf (between 1 15) (drop i 
 abbrev μ-loop : tie.MeasureT-loop
 μ-loop widths i₀ i = length widths - i
 
-loop-holds : tie.Need-loop-holds Inv-loop μ-loop
-loop-holds c = search needs
-
-mul-wide : tie.Need-mul-wide Inv-loop μ-loop
-mul-wide c = search needs
-
-shared-slice-read-wide : tie.Need-shared-slice-read-wide Inv-loop μ-loop
-shared-slice-read-wide c = search needs
-
-wide-requires : tie.Need-wide-requires Inv-loop μ-loop
-wide-requires c κs = search needs
-
-is-between-requires : tie.Need-is-between-requires Inv-loop μ-loop
-is-between-requires c κs = search needs
-
 returns : tie.Need-returns Inv-loop μ-loop
 returns c = let l = c .before .before .before .before .before .loop in all-stop (between 1 15) _ (l .i) _ (l .inv .1) 0 _ (c .before .before .before .before .loop-test .taken) (c .before .is-between .ensures ∙ ap (between 1 15) (c .before .before .wide .ensures)) (c .if1 .taken)
-
-add-i : tie.Need-add-i Inv-loop μ-loop
-add-i c = search needs
-
-loop-less : tie.Need-loop-less Inv-loop μ-loop
-loop-less c = search needs
 
 loop-again : tie.Need-loop-again Inv-loop μ-loop
 loop-again c = let l = c .before .before .before .before .before .loop in (omega arith, all-next (between 1 15) _ (l .i) _ (l .inv .1) 0 _ (c .before .before .before .before .loop-test .taken) (c .before .is-between .ensures ∙ ap (between 1 15) (c .before .before .wide .ensures)) (c .if1 .left))
@@ -51,13 +30,13 @@ each-width-fits-spec =
     (tie.spec
     Inv-loop
     μ-loop
-    loop-holds
-    mul-wide
-    shared-slice-read-wide
-    wide-requires
-    is-between-requires
+    (λ c. search needs)
+    (λ c. search needs)
+    (λ c. search needs)
+    (λ c κs. search needs)
+    (λ c κs. search needs)
     returns
-    add-i
-    loop-less
+    (λ c. search needs)
+    (λ c. search needs)
     loop-again
     returns-2)

@@ -1,4 +1,4 @@
--- `model::voice::window::is_between` meets its contract. Assumes nothing.
+-- `model::voice::window::is_between` meets its contract.
 use Rattle.model.proofs.Windows.{between-under, between-from}
 use Rattle.model.proofs.voice.window.is_between.Statement.{statement}
 use Rattle.model.proofs.voice.window.is_between.Tie as tie

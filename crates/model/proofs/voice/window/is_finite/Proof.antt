@@ -1,4 +1,4 @@
--- `model::voice::window::is_finite` meets its contract. Assumes nothing.
+-- `model::voice::window::is_finite` meets its contract.
 use lib.Ieee.{ofBits, div, neg}
 use Rattle.model.proofs.Windows.{finite-below, finite-not-below}
 use Rattle.model.proofs.voice.window.is_finite.Statement.{statement}

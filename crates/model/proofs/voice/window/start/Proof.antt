@@ -1,4 +1,4 @@
--- `model::voice::window::start` meets its contract. Assumes nothing.
+-- `model::voice::window::start` meets its contract.
 use native.Mathlib.Omega.{arith}
 use borrow.Author.Needs.{needs}
 use mathlib.Core.Path.{sym, ap, _∙_}
@@ -9,17 +9,8 @@ use Rattle.model.proofs.Windows.{start-at}
 use Rattle.model.proofs.voice.window.start.Statement.{statement}
 use Rattle.model.proofs.voice.window.start.Tie as tie
 
-least-requires : tie.Need-least-requires
-least-requires c κs = search needs
-
-least-requires-2 : tie.Need-least-requires-2
-least-requires-2 c κs = search needs
-
 slice-aggregate-total-u32 : tie.Need-slice-aggregate-total-u32
 slice-aggregate-total-u32 c = sym (length-take-le _ _ (omega (arith, c .before .least2 .ensures)))
-
-total-u32-requires : tie.Need-total-u32-requires
-total-u32-requires c κs = search needs
 
 returns : tie.Need-returns
 returns c =
@@ -30,4 +21,4 @@ returns c =
 pub start-spec : {M : Type 1} → statement M
 start-spec =
     tie.close
-    (tie.spec least-requires least-requires-2 slice-aggregate-total-u32 total-u32-requires returns)
+    (tie.spec (λ c κs. search needs) (λ c κs. search needs) slice-aggregate-total-u32 (λ c κs. search needs) returns)

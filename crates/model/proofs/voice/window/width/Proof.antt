@@ -1,22 +1,10 @@
--- `model::voice::window::width` meets its contract. Assumes nothing.
+-- `model::voice::window::width` meets its contract.
 use native.Mathlib.Omega.{arith}
 use borrow.Author.Needs.{needs}
 use mathlib.Core.Path.{_∙_}
 use Rattle.model.proofs.Windows.{width-at, width-past}
 use Rattle.model.proofs.voice.window.width.Statement.{statement}
 use Rattle.model.proofs.voice.window.width.Tie as tie
-
-least-requires : tie.Need-least-requires
-least-requires c κs = search needs
-
-mul-wide : tie.Need-mul-wide
-mul-wide c = search needs
-
-shared-slice-read-wide : tie.Need-shared-slice-read-wide
-shared-slice-read-wide c = search needs
-
-wide-requires : tie.Need-wide-requires
-wide-requires c κs = search needs
 
 returns : tie.Need-returns
 returns c = c .wide .ensures ∙ (let a = c .before .before .before .before .before .args in width-at (a .widths .now) (a .i) (omega (arith, c .before .before .if1 .taken, c .before .before .before .least .ensures)))
@@ -27,4 +15,4 @@ returns-2 c = let a = c .before .before .before .args in width-past (a .widths .
 pub width-spec : {M : Type 1} → statement M
 width-spec =
     tie.close
-    (tie.spec least-requires mul-wide shared-slice-read-wide wide-requires returns returns-2)
+    (tie.spec (λ c κs. search needs) (λ c. search needs) (λ c. search needs) (λ c κs. search needs) returns returns-2)

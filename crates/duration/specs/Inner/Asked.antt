@@ -1,0 +1,121 @@
+-- What the crate's own functions ask of each other and give. No public call's promise names any of it.
+use mathlib.Core.Path.{_≡_}
+use mathlib.Core.Bool.{Bool, true, false}
+use mathlib.Core.List.{List, [], _∷_, _++_}
+use Prim.Native.Nat.{ℕ, _*_, _≤_, _<_}
+use lib.ListN.{length, getD, set, take, drop, replicate}
+use lib.Seq.{sets}
+use lib.Ieee.{Float}
+use Rattle.lists.specs.Sizes.{mostFrames, mostStates}
+use Rattle.lists.specs.Totals.{total}
+use Rattle.duration.specs.declared.Fitted.{Fitted}
+use Rattle.duration.specs.declared.Fitted.the-variants.{Done, Refused}
+use Rattle.duration.specs.declared.Aligned.{Aligned}
+use Rattle.duration.specs.declared.align.Closed.{Closed}
+use Rattle.duration.specs.declared.align.Closed.the-variants.{Grown, Barred}
+use Rattle.duration.specs.Steps.{Outcome, step}
+use Rattle.duration.specs.Inner.Scores.{keyAt, scores}
+use Rattle.duration.specs.Inner.Tree.{Kept}
+use Rattle.duration.specs.Inner.Pack.{lows, highs}
+use Rattle.duration.specs.Align.{Group, fitOf, refusalOf}
+use Rattle.lists.specs.Answers.{Answer, answerOf}
+use Rattle.duration.specs.Promise.{fitted, aligned}
+
+-- lists that agree, with one number of the work space a state
+pub record Agree (ms vs : List Float) (work : List ℕ) : Type 0 where
+  pub few : length ms ≤ mostStates
+  pub varis : length vs ≡ length ms
+  pub workspace : length work ≡ length ms
+
+-- durations that a step is taken from
+pub record Ready (ms vs : List Float) (ds : List ℕ) : Type 0 where
+  pub some : 0 < length ms
+  pub few : length ms ≤ mostStates
+  pub varis : length vs ≡ length ms
+  pub work : length ds ≡ length ms
+  pub small : total ds ≤ mostFrames
+
+-- there is room for a step up (true) or down (false), of n states with this total
+abbrev pub RoomFor : Bool → ℕ → ℕ → Type 0
+RoomFor true n sum = sum < mostFrames
+RoomFor false n sum = n < sum
+
+-- a number that a step up or down may change
+abbrev pub MayMove : Bool → ℕ → Type 0
+MayMove true d = d ≤ mostFrames
+MayMove false d = 1 ≤ d
+
+-- what the rule is asked for: a target above the count, from a start whose total is known
+pub record Aim (ms : List Float) (ds : List ℕ) (sum target : ℕ) : Type 0 where
+  pub known : sum ≡ total ds
+  pub above : length ms < target
+  pub within : target ≤ mostFrames
+
+-- no other state is above 1
+abbrev pub Lone : List ℕ → ℕ → Type 0
+Lone ds p = (j : ℕ) → (j ≡ p → ⊥) → getD ds j 0 ≤ 1
+
+-- a duration or a node's place stored in a packed list, with all else as it was
+pub record PutsDuration (w : List ℕ) (p d : ℕ) (w′ : List ℕ) : Type 0 where
+  pub durations : lows w′ ≡ set (lows w) p d
+  pub tree : highs w′ ≡ highs w
+
+pub record PutsPlace (w : List ℕ) (i p : ℕ) (w′ : List ℕ) : Type 0 where
+  pub durations : lows w′ ≡ lows w
+  pub tree : highs w′ ≡ set (highs w) i p
+
+-- the tree of a packed list is played out over its durations
+abbrev pub Standing : Bool → Float → List Float → List Float → List ℕ → Type 0
+Standing up rho ms vs w = Kept (scores (keyAt up rho ms vs (lows w))) (highs w) 1
+
+pub record Plays (up : Bool) (rho : Float) (ms vs : List Float) (w w′ : List ℕ) : Type 0 where
+  pub durations : lows w′ ≡ lows w
+  pub tree : Standing up rho ms vs w′
+
+-- and one step is taken
+pub record Stepped (up : Bool) (rho : Float) (ms vs : List Float) (w w′ : List ℕ) : Type 0 where
+  pub durations : lows w′ ≡ step up rho ms vs (lows w)
+  pub tree : Standing up rho ms vs w′
+
+-- an outcome in place, or its refusal
+pub record InPlace (k : ℕ) (o : Outcome) (r : Fitted) (work′ : List ℕ) : Type 0 where
+  pub answer : fitted r ≡ answerOf k (o .changes ∷ [])
+  pub output : k ≡ 0 → work′ ≡ o .durations
+
+-- an answer handed out: where it is one, the front of the work space is the output's; the work space is cleared
+abbrev pub outputAfter : Fitted → List ℕ → List ℕ → List ℕ
+outputAfter (Done changes) new out = new
+outputAfter (Refused number) new out = out
+
+pub record HandsOut (answer : Fitted) (n : ℕ) (out work : List ℕ) (r : Fitted) (out′ work′ : List ℕ) : Type 0 where
+  pub same : r ≡ answer
+  pub output : out′ ≡ outputAfter answer (sets out 0 (take n work)) out
+  pub workspace : work′ ≡ sets work 0 (replicate n 0)
+
+-- a group that lies in the lists, after so many frames
+pub record Lies (ms vs : List Float) (work : List ℕ) (g : Group) (frames : ℕ) : Type 0 where
+  pub lists : Agree ms vs work
+  pub order : g .from ≤ g .to
+  pub inside : g .to ≤ length ms
+  pub few : frames ≤ mostFrames
+
+-- a group's answer as a number and values: its changes and its frames
+abbrev pub closed : Closed → Answer
+closed (Grown changes frames) = record { number = 0; values = changes ∷ frames ∷ [] }
+closed (Barred number) = record { number = number; values = [] }
+
+-- a group's outcome in its place, or its refusal
+pub record Closes (ms vs : List Float) (g : Group) (frames : ℕ) (work : List ℕ) (r : Closed) (work′ : List ℕ) : Type 0 where
+  pub answer : closed r ≡ answerOf (refusalOf ms vs g frames) (fitOf ms vs g frames .changes ∷ total (fitOf ms vs g frames .durations) ∷ [])
+  pub output : refusalOf ms vs g frames ≡ 0 → work′ ≡ take (g .from) work ++ (fitOf ms vs g frames .durations ++ drop (g .to) work)
+
+-- labels of k states each that cover the lists
+pub record Labelled (ms vs : List Float) (k : ℕ) (ends : List Float) (work : List ℕ) : Type 0 where
+  pub lists : Agree ms vs work
+  pub some : 1 ≤ k
+  pub cover : length ends * k ≡ length ms
+
+-- an alignment's outcome at the front of the work space, or its refusal
+pub record AtFront (k : ℕ) (o : Outcome) (r : Aligned) (work′ : List ℕ) : Type 0 where
+  pub answer : aligned r ≡ answerOf k (length (o .durations) ∷ o .changes ∷ [])
+  pub output : k ≡ 0 → take (length (o .durations)) work′ ≡ o .durations

@@ -1,0 +1,73 @@
+-- The call's door, and what lies behind it.
+use mathlib.Core.Path.{_≡_, refl, sym, _∙_}
+use mathlib.Core.Bool.{Bool, true, false, not, _&&_, true≢false}
+use mathlib.Core.List.{List, map}
+use Prim.Native.Nat.{ℕ, _*_, _<_, _≤_, _^_}
+use native.Mathlib.Omega.{arith}
+use borrow.Author.Tests.{ltb-true, leb-true, eqb-true, not-true}
+use lib.ListN.{length}
+use lib.Ieee.{Float, binary64, mul}
+use Rattle.lists.specs.Flags.{isOn}
+use Rattle.lists.proofs.Regions.{cut-length}
+use Rattle.region.specs.Rows.{elem}
+use Rattle.region.specs.Region.{sizeOf, placesOf, regionIn, regionOf, flat}
+use Rattle.region.specs.declared.Layout.{Layout}
+use Rattle.region.specs.declared.Places.{Places}
+use Rattle.region.proofs.Laying.{laid}
+use Rattle.region.proofs.Lanes.{region-fits}
+use Rattle.region.proofs.Flats.{each-is}
+use Rattle.gv.specs.Promise.{opens, variedIn, VarySays}
+use Rattle.gv.specs.Inner.Turns.{Planned, Suited, Each}
+use Rattle.gv.specs.declared.MlpgGlobalVariance.{MlpgGlobalVariance}
+use Rattle.gv.proofs.Varied.{varied-flat}
+
+both : (a b : Bool) → a && b ≡ true → (a ≡ true) × (b ≡ true)
+both true b e = (refl, e)
+both false b e = absurd (true≢false (sym e))
+
+module _ (g : Layout) (on means varis floats : ℕ) where
+  pub record Opened : Type 0 where
+    pub some : 0 < g .w
+    pub sets : g .windows ≤ 4
+    pub few : g .n ≤ 65536
+    pub switches : on ≡ g .n
+    pub pairs : varis ≡ means
+    pub room : means * sizeOf g ≤ floats
+
+  pub opened : opens g on means varis floats ≡ true → Opened
+  opened e =
+      let f = both _ _ e in
+      let v = both _ _ (f .0) in
+      let s = both _ _ (v .0) in
+      let n = both _ _ (s .0) in
+      let w = both _ _ (n .0) in
+      record {
+        some = ltb-true 0 (g .w) (w .0);
+        sets = leb-true (g .windows) 4 (w .1);
+        few = leb-true (g .n) 65536 (n .1);
+        switches = eqb-true on (g .n) (s .1);
+        pairs = eqb-true varis means (v .1);
+        room = leb-true (means * sizeOf g) floats (f .1);
+      }
+
+  -- a layout's own sizes suit its regions
+  pub suited : (s : MlpgGlobalVariance) (bs : List Bool) → Opened → g .w < 2 ^ 32 → Planned g bs s → Suited s (placesOf g) (sizeOf g)
+  suited s bs o b k = rw (k .length, k .width, k .windows) (record { some = o .some; narrow = b; few = o .few; sets = o .sets; spaced = laid g .behind })
+
+-- ---- the call
+
+module _ (g : Layout) (on : List ℕ) (means varis : List Float) (weight : Float) (work : List Float) where
+  pub none-varied : (b : Bool) → b ≡ opens g (length on) (length means) (length varis) (length work) → not b ≡ true → VarySays g on means varis weight work work
+  none-varied b e h = record { space = rw (← e, not-true b h) }
+
+  pub all-varied : (work′ : List Float) (s : MlpgGlobalVariance) (p : Places) → opens g (length on) (length means) (length varis) (length work) ≡ true → Planned g (map isOn on) s → p ≡ placesOf g
+      → Each s p (map isOn on) means varis weight work work′ → VarySays g on means varis weight work work′
+  all-varied work′ s p o k e q =
+      let d = opened g (length on) (length means) (length varis) (length work) o in
+      let size : ℕ = sizeOf g in
+      let q′ = rw e at q in
+      let each : (l : ℕ) → l < length means → regionOf size l work′ ≡ flat (variedIn g (map isOn on) (mul binary64 (elem means l) weight) (elem varis l) (regionIn g (regionOf size l work))) =
+      λ l h. q′ .regions l h ∙ varied-flat g (d .some) (map isOn on) (mul binary64 (elem means l) weight) (elem varis l) (regionOf size l work) s (placesOf g) k refl (cut-length (l * size) size work (region-fits size (length means) l work h (d .room))) in
+      record {
+        space = rw o (each-is g (length means) (λ l. variedIn g (map isOn on) (mul binary64 (elem means l) weight) (elem varis l)) work (d .room) work′ (record { long = q′ .long; done = each; left = λ j h i. absurd (omega arith); behind = q′ .behind }));
+      }

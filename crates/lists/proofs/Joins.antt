@@ -1,0 +1,62 @@
+-- Laws of lists that are joined from parts, and of the parts of such a list.
+use mathlib.Core.Path.{_≡_, refl, sym, ap, _∙_}
+use mathlib.Core.Logic.{⊎-elim}
+use mathlib.Core.List.{List, _++_, append-assoc}
+use Prim.Native.Nat.{ℕ, zero, suc, _+_, _*_, _<_, _≤_}
+use native.Mathlib.Nat.{zero-mul, suc-mul}
+use native.Mathlib.Omega.{arith}
+use lib.ListN.{length, take, drop, length-append, length-drop, take-append-drop}
+use lib.Seq.{take-at, take-all, drop-append-add, drop-drop}
+use Rattle.lists.specs.Build.{rows}
+use Rattle.lists.specs.Parts.{part}
+use Rattle.lists.proofs.Numbers.{le-or-lt}
+
+module _ {A : Type 0} where
+  -- a part and what lies behind it
+  pub part-joined : (o k e : ℕ) (l : List A) → o + k ≡ e → part o k l ++ drop e l ≡ drop o l
+  part-joined o k e l h = rw (← h, ← drop-drop k o l) (take-append-drop k (drop o l))
+
+  -- the last part
+  pub part-last : (o k : ℕ) (l : List A) → length l ≤ o + k → part o k l ≡ drop o l
+  part-last o k l h = take-all k (drop o l) (simp length-drop (omega arith))
+
+  -- the first part, and one behind it
+  pub part-first : (p q : List A) (k : ℕ) → length p ≡ k → part 0 k (p ++ q) ≡ p
+  part-first p q k h = take-at p q k h
+
+  pub part-behind : (p q : List A) (a o i k : ℕ) → length p ≡ a → o ≡ a + i → part o k (p ++ q) ≡ part i k q
+  part-behind p q a o i k h e = ap (λ (j : ℕ). part j k (p ++ q)) (e ∙ ap (λ (j : ℕ). j + i) (sym h)) ∙ ap (take k) (drop-append-add p q i)
+
+  pub rows-same : (r q : ℕ → List A) (n : ℕ) → ((t : ℕ) → t < n → r t ≡ q t) → rows r n ≡ rows q n
+  unfolding rows
+  rows-same r q zero h = refl
+  rows-same r q (suc n) h = rw (rows-same r q n (λ t l. h t (omega arith)), h n (omega arith))
+
+  -- rows of w items each
+  module _ (r : ℕ → List A) (w : ℕ) where
+    pub rows-length : (n : ℕ) → ((t : ℕ) → t < n → length (r t) ≡ w) → length (rows r n) ≡ n * w
+    unfolding rows
+    rows-length zero each = sym (zero-mul w)
+    rows-length (suc n) each = simp length-append (omega (arith, rows-length n (λ t h. each t (omega arith)), each n (omega arith), suc-mul n w))
+
+    pub rows-part : (n t : ℕ) (rest : List A) → t < n → ((i : ℕ) → i < n → length (r i) ≡ w) → part (t * w) w (rows r n ++ rest) ≡ r t
+    unfolding rows
+    rows-part zero t rest h each = absurd (omega arith)
+    rows-part (suc n) t rest h each =
+        rw (append-assoc (rows r n) (r n) rest)
+        (⊎-elim
+        (λ (g : n ≤ t). let e : t ≡ n = omega arith in
+        ap (λ (j : ℕ). part (j * w) w (rows r n ++ (r n ++ rest))) e
+        ∙ part-behind (rows r n) (r n ++ rest) (n * w) (n * w) 0 w (rows-length n (λ i l. each i (omega arith))) (omega arith)
+        ∙ part-first (r n) rest w (each n (omega arith)) ∙ ap r (sym e))
+        (λ (g : t < n). rows-part n t (r n ++ rest) g (λ i l. each i (omega arith)))
+        (le-or-lt n t))
+
+  -- a list is its first n parts of w items and what lies behind them
+  pub rows-cut : (w n : ℕ) (l : List A) → rows (λ t. part (t * w) w l) n ++ drop (n * w) l ≡ l
+  unfolding rows
+  rows-cut w zero l = rw zero-mul
+  rows-cut w (suc n) l =
+      append-assoc (rows (λ t. part (t * w) w l) n) (part (n * w) w l) (drop (suc n * w) l)
+      ∙ ap (λ (x : List A). rows (λ t. part (t * w) w l) n ++ x) (part-joined (n * w) w (suc n * w) l (omega (arith, suc-mul n w)))
+      ∙ rows-cut w n l

@@ -1,0 +1,36 @@
+-- RULES, Cases: case 10 from the records: windows (1) and (-0.5, 0, 0.5), three states of one frame each, first means 1, 2, 3, all other means and all variances 1.
+-- Computed from the definitions.
+use mathlib.Core.Path.{_≡_, refl}
+use mathlib.Core.Bool.{false}
+use mathlib.Core.List.{List, [], _∷_, map}
+use Prim.Native.Nat.{ℕ}
+use lib.Ieee.{Float, binary64, ofBits, toBits, lt, eq, add, mul, div}
+use Rattle.floats.specs.Numbers.{one}
+use Rattle.floats.specs.Order.{absOf}
+use Rattle.model.specs.Pair.{ivarOf}
+use Rattle.model.specs.Record.{fromLinear}
+use Rattle.model.specs.Windows.{longest}
+use Rattle.lists.specs.Frames.{count}
+use Rattle.voicing.specs.Mask.{maskOf, weightsOf}
+use Rattle.mlpg_adjust.specs.Trajectory.{recordSize, matrix, side}
+
+-- 1, 2, 3, -0.5, 0.5 and 0
+abbrev f : ℕ → Float
+f b = ofBits binary64 b
+
+abbrev records : List Float
+records = one ∷ one ∷ one ∷ one ∷ f 0x4000_0000_0000_0000 ∷ one ∷ one ∷ one ∷ f 0x4008_0000_0000_0000 ∷ one ∷ one ∷ one ∷ []
+
+abbrev taps : List Float
+taps = one ∷ f 0xbfe0_0000_0000_0000 ∷ f 0 ∷ f 0x3fe0_0000_0000_0000 ∷ []
+
+-- (1.25, 0, -0.25), (1, 0, 0), (1.25, 0, 0)
+pub case-10-rows : map (toBits binary64) (matrix (recordSize 1 2 false) records (f 0) (1 ∷ 1 ∷ 1 ∷ []) 1 (1 ∷ 3 ∷ []) taps 0)
+    ≡ 0x3ff4_0000_0000_0000 ∷ 0 ∷ 0xbfd0_0000_0000_0000 ∷ 0x3ff0_0000_0000_0000 ∷ 0 ∷ 0 ∷ 0x3ff4_0000_0000_0000 ∷ 0 ∷ 0 ∷ []
+unfolding matrix count maskOf weightsOf lt ofBits fromLinear longest toBits eq add mul ivarOf absOf div
+case-10-rows = refl
+
+-- 0.5, 2, 3.5
+pub case-10-right : map (toBits binary64) (side (recordSize 1 2 false) records (f 0) (1 ∷ 1 ∷ 1 ∷ []) 1 (1 ∷ 3 ∷ []) taps 0) ≡ 0x3fe0_0000_0000_0000 ∷ 0x4000_0000_0000_0000 ∷ 0x400c_0000_0000_0000 ∷ []
+unfolding side count maskOf weightsOf lt ofBits fromLinear toBits eq add mul ivarOf absOf div
+case-10-right = refl

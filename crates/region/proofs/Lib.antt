@@ -1,0 +1,5 @@
+-- Laws that the crates above cite.
+pub mod Readings
+pub mod Laying
+pub mod Lanes
+pub mod Flats

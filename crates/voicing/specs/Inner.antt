@@ -1,0 +1,4 @@
+-- What only private contracts and proofs need.
+pub mod Fits
+pub mod Lanes
+pub mod States
