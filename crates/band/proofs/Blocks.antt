@@ -30,7 +30,7 @@ use Rattle.region.proofs.Readings.{part-elem, part-part, read-under, read-beyon
 use Rattle.region.proofs.Flats.{flat-read}
 use Rattle.band.specs.Paper.{term, rightTerm, partOf, entrySum, rightSum, entryOf, bandRows, rightSide}
 use Rattle.band.specs.Promise.{rowedIn}
-use Rattle.band.specs.Inner.Passes.{between, Room, entryAt, within, Moved, Cleared, windowIn, windowEntry, windowSide, Set, setIn, windowAt, windowsEntry, windowsSide, wholeEntry, wholeSide}
+use Rattle.band.specs.Inner.Passes.{rowsBetween, Room, entryAt, within, Moved, Cleared, windowIn, windowEntry, windowSide, Set, setIn, windowAt, windowsEntry, windowsSide, wholeEntry, wholeSide}
 use Rattle.band.specs.declared.passes.Block.{Block}
 use Rattle.band.proofs.Terms.{either-way}
 use Rattle.band.proofs.Moves.{within-on, within-off, by-span, moved-none, moved-then, moved-same, moved-next, part-kept}

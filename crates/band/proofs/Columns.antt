@@ -15,7 +15,7 @@ use Rattle.lists.proofs.Numbers.{le-or-lt, by-place}
 use Rattle.lists.proofs.Rows.{row-fits, row-in}
 use Rattle.floats.specs.Numbers.{nought}
 use Rattle.region.specs.Rows.{elem}
-use Rattle.band.specs.Inner.Passes.{entryAt, within, Room, Moved, still, Ready, columnOf, sideOf, inColumns, NextTap}
+use Rattle.band.specs.Inner.Passes.{entryAt, within, Room, Moved, still, Ready, tapColumn, sideOf, inColumns, NextTap}
 use Rattle.band.specs.declared.passes.Block.{Block}
 use Rattle.band.proofs.Terms.{either-way, same-at, eq-nought}
 use Rattle.band.proofs.Runs.{Summed, summed-run, scaled}
@@ -80,11 +80,11 @@ module _ (taps : List Float) (u : ℕ) (b : Block) where
 
   module _ (d : List Float) (k : Ready taps u b (length d)) where
     abbrev C : ℕ → ℕ → Float → Float
-    C = columnOf taps u b d
+    C = tapColumn taps u b d
 
     pub column-done : (j : ℕ) → j < length taps → eq (elem taps j) nought ≡ false → (to : ℕ) → to ≡ max (b .from) (min (b .to) (b .n - j)) → (m : List Float)
         → m ≡ over (scaled (columnAt j) (b .w) u (elem taps 0) (elem taps j)) (to - b .from) d → Moved b (inColumns j (j + 1) C) still d m
-    unfolding columnOf
+    unfolding tapColumn
     column-done j jb nz to tb m e =
         let w : ℕ = b .w in
         let x : ℕ → Float = λ t. mul binary64 (mul binary64 (elem taps 0) (elem d (u + (t - b .from)))) (elem taps j) in
@@ -106,7 +106,7 @@ module _ (taps : List Float) (u : ℕ) (b : Block) where
     -- ---- one column after the other
 
     zero-column : (t i : ℕ) (y : Float) → eq (getD taps i nought) nought ≡ true → C t i y ≡ y
-    unfolding columnOf
+    unfolding tapColumn
     zero-column t i y z = rw z (either-way (ltb (t + i) (b .n)) y)
 
     zero-columns : (a e : ℕ) → ((c : ℕ) → c < e → a ≤ c → eq (elem taps c) nought ≡ true) → e ≤ length taps → Moved b (inColumns a e C) still d d
@@ -117,9 +117,9 @@ module _ (taps : List Float) (u : ℕ) (b : Block) where
     seen : (f : ℕ → ℕ → Float → Float) (g : ℕ → Float → Float) (m : List Float) (t : ℕ) → Moved b f g d m → b .from ≤ t → t < b .to → elem m (u + (t - b .from)) ≡ elem d (u + (t - b .from))
     seen f g m t q a l = q .others (u + (t - b .from)) (inl (omega (arith, k .pairs)))
 
-    columns-then : (m m′ : List Float) (a e z : ℕ) → a ≤ e → e ≤ z → Moved b (inColumns a e C) still d m → Moved b (inColumns e z (columnOf taps u b m)) still m m′ → Moved b (inColumns a z C) still d m′
-    unfolding columnOf
-    columns-then m m′ a e z l g p q = moved-then b (inColumns a e C) (inColumns e z (columnOf taps u b m)) (inColumns a z C) still still still d m m′
+    columns-then : (m m′ : List Float) (a e z : ℕ) → a ≤ e → e ≤ z → Moved b (inColumns a e C) still d m → Moved b (inColumns e z (tapColumn taps u b m)) still m m′ → Moved b (inColumns a z C) still d m′
+    unfolding tapColumn
+    columns-then m m′ a e z l g p q = moved-then b (inColumns a e C) (inColumns e z (tapColumn taps u b m)) (inColumns a z C) still still still d m m′
         (λ t i y h c f o. rw (seen (inColumns a e C) still m t p f o) (within-next a e z i (C t i) y l g)) (λ t y h f o. refl) p q
 
     pub columns-none : (j : ℕ) → NextTap taps 0 j → Moved b (inColumns 0 j C) still d d
@@ -134,8 +134,8 @@ module _ (taps : List Float) (u : ℕ) (b : Block) where
         (λ t y a f g. refl)
 
   -- columns j to e, and those up to the next that has a tap
-  pub columns-next : (d m m′ : List Float) → Ready taps u b (length d) → (j e i : ℕ) → j ≤ e → NextTap taps e i → Moved b (inColumns 0 j (columnOf taps u b d)) still d m
-      → Moved b (inColumns j e (columnOf taps u b m)) still m m′ → Moved b (inColumns 0 i (columnOf taps u b d)) still d m′
+  pub columns-next : (d m m′ : List Float) → Ready taps u b (length d) → (j e i : ℕ) → j ≤ e → NextTap taps e i → Moved b (inColumns 0 j (tapColumn taps u b d)) still d m
+      → Moved b (inColumns j e (tapColumn taps u b m)) still m m′ → Moved b (inColumns 0 i (tapColumn taps u b d)) still d m′
   columns-next d m m′ k j e i l n p q =
       let long : length m′ ≡ length d = q .long ∙ p .long in
       columns-then d k m′ m′ 0 e i (omega arith) (n .behind) (columns-then d k m m′ 0 j e (omega arith) l p q) (zero-columns m′ (subst (Ready taps u b) (sym long) k) e i (n .zeros) (n .inside))
@@ -143,7 +143,7 @@ module _ (taps : List Float) (u : ℕ) (b : Block) where
   -- two columns in one pass, and all between them have a zero tap
   pub pair-done : (d m : List Float) → Ready taps u b (length d) → (j i : ℕ) → NextTap taps (j + 1) i → i < length taps → b .to + i ≤ b .n → eq (elem taps j) nought ≡ false
       → m ≡ over (scaled (columnAt j + (i - j)) (b .w) u (elem taps 0) (elem taps i)) (b .to - b .from) (over (scaled (columnAt j) (b .w) u (elem taps 0) (elem taps j)) (b .to - b .from) d)
-      → Moved b (inColumns j (i + 1) (columnOf taps u b d)) still d m
+      → Moved b (inColumns j (i + 1) (tapColumn taps u b d)) still d m
   pair-done d m k j i n h l nz e =
       let m₁ : List Float = over (scaled (columnAt j) (b .w) u (elem taps 0) (elem taps j)) (b .to - b .from) d in
       let place : columnAt j + (i - j) ≡ columnAt i = omega (arith, n .behind) in
@@ -176,6 +176,6 @@ module _ (taps : List Float) (u mean : ℕ) (b : Block) (d : List Float) (k : Re
       let old : (i : ℕ) → i + (b .to - b .from) ≤ b .rows → elem m (i + t) ≡ elem d (i + (b .from + t - b .from)) = λ i q. s .off (i + t) (λ r a c z. omega (arith, k .fit .right-at)) ∙ ap (λ (r : ℕ). elem d (i + r)) (omega arith) in
       rw (place, old u (k .pairs), old mean means)))))
 
-  pub terms-done : (m m′ : List Float) → Moved b (λ t j y. y) S d m → Moved b (columnOf taps u b m) still m m′ → Moved b (columnOf taps u b d) S d m′
-  unfolding columnOf
-  terms-done m m′ p q = moved-then b (λ t j y. y) (columnOf taps u b m) (columnOf taps u b d) S still S d m m′ (λ t j y h c a l. rw (seen taps u b d k (λ t j y. y) S m t p a l)) (λ t y h a l. refl) p q
+  pub terms-done : (m m′ : List Float) → Moved b (λ t j y. y) S d m → Moved b (tapColumn taps u b m) still m m′ → Moved b (tapColumn taps u b d) S d m′
+  unfolding tapColumn
+  terms-done m m′ p q = moved-then b (λ t j y. y) (tapColumn taps u b m) (tapColumn taps u b d) S still S d m m′ (λ t j y h c a l. rw (seen taps u b d k (λ t j y. y) S m t p a l)) (λ t y h a l. refl) p q

@@ -13,7 +13,7 @@ use Rattle.lists.proofs.Numbers.{le-or-lt}
 use Rattle.lists.proofs.Regions.{cut-length}
 use Rattle.region.specs.Rows.{elem}
 use Rattle.region.proofs.Readings.{part-elem}
-use Rattle.band.specs.Inner.Passes.{between, within, Moved, still}
+use Rattle.band.specs.Inner.Passes.{rowsBetween, within, Moved, still}
 use Rattle.band.specs.declared.passes.Block.{Block}
 
 -- ---- numbers from a to e
@@ -83,7 +83,7 @@ module _ (b : Block) where
   moved-same f f′ g g′ d m p q k = moved-then f (λ t j y. y) f′ g still g′ d m m p q k (moved-none (λ t j y. y) still m (λ t j y h l c e. refl) (λ t y h c e. refl))
 
   -- the rows before those of the block, then the block's
-  pub moved-next : (f : ℕ → ℕ → Float → Float) (g : ℕ → Float → Float) (d m m′ : List Float) → b .from ≤ b .to → Moved (between b 0 (b .from)) f g d m → Moved b f g m m′ → Moved (between b 0 (b .to)) f g d m′
+  pub moved-next : (f : ℕ → ℕ → Float → Float) (g : ℕ → Float → Float) (d m m′ : List Float) → b .from ≤ b .to → Moved (rowsBetween b 0 (b .from)) f g d m → Moved b f g m m′ → Moved (rowsBetween b 0 (b .to)) f g d m′
   moved-next f g d m m′ e k l = record {
     long = l .long ∙ k .long;
     others = λ i h. l .others i h ∙ k .others i h;
@@ -94,7 +94,7 @@ module _ (b : Block) where
   -- some of a block's rows, where nothing is to be done to the others
   pub moved-some : (a e : ℕ) (f f′ : ℕ → ℕ → Float → Float) (g g′ : ℕ → Float → Float) (d m : List Float) → ((t : ℕ) → a ≤ t → t < e → (b .from ≤ t) × (t < b .to))
       → ((t j : ℕ) (y : Float) → a ≤ t → t < e → f t j y ≡ f′ t j y) → ((t : ℕ) (y : Float) → a ≤ t → t < e → g t y ≡ g′ t y)
-      → Entries (λ t j y. (a ≤ t → t < e → ⊥) → f′ t j y ≡ y) → Sides (λ t y. (a ≤ t → t < e → ⊥) → g′ t y ≡ y) → Moved (between b a e) f g d m → Moved b f′ g′ d m
+      → Entries (λ t j y. (a ≤ t → t < e → ⊥) → f′ t j y ≡ y) → Sides (λ t y. (a ≤ t → t < e → ⊥) → g′ t y ≡ y) → Moved (rowsBetween b a e) f g d m → Moved b f′ g′ d m
   moved-some a e f f′ g g′ d m i p q p′ q′ k = record {
     long = k .long;
     others = k .others;

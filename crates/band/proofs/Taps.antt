@@ -18,8 +18,8 @@ use Rattle.lists.proofs.Regions.{cut-length}
 use Rattle.floats.specs.Numbers.{nought}
 use Rattle.region.specs.Rows.{elem}
 use Rattle.region.proofs.Readings.{part-elem}
-use Rattle.band.specs.Paper.{W, added, term, rightTerm}
-use Rattle.band.specs.Inner.Passes.{between, Room, Moved, Ready, inside, columnOf, sideOf, Stands, Window, windowIn, atFrame, tapEntry, tapSide, windowEntry, windowSide}
+use Rattle.band.specs.Paper.{W, plusTerm, term, rightTerm}
+use Rattle.band.specs.Inner.Passes.{rowsBetween, Room, Moved, Ready, inside, tapColumn, sideOf, Stands, Window, windowIn, atFrame, tapEntry, tapSide, windowEntry, windowSide}
 use Rattle.band.specs.declared.passes.Block.{Block}
 use Rattle.band.proofs.Terms.{either-way, W-own, W-tap, part-read, frames-before, frames-behind, term-idle, right-idle}
 use Rattle.band.proofs.Moves.{moved-none, moved-then, moved-same, moved-some, part-kept}
@@ -47,7 +47,7 @@ less-min : (a b : ℕ) → a - min a b ≡ a - b
 less-min a b = omega arith
 
 pub stands : (width k : ℕ) (b : Block) (x y z from to : ℕ) → x ≡ min (width / 2) k → y ≡ min k (width / 2) → from ≡ max (b .from) (k - y) → z ≡ min (b .n) (width / 2 - x) → to ≡ min (b .to) (b .n - z)
-    → Stands width k b (between b from to)
+    → Stands width k b (rowsBetween b from to)
 stands width k b x y z from to ex ey ef ez et =
     let half : ℕ = width / 2 in
     let first : from ≡ max (b .from) (k - half) = ef ∙ rw (ey, less-min k half) in
@@ -88,7 +88,7 @@ module _ (x : Window) (k : ℕ) (kb : k < length (x .taps)) where
   idle-side t y z = at-none half (x .n) k t (rightTerm (x .taps) (x .us) (x .ms) t) y (λ s. right-idle (x .taps) (x .us) (x .ms) t (t + half - k) (rw (own t (s .0)) (z s)) y)
 
   module _ (nz : eq (elem (x .taps) k) nought ≡ false) (t : ℕ) (y : Float) (s : There half (x .n) k t) where
-    in-entry : (j : ℕ) → tapEntry x k t j y ≡ inside (x .n) t j (added (mul binary64 (elem (x .taps) k) (elem (x .us) (t + half - k))) (getD (x .taps) (k + j) nought)) y
+    in-entry : (j : ℕ) → tapEntry x k t j y ≡ inside (x .n) t j (plusTerm (mul binary64 (elem (x .taps) k) (elem (x .us) (t + half - k))) (getD (x .taps) (k + j) nought)) y
     unfolding tapEntry term
     in-entry j =
         let e : t + half - (t + half - k) ≡ k = omega arith in
@@ -143,23 +143,23 @@ module _ (b : Block) (taps : List Float) (u mean k : ℕ) (d : List Float) (kb :
           read : (i : ℕ) → elem d (i + F + (t - s .from)) ≡ elem (part i (b .n) d) frame
           read i = let e : i + F + (t - s .from) ≡ i + frame = omega (arith, frames-there (length taps) k b s q most some .0) in ap (elem d) e ∙ part-elem i (b .n) frame d (there .1)
 
-          same-entry : (j : ℕ) → columnOf rest (u + F) (between b (s .from) (s .to)) d t j y ≡ tapEntry X k t j y
-          unfolding columnOf
+          same-entry : (j : ℕ) → tapColumn rest (u + F) (rowsBetween b (s .from) (s .to)) d t j y ≡ tapEntry X k t j y
+          unfolding tapColumn
           same-entry j = ⊎-elim
               (λ (l : b .n ≤ t + j). rw (le-ltb (t + j) (b .n) l) (sym (in-entry X k kb nz t y there j ∙ rw (le-ltb (t + j) (b .n) l))))
               (λ (l : t + j < b .n). let tail : getD rest j nought ≡ getD taps (k + j) nought = rw rb (part-read taps k few j nought (λ z. omega arith)) in rw (head, read u, tail) (sym (in-entry X k kb nz t y there j)))
               (le-or-lt (b .n) (t + j))
 
-          same-side : sideOf rest (u + F) (mean + F) (between b (s .from) (s .to)) d t y ≡ tapSide X k t y
+          same-side : sideOf rest (u + F) (mean + F) (rowsBetween b (s .from) (s .to)) d t y ≡ tapSide X k t y
           unfolding sideOf
           same-side = rw (head, read u, read mean) (sym (in-side X k kb nz t y there))
 
-        pub tap-done : eq (elem taps k) nought ≡ false → (m : List Float) → Moved s (columnOf rest (u + F) s d) (sideOf rest (u + F) (mean + F) s d) d m → Moved b (tapEntry X k) (tapSide X k) d m
+        pub tap-done : eq (elem taps k) nought ≡ false → (m : List Float) → Moved s (tapColumn rest (u + F) s d) (sideOf rest (u + F) (mean + F) s d) d m → Moved b (tapEntry X k) (tapSide X k) d m
         tap-done nz m p =
             moved-some b (s .from) (s .to) _ (tapEntry X k) _ (tapSide X k) d m (λ t a c. let l = q .inside t a c in (l .0, l .1))
             (λ t j y a c. same-entry nz t y a c j) (λ t y a c. same-side nz t y a c)
             (λ t j y h c f g o. idle-entry X k kb t j y (out t o h f g)) (λ t y h f g o. idle-side X k kb t y (out t o h f g))
-            (subst (λ (z : Block). Moved z (columnOf rest (u + F) z d) (sideOf rest (u + F) (mean + F) z d) d m) (q .band) p)
+            (subst (λ (z : Block). Moved z (tapColumn rest (u + F) z d) (sideOf rest (u + F) (mean + F) z d) d m) (q .band) p)
 
 -- ---- the taps of a window from the last to tap k: at row t these are the frames below t + half + 1 - k
 

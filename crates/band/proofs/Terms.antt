@@ -17,7 +17,7 @@ use Rattle.lists.proofs.Numbers.{le-or-lt}
 use Rattle.floats.specs.Numbers.{nought}
 use Rattle.region.specs.Rows.{elem}
 use Rattle.lists.specs.Parts.{part}
-use Rattle.band.specs.Paper.{W, added, term, rightTerm}
+use Rattle.band.specs.Paper.{W, plusTerm, term, rightTerm}
 use Rattle.band.specs.Inner.Fits.{onRow}
 use Rattle.lists.proofs.Builds.{build-at, build-is, build-same, build-rest}
 
@@ -37,16 +37,16 @@ same-at (x ∷ xs) zero d e l = refl
 same-at (x ∷ xs) (suc k) d e l = same-at xs k d e (omega arith)
 
 -- past the taps nothing is added
-pub added-past : (wu : Float) (taps : List Float) (j : ℕ) (y : Float) → length taps ≤ j → added wu (getD taps j nought) y ≡ y
+pub added-past : (wu : Float) (taps : List Float) (j : ℕ) (y : Float) → length taps ≤ j → plusTerm wu (getD taps j nought) y ≡ y
 added-past wu taps j y l = rw (List·getD-eq-default taps nought l, eq-nought)
 
 -- ---- taps added to a row d: j entries are done, and the rest is as it was
 
 module _ (wu : Float) (taps d : List Float) where
   abbrev plus : ℕ → Float
-  plus j = added wu (getD taps j nought) (elem d j)
+  plus j = plusTerm wu (getD taps j nought) (elem d j)
 
-  pub add-next : (row : List Float) (j : ℕ) (x : Float) → j < length taps → length taps ≤ length d → row ≡ build plus j ++ drop j d → x ≡ added wu (elem taps j) (elem row j)
+  pub add-next : (row : List Float) (j : ℕ) (x : Float) → j < length taps → length taps ≤ length d → row ≡ build plus j ++ drop j d → x ≡ plusTerm wu (elem taps j) (elem row j)
       → set row j x ≡ build plus (j + 1) ++ drop (j + 1) d
   add-next row j x h l e v =
       build-next plus d row j x nan (omega arith) (v ∙ rw (same-at taps j nan nought h, build-read plus d row j nan (omega arith) e)) e
@@ -157,7 +157,7 @@ module _ (taps ivars means : List Float) (t f : ℕ) (l : f ≤ t + length taps 
   reached j m e h = part-read taps (t + length taps / 2 - f) m j nought (λ g. omega arith) ∙ sym (W-tap taps t j f l)
 
   pub frame-row : (row : List Float) (m : ℕ) → eq c nought ≡ false → m ≡ min (length ivars - t) (length taps - (t + length taps / 2 - f))
-      → build (λ j. added (mul binary64 c (elem ivars f)) (getD (part (t + length taps / 2 - f) m taps) j nought) (elem row j)) (length row)
+      → build (λ j. plusTerm (mul binary64 c (elem ivars f)) (getD (part (t + length taps / 2 - f) m taps) j nought) (elem row j)) (length row)
       ≡ onRow (length ivars) t (λ s. term taps ivars t s f) row
   unfolding onRow term
   frame-row row m z e =

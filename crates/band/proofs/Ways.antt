@@ -20,7 +20,7 @@ use Rattle.model.proofs.Accepted.{accepted-whole, width-few}
 use Rattle.lists.specs.Build.{rows}
 use Rattle.band.specs.Paper.{bandRows, rightSide}
 use Rattle.band.specs.Inner.Fits.{Taps}
-use Rattle.band.specs.Promise.{framesOf, setRefusal, bandRefusal, BandSays}
+use Rattle.band.specs.Promise.{frameCount, setRefusal, bandRefusal, BandSays}
 use Rattle.lists.specs.Ends.{filledOf}
 use Rattle.lists.specs.declared.Filled.{Filled}
 use Rattle.lists.specs.declared.Filled.the-variants.{Done, Refused}
@@ -72,27 +72,27 @@ module _ (ws : List ℕ) (cs : List Float) (ok : windowRefusal ws cs ≡ 0) wher
 -- ---- how many frames there are
 
 module _ (ws : List ℕ) (cs : List Float) (m i : ℕ) where
-  pub frames-windows : (k : ℕ) → k ≡ windowRefusal ws cs → (k ≡ 0 → ⊥) → Refused k ≡ filledOf (setRefusal ws cs m i) (framesOf ws m)
+  pub frames-windows : (k : ℕ) → k ≡ windowRefusal ws cs → (k ≡ 0 → ⊥) → Refused k ≡ filledOf (setRefusal ws cs m i) (frameCount ws m)
   unfolding setRefusal
   frames-windows zero e h = absurd (h refl)
   frames-windows (suc k) e h = rw (← e)
 
   module _ (z : windowRefusal ws cs ≡ 0) where
-    pub frames-rest : (m % length ws ≡ 0 → ⊥) → Refused 4 ≡ filledOf (setRefusal ws cs m i) (framesOf ws m)
+    pub frames-rest : (m % length ws ≡ 0 → ⊥) → Refused 4 ≡ filledOf (setRefusal ws cs m i) (frameCount ws m)
     unfolding setRefusal
     frames-rest h = rw (z, ne-eqb (m % length ws) 0 h)
 
     module _ (q : m % length ws ≡ 0) where
-      pub frames-other : (i ≡ m → ⊥) → Refused 4 ≡ filledOf (setRefusal ws cs m i) (framesOf ws m)
+      pub frames-other : (i ≡ m → ⊥) → Refused 4 ≡ filledOf (setRefusal ws cs m i) (frameCount ws m)
       unfolding setRefusal
       frames-other h = rw (z, eq-eqb (m % length ws) 0 q, ne-eqb i m h)
 
       module _ (e : i ≡ m) where
-        pub frames-many : 65536 < m / length ws → Refused 5 ≡ filledOf (setRefusal ws cs m i) (framesOf ws m)
+        pub frames-many : 65536 < m / length ws → Refused 5 ≡ filledOf (setRefusal ws cs m i) (frameCount ws m)
         unfolding setRefusal
         frames-many h = rw (z, eq-eqb (m % length ws) 0 q, eq-eqb i m e, lt-ltb 65536 (m / length ws) h)
 
-        pub frames-few : m / length ws ≤ 65536 → Done (m / length ws) ≡ filledOf (setRefusal ws cs m i) (framesOf ws m)
+        pub frames-few : m / length ws ≤ 65536 → Done (m / length ws) ≡ filledOf (setRefusal ws cs m i) (frameCount ws m)
         unfolding setRefusal
         frames-few h = rw (z, eq-eqb (m % length ws) 0 q, eq-eqb i m e, le-ltb 65536 (m / length ws) h)
 
@@ -126,7 +126,7 @@ agree ws cs m i z =
 
 module _ (ws : List ℕ) (cs ms us A R : List Float) where
   abbrev n : ℕ
-  n = framesOf ws (length ms)
+  n = frameCount ws (length ms)
 
   abbrev refusal : ℕ
   refusal = bandRefusal ws cs ms us A R

@@ -20,13 +20,13 @@ unfoldable pub W : List Float → ℕ → ℕ → Float
 W taps f t = cond (ltb (t + length taps / 2) f) nought (getD taps (t + length taps / 2 - f) nought)
 
 -- RULES, Band rows: a zero tap adds nothing. y with wu c added, unless the tap c is zero
-abbrev pub added : Float → Float → Float → Float
-added wu c y = cond (eq c nought) y (add binary64 y (mul binary64 wu c))
+abbrev pub plusTerm : Float → Float → Float → Float
+plusTerm wu c y = cond (eq c nought) y (add binary64 y (mul binary64 wu c))
 
 -- entry (t, s) with frame f's term (W(f, t) u(f)) W(f, s) added
 unfoldable pub term : List Float → List Float → ℕ → ℕ → ℕ → Float → Float
 unfolding W
-term taps ivars t s f y = cond (eq (W taps f t) nought) y (added (mul binary64 (W taps f t) (elem ivars f)) (W taps f s) y)
+term taps ivars t s f y = cond (eq (W taps f t) nought) y (plusTerm (mul binary64 (W taps f t) (elem ivars f)) (W taps f s) y)
 
 -- the right side at t with frame f's term (W(f, t) u(f)) mean(f) added
 unfoldable pub rightTerm : List Float → List Float → List Float → ℕ → ℕ → Float → Float

@@ -18,28 +18,28 @@ use Rattle.lists.specs.Ends.{filled}
 use Rattle.lists.specs.declared.Filled.{Filled}
 
 -- a number a window and frame: means / windows frames
-abbrev pub framesOf : List ℕ → ℕ → ℕ
-framesOf widths means = means / length widths
+abbrev pub frameCount : List ℕ → ℕ → ℕ
+frameCount widths means = means / length widths
 
 -- RULES, Refusals: 1, 2 and 4 of the windows; 4 for a remainder, and for another number of inverse variances; 5 for more than 65,536 frames
 unfoldable pub setRefusal : List ℕ → List Float → ℕ → ℕ → ℕ
 unfolding windowRefusal
 setRefusal widths coefs means ivars =
     orElse (windowRefusal widths coefs)
-    (orElse (cond (eqb (means % length widths) 0) 0 4) (orElse (cond (eqb ivars means) 0 4) (cond (ltb mostFrames (framesOf widths means)) 5 0)))
+    (orElse (cond (eqb (means % length widths) 0) 0 4) (orElse (cond (eqb ivars means) 0 4) (cond (ltb mostFrames (frameCount widths means)) 5 0)))
 
 -- RULES, Refusals: the smallest number that applies; after those 6 for rows or a right side that is too short
 unfoldable pub bandRefusal : List ℕ → List Float → List Float → List Float → List Float → List Float → ℕ
 unfolding setRefusal
 bandRefusal widths coefs means ivars rows right =
-    let n = framesOf widths (length means) in
+    let n = frameCount widths (length means) in
     orElse (setRefusal widths coefs (length means) (length ivars)) (orElse (cond (ltb (length rows) (n * bandWidth widths)) 6 0) (cond (ltb (length right) n) 6 0))
 
 -- the frame count, the rows and the right side
 pub record BandSays (widths : List ℕ) (coefs means ivars rows right : List Float) (r : Filled) (rows′ right′ : List Float) : Type 0 where
-  pub answer : filled r ≡ answerOf (bandRefusal widths coefs means ivars rows right) (framesOf widths (length means) ∷ [])
-  pub matrix : rows′ ≡ written (bandRefusal widths coefs means ivars rows right) (bandRows widths coefs (framesOf widths (length means)) ivars (bandWidth widths)) rows
-  pub side : right′ ≡ written (bandRefusal widths coefs means ivars rows right) (rightSide widths coefs (framesOf widths (length means)) ivars means) right
+  pub answer : filled r ≡ answerOf (bandRefusal widths coefs means ivars rows right) (frameCount widths (length means) ∷ [])
+  pub matrix : rows′ ≡ written (bandRefusal widths coefs means ivars rows right) (bandRows widths coefs (frameCount widths (length means)) ivars (bandWidth widths)) rows
+  pub side : right′ ≡ written (bandRefusal widths coefs means ivars rows right) (rightSide widths coefs (frameCount widths (length means)) ivars means) right
 
 -- whether there are rows to be made: windows that the rules allow, a layout of theirs, and the regions of so many components within so many floats
 abbrev pub opens : List ℕ → List Float → Layout → ℕ → ℕ → Bool

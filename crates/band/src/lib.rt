@@ -6,7 +6,7 @@ ghost use Rattle.lists.specs.Build.{build};
 ghost use Rattle.band.specs.Paper.{rightSum, entryOf, bandRows, rightSide};
 ghost use Rattle.band.specs.Inner.Fits.{Fits};
 ghost use Rattle.lists.specs.Ends.{filledOf};
-ghost use Rattle.band.specs.Promise.{framesOf, setRefusal, BandSays, opens, RowsSay};
+ghost use Rattle.band.specs.Promise.{frameCount, setRefusal, BandSays, opens, RowsSay};
 use lists::Filled;
 use passes::calc_wuw_and_wum;
 use region::Layout;
@@ -72,7 +72,7 @@ fn write_rows(
 
 // How many frames the lists have, or the number of why they are refused.
 fn frames_of(widths: &[u32], coefficients: &[f64], means: usize, ivars: usize) -> Filled
-    ensures { λ r. ⌜ r ≡ filledOf (setRefusal (now (widths .entry)) (now (coefficients .entry)) means ivars) (framesOf (now (widths .entry)) means) ⌝ }
+    ensures { λ r. ⌜ r ≡ filledOf (setRefusal (now (widths .entry)) (now (coefficients .entry)) means ivars) (frameCount (now (widths .entry)) means) ⌝ }
 {
     let refused = model::voice::window::refusal(widths, coefficients);
     if refused != 0 {

@@ -9,7 +9,7 @@ ghost use Rattle.region.specs.Rows.{elem};
 ghost use Rattle.region.specs.Region.{sizeOf, regionIn, flat};
 ghost use Rattle.band.specs.Promise.{rowedIn};
 ghost use Rattle.band.specs.Inner.Fits.{Taps};
-ghost use Rattle.band.specs.Inner.Passes.{Room, Moved, Cleared, NextTap, Ready, still, inColumns, columnOf, sideOf, Stands, windowIn, setIn, tapEntry, tapSide, windowEntry, windowSide, windowsEntry, windowsSide, wholeEntry, wholeSide};
+ghost use Rattle.band.specs.Inner.Passes.{Room, Moved, Cleared, NextTap, Ready, still, inColumns, tapColumn, sideOf, Stands, windowIn, setIn, tapEntry, tapSide, windowEntry, windowSide, windowsEntry, windowsSide, wholeEntry, wholeSide};
 use super::row::part_at;
 use region::Layout;
 
@@ -29,7 +29,7 @@ struct Block {
 // Column j of a block's rows with the terms of the first tap added. From place u on are the inverse variances of the frames that the tap stands at, a row each.
 fn add_column(m: &mut [f64], taps: &[f64], j: usize, u: usize, b: Block)
     requires { ⌜ (j < length (now taps)) × (eq (elem (now taps) j) nought ≡ false) × Ready (now taps) u b (length (now m)) ⌝ }
-    ensures { λ _. ⌜ Moved b (inColumns j (j + 1) (columnOf (now (taps .entry)) u b (now (m .entry)))) still (now (m .entry)) (now (m .exit)) ⌝ }
+    ensures { λ _. ⌜ Moved b (inColumns j (j + 1) (tapColumn (now (taps .entry)) u b (now (m .entry)))) still (now (m .entry)) (now (m .exit)) ⌝ }
 {
     let to = lists::larger(b.from, lists::least(b.to, b.n - j));
     let count = to - b.from;
@@ -48,7 +48,7 @@ fn add_column(m: &mut [f64], taps: &[f64], j: usize, u: usize, b: Block)
 // Columns j to i, of which only j and i have a tap, and every row both: what is the same for both is worked out once.
 fn add_pair(m: &mut [f64], taps: &[f64], j: usize, i: usize, u: usize, b: Block)
     requires { ⌜ (eq (elem (now taps) j) nought ≡ false) × NextTap (now taps) (j + 1) i × (i < length (now taps)) × (b .to + i ≤ b .n) × Ready (now taps) u b (length (now m)) ⌝ }
-    ensures { λ _. ⌜ Moved b (inColumns j (i + 1) (columnOf (now (taps .entry)) u b (now (m .entry)))) still (now (m .entry)) (now (m .exit)) ⌝ }
+    ensures { λ _. ⌜ Moved b (inColumns j (i + 1) (tapColumn (now (taps .entry)) u b (now (m .entry)))) still (now (m .entry)) (now (m .exit)) ⌝ }
 {
     let gap = i - j;
     let count = b.to - b.from;
@@ -85,7 +85,7 @@ fn next_tap(taps: &[f64], from: usize) -> usize
 // All columns, two at a time where every row has both.
 fn add_columns(m: &mut [f64], taps: &[f64], u: usize, b: Block)
     requires { ⌜ Ready (now taps) u b (length (now m)) ⌝ }
-    ensures { λ _. ⌜ Moved b (columnOf (now (taps .entry)) u b (now (m .entry))) still (now (m .entry)) (now (m .exit)) ⌝ }
+    ensures { λ _. ⌜ Moved b (tapColumn (now (taps .entry)) u b (now (m .entry))) still (now (m .entry)) (now (m .exit)) ⌝ }
 {
     let whole = lists::least(taps.len(), b.n - b.to + 1);
     let mut j = next_tap(taps, 0);
@@ -104,7 +104,7 @@ fn add_columns(m: &mut [f64], taps: &[f64], u: usize, b: Block)
 // The right side with the first tap's terms added, and then all columns. From place `mean` on are the frames' means.
 fn add_terms(m: &mut [f64], taps: &[f64], u: usize, mean: usize, b: Block)
     requires { ⌜ (0 < length (now taps)) × (mean + (b .to - b .from) ≤ b .rows) × Ready (now taps) u b (length (now m)) ⌝ }
-    ensures { λ _. ⌜ Moved b (columnOf (now (taps .entry)) u b (now (m .entry))) (sideOf (now (taps .entry)) u mean b (now (m .entry))) (now (m .entry)) (now (m .exit)) ⌝ }
+    ensures { λ _. ⌜ Moved b (tapColumn (now (taps .entry)) u b (now (m .entry))) (sideOf (now (taps .entry)) u mean b (now (m .entry))) (now (m .entry)) (now (m .exit)) ⌝ }
 {
     let count = b.to - b.from;
     let c = taps[0];

@@ -7,7 +7,7 @@ ghost use Rattle.lists.specs.Build.{over};
 ghost use Rattle.floats.specs.Numbers.{nought};
 ghost use Rattle.region.specs.Rows.{elem, entry};
 ghost use Rattle.lists.specs.Parts.{part};
-ghost use Rattle.band.specs.Paper.{added, term, rightTerm, rightSum, entryOf};
+ghost use Rattle.band.specs.Paper.{plusTerm, term, rightTerm, rightSum, entryOf};
 ghost use Rattle.band.specs.Inner.Fits.{onRow, Fits};
 
 // Element i.
@@ -28,7 +28,7 @@ pub(crate) fn part_at(s: &[f64], o: usize, n: usize) -> &[f64]
 
 // y with wu times the tap c added, unless c is zero.
 fn add_tap(wu: f64, c: f64, y: f64) -> f64
-    ensures { λ r. ⌜ r ≡ added wu c y ⌝ }
+    ensures { λ r. ⌜ r ≡ plusTerm wu c y ⌝ }
 {
     if c == 0.0 { y } else { y + wu * c }
 }
@@ -36,7 +36,7 @@ fn add_tap(wu: f64, c: f64, y: f64) -> f64
 // A row with wu times the taps added.
 fn add_taps(wu: f64, taps: &[f64], row: &mut [f64])
     requires { ⌜ length (now taps) ≤ length (now row) ⌝ }
-    ensures { λ _. ⌜ now (row .exit) ≡ build (λ j. added wu (getD (now (taps .entry)) j nought) (elem (now (row .entry)) j)) (length (now (row .entry))) ⌝ }
+    ensures { λ _. ⌜ now (row .exit) ≡ build (λ j. plusTerm wu (getD (now (taps .entry)) j nought) (elem (now (row .entry)) j)) (length (now (row .entry))) ⌝ }
 {
     let mut j = 0;
     while j < taps.len() {

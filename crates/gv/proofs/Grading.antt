@@ -18,12 +18,12 @@ use Rattle.region.specs.Rows.{elem}
 use Rattle.region.specs.Region.{Spaced}
 use Rattle.region.specs.declared.Places.{Places}
 use Rattle.region.proofs.Readings.{part-elem, read-under}
-use Rattle.gv.specs.Gv.{ahead, behind, beside, gradientAt, gradient, hmmTerm, hmmObj}
+use Rattle.gv.specs.Gv.{plusRight, plusLeft, beside, gradientAt, gradient, hmmTerm, hmmObj}
 use Rattle.gv.specs.Inner.Turns.{Graded}
 
 -- ---- a row: g has the diagonal and k entries to each side
 
-pub beside-next : (w : ℕ) (wuw par : List Float) (t k : ℕ) (g y x z : Float) → g ≡ over (beside w wuw par t) k y → x ≡ ahead w wuw par t (k + 1) g → z ≡ behind w wuw par t (k + 1) x → z ≡ over (beside w wuw par t) (k + 1) y
+pub beside-next : (w : ℕ) (wuw par : List Float) (t k : ℕ) (g y x z : Float) → g ≡ over (beside w wuw par t) k y → x ≡ plusRight w wuw par t (k + 1) g → z ≡ plusLeft w wuw par t (k + 1) x → z ≡ over (beside w wuw par t) (k + 1) y
 beside-next w wuw par t k g y x z e a b = b ∙ rw (a, e) (over-step (beside w wuw par t) k y)
 
 -- ---- the rows: m is a region d with t rows of its gradient, h the sum of their terms

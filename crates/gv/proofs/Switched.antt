@@ -16,7 +16,7 @@ use Rattle.lists.specs.Flags.{isOn}
 use Rattle.lists.proofs.Flags.{on-true}
 use Rattle.lists.proofs.Counts.{count-most}
 use Rattle.region.specs.Rows.{elem}
-use Rattle.gv.specs.Gv.{sumOf}
+use Rattle.gv.specs.Gv.{sumFromFirst}
 use Rattle.gv.specs.Inner.Turns.{firstOn, joined, Sampled}
 use Rattle.gv.specs.declared.MlpgGlobalVariance.{MlpgGlobalVariance}
 
@@ -102,11 +102,11 @@ sumFrom f on par t sum = foldFrom (λ a y. add binary64 a (f y)) sum (select (dr
 
 pub record Summing (f : Float → Float) (on : List ℕ) (par : List Float) (t : ℕ) (sum : Float) : Type 0 where
   pub within : t ≤ length par
-  pub rest : sumFrom f on par t sum ≡ sumOf f (select (map isOn on) par)
+  pub rest : sumFrom f on par t sum ≡ sumFromFirst f (select (map isOn on) par)
 
 module _ (f : Float → Float) (on : List ℕ) (par : List Float) (e : length on ≡ length par) where
   pub summing-first : (k : ℕ) (sum : Float) → k ≡ firstOn (map isOn on) → k < length on → sum ≡ f (elem par k) → Summing f on par (k + 1) sum
-  unfolding sumOf
+  unfolding sumFromFirst
   summing-first k sum o h q =
       let b : firstOn (map isOn on) < length (map isOn on) = omega (arith, bools-length on) in
       record { within = omega arith; rest = rw (q, select-first (map isOn on) par (bools-length on ∙ e) b, ← o, add-one) }
@@ -121,6 +121,6 @@ module _ (f : Float → Float) (on : List ℕ) (par : List Float) (e : length on
         ]) refl in
         record { within = omega arith; rest = rw q (one ∙ k .rest) }
 
-    pub summing-done : length par ≤ t → sum ≡ sumOf f (select (map isOn on) par)
+    pub summing-done : length par ≤ t → sum ≡ sumFromFirst f (select (map isOn on) par)
     unfolding select foldFrom
     summing-done h = rw (none on t (omega arith)) at (k .rest)

@@ -11,13 +11,13 @@ use Rattle.lists.specs.Parts.{part}
 use Rattle.lists.proofs.Regions.{cut-length}
 use Rattle.region.specs.Rows.{elem, entry}
 use Rattle.region.proofs.Readings.{part-elem}
-use Rattle.gv.specs.Gv.{ahead, behind, gradientAt}
+use Rattle.gv.specs.Gv.{plusRight, plusLeft, gradientAt}
 
 pub three-gradient : (m : List Float) (rows values n t : ℕ) → 2 ≤ t → t + 2 < n → values + n ≤ length m
     → add binary64 (add binary64 (add binary64 (add binary64 (mul binary64 (elem m (rows + t * 3)) (elem m (values + t))) (mul binary64 (elem m (rows + t * 3 + 1)) (elem m (values + t + 1))))
     (mul binary64 (elem m (rows + t * 3 - 2)) (elem m (values + t - 1)))) (mul binary64 (elem m (rows + t * 3 + 2)) (elem m (values + t + 2)))) (mul binary64 (elem m (rows + t * 3 - 4)) (elem m (values + t - 2)))
     ≡ gradientAt 3 (part rows (n * 3) m) (part values n m) t
-unfolding gradientAt over ahead behind
+unfolding gradientAt over plusRight plusLeft
 three-gradient m rows values n t b h l =
     let A : List Float = part rows (n * 3) m in
     let P : List Float = part values n m in

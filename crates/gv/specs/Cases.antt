@@ -9,7 +9,7 @@ use Rattle.lists.specs.Frames.{select, count}
 use Rattle.floats.specs.Root.{sqrtOf}
 use Rattle.region.specs.Region.{Region}
 use Rattle.region.specs.declared.Layout.{Layout}
-use Rattle.gv.specs.Gv.{sumOf, meanOf, variOf, convGv, ahead, behind, gradientAt, gradient, hmmObj, sizeAfter}
+use Rattle.gv.specs.Gv.{sumFromFirst, meanOf, variOf, convGv, plusRight, plusLeft, gradientAt, gradient, hmmObj, sizeAfter}
 use Rattle.gv.specs.Parmgen.{iterate, nextAt, nextStep, objective, turn, parmgen}
 use Rattle.gv.specs.Promise.{opens, variedIn}
 
@@ -47,11 +47,11 @@ varied on = variedIn plan on (ofBits binary64 0x4000000000000000) (ofBits binary
 
 -- frames 0 and 2 are switched: the values, and in front of the factors the gradient of those before the fifth step
 pub some-switched : bitsOf (varied (true ∷ false ∷ true ∷ []) .values) ≡ 0x3fe1a09a2b1124e8 ∷ 0x4000000000000000 ∷ 0x400b97d9753bb6c6 ∷ []
-unfolding bitsOf varied fromBits parmgen iterate turn objective nextStep nextAt sizeAfter hmmObj over gradient gradientAt ahead behind convGv meanOf variOf build foldFrom sumOf select count sqrtOf add sub mul div neg lt ofInt ofBits
+unfolding bitsOf varied fromBits parmgen iterate turn objective nextStep nextAt sizeAfter hmmObj over gradient gradientAt plusRight plusLeft convGv meanOf variOf build foldFrom sumFromFirst select count sqrtOf add sub mul div neg lt ofInt ofBits
 some-switched = refl
 
 pub gradient-left : bitsOf (varied (true ∷ false ∷ true ∷ []) .factors) ≡ 0xbfc5f67ed77af45c ∷ 0x4000000000000000 ∷ 0x4010afb3f6bbd7a2 ∷ 4 ∷ 5 ∷ 6 ∷ 7 ∷ 8 ∷ 9 ∷ []
-unfolding bitsOf varied fromBits parmgen iterate turn objective nextStep nextAt sizeAfter hmmObj over gradient gradientAt ahead behind convGv meanOf variOf build foldFrom sumOf select count sqrtOf add sub mul div neg lt ofInt ofBits
+unfolding bitsOf varied fromBits parmgen iterate turn objective nextStep nextAt sizeAfter hmmObj over gradient gradientAt plusRight plusLeft convGv meanOf variOf build foldFrom sumFromFirst select count sqrtOf add sub mul div neg lt ofInt ofBits
 gradient-left = refl
 
 -- none is

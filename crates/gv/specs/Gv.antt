@@ -37,15 +37,15 @@ stepInc = ofBits binary64 0x3ff3333333333333
 -- ---- `calc_gv`: mean and variance of the switched values
 
 -- RULES, Global variance: the sums of mean and variance start with their first term; of no term it is never asked
-unfoldable pub sumOf : (Float → Float) → List Float → Float
+unfoldable pub sumFromFirst : (Float → Float) → List Float → Float
 unfolding foldFrom
-sumOf f [] = nan
-sumOf f (x ∷ xs) = foldFrom (λ a y. add binary64 a (f y)) (f x) xs
+sumFromFirst f [] = nan
+sumFromFirst f (x ∷ xs) = foldFrom (λ a y. add binary64 a (f y)) (f x) xs
 
 -- their mean
 unfoldable pub meanOf : List Bool → List Float → Float
-unfolding sumOf select count
-meanOf on par = div binary64 (sumOf (λ x. x) (select on par)) (number (count on))
+unfolding sumFromFirst select count
+meanOf on par = div binary64 (sumFromFirst (λ x. x) (select on par)) (number (count on))
 
 -- a squared deviation
 abbrev pub squared : Float → Float → Float
@@ -53,8 +53,8 @@ squared mean x = mul binary64 (sub binary64 x mean) (sub binary64 x mean)
 
 -- their variance: the mean of the squared deviations
 unfoldable pub variOf : List Bool → List Float → Float
-unfolding sumOf select count meanOf
-variOf on par = div binary64 (sumOf (squared (meanOf on par)) (select on par)) (number (count on))
+unfolding sumFromFirst select count meanOf
+variOf on par = div binary64 (sumFromFirst (squared (meanOf on par)) (select on par)) (number (count on))
 
 -- ---- `conv_gv`: the switched values drawn apart about their mean
 
@@ -78,20 +78,20 @@ convGv on gvMean par = build (convAt on (meanOf on par) (ratioOf gvMean (variOf 
 -- ---- `calc_hmmobj_derivative`: g is the matrix before factoring times the values, hmmobj the objective's first part
 
 -- row t is the diagonal, then for i = 1, 2, .. the entry to the right, if there is one, and the one to the left: a sum g with the one to the right
-unfoldable pub ahead : ℕ → List Float → List Float → ℕ → ℕ → Float → Float
-ahead w wuw par t i g = cond (ltb (t + i) (length par)) (add binary64 g (mul binary64 (entry w wuw t i) (elem par (t + i)))) g
+unfoldable pub plusRight : ℕ → List Float → List Float → ℕ → ℕ → Float → Float
+plusRight w wuw par t i g = cond (ltb (t + i) (length par)) (add binary64 g (mul binary64 (entry w wuw t i) (elem par (t + i)))) g
 
 -- and with the one to the left, which stands in the row that it mirrors
-unfoldable pub behind : ℕ → List Float → List Float → ℕ → ℕ → Float → Float
-behind w wuw par t i g = cond (leb i t) (add binary64 g (mul binary64 (entry w wuw (t - i) i) (elem par (t - i)))) g
+unfoldable pub plusLeft : ℕ → List Float → List Float → ℕ → ℕ → Float → Float
+plusLeft w wuw par t i g = cond (leb i t) (add binary64 g (mul binary64 (entry w wuw (t - i) i) (elem par (t - i)))) g
 
 -- both, for i = k + 1
 abbrev pub beside : ℕ → List Float → List Float → ℕ → ℕ → Float → Float
-beside w wuw par t k g = behind w wuw par t (k + 1) (ahead w wuw par t (k + 1) g)
+beside w wuw par t k g = plusLeft w wuw par t (k + 1) (plusRight w wuw par t (k + 1) g)
 
 -- all of row t
 unfoldable pub gradientAt : ℕ → List Float → List Float → ℕ → Float
-unfolding over ahead behind
+unfolding over plusRight plusLeft
 gradientAt w wuw par t = over (beside w wuw par t) (w - 1) (mul binary64 (entry w wuw t 0) (elem par t))
 
 -- all rows

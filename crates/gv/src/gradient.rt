@@ -7,7 +7,7 @@ ghost use lib.Ieee.{Float, binary64, add, mul};
 ghost use Rattle.lists.specs.Parts.{part};
 ghost use Rattle.region.specs.Rows.{elem};
 ghost use Rattle.region.specs.Region.{Spaced};
-ghost use Rattle.gv.specs.Gv.{ahead, behind, gradientAt, hmmTerm};
+ghost use Rattle.gv.specs.Gv.{plusRight, plusLeft, gradientAt, hmmTerm};
 ghost use Rattle.gv.specs.Inner.Turns.{Graded};
 use super::objective::hmm_term;
 use super::reads::at;
@@ -17,7 +17,7 @@ use region::Places;
 // The matrix's entry i to the right of row t's diagonal, times its value.
 fn add_ahead(wuw: &[f64], par: &[f64], w: usize, t: usize, i: usize, g: f64) -> f64
     requires { ⌜ (i < w) × (t < length (now par)) × (length (now par) * w ≤ length (now wuw)) × (w < 2 ^ 32) ⌝ }
-    ensures { λ x. ⌜ x ≡ ahead w (now (wuw .entry)) (now (par .entry)) t i g ⌝ }
+    ensures { λ x. ⌜ x ≡ plusRight w (now (wuw .entry)) (now (par .entry)) t i g ⌝ }
 {
     if t + i < par.len() {
         return g + at(wuw, w, t, i) * el(par, t + i);
@@ -28,7 +28,7 @@ fn add_ahead(wuw: &[f64], par: &[f64], w: usize, t: usize, i: usize, g: f64) -> 
 // The one to the left, which stands in the row that it mirrors.
 fn add_behind(wuw: &[f64], par: &[f64], w: usize, t: usize, i: usize, g: f64) -> f64
     requires { ⌜ (i < w) × (t < length (now par)) × (length (now par) * w ≤ length (now wuw)) ⌝ }
-    ensures { λ x. ⌜ x ≡ behind w (now (wuw .entry)) (now (par .entry)) t i g ⌝ }
+    ensures { λ x. ⌜ x ≡ plusLeft w (now (wuw .entry)) (now (par .entry)) t i g ⌝ }
 {
     if i <= t {
         let p = t - i;

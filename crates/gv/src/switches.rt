@@ -7,7 +7,7 @@ ghost use lib.ListN.{length, getD};
 ghost use Rattle.lists.specs.Build.{build};
 ghost use Rattle.lists.specs.Frames.{select, count};
 ghost use Rattle.lists.specs.Flags.{isOn};
-ghost use Rattle.gv.specs.Gv.{sumOf, squared, convAt};
+ghost use Rattle.gv.specs.Gv.{sumFromFirst, squared, convAt};
 ghost use Rattle.gv.specs.Inner.Turns.{firstOn, joined};
 use super::reads::el;
 
@@ -66,7 +66,7 @@ fn add_value(sum: f64, par: &[f64], on: &[u32], t: usize) -> f64
 // The sum of the switched values, which starts with the first of them.
 pub(crate) fn switched_sum(par: &[f64], on: &[u32], first: usize) -> f64
     requires { ⌜ (length (now on) ≡ length (now par)) × (first ≡ firstOn (map isOn (now on))) × (first < length (now on)) ⌝ }
-    ensures { λ r. ⌜ r ≡ sumOf (λ x. x) (select (map isOn (now (on .entry))) (now (par .entry))) ⌝ }
+    ensures { λ r. ⌜ r ≡ sumFromFirst (λ x. x) (select (map isOn (now (on .entry))) (now (par .entry))) ⌝ }
 {
     let mut sum = el(par, first);
     let mut t = first + 1;
@@ -92,7 +92,7 @@ fn add_square(sum: f64, par: &[f64], on: &[u32], t: usize, mean: f64) -> f64
 // The sum of their squared deviations, which starts with the first of them.
 pub(crate) fn squares_sum(par: &[f64], on: &[u32], first: usize, mean: f64) -> f64
     requires { ⌜ (length (now on) ≡ length (now par)) × (first ≡ firstOn (map isOn (now on))) × (first < length (now on)) ⌝ }
-    ensures { λ r. ⌜ r ≡ sumOf (squared mean) (select (map isOn (now (on .entry))) (now (par .entry))) ⌝ }
+    ensures { λ r. ⌜ r ≡ sumFromFirst (squared mean) (select (map isOn (now (on .entry))) (now (par .entry))) ⌝ }
 {
     let d = el(par, first) - mean;
     let mut sum = d * d;

@@ -3,7 +3,6 @@
 ghost use mathlib.Core.Path.{_≡_};
 ghost use Rattle.duration.specs.Promise.{fitted, aligned};
 ghost use Rattle.lists.specs.Ends.{filled};
-ghost use Rattle.mlpg_adjust.specs.Promise.{createdNumber};
 ghost use Rattle.spool.specs.Promise.{placed, spanned};
 ghost use Rattle.job.specs.Promise.{answered};
 ghost use Rattle.hejmirov.specs.Promise.{HandsOne, HandsTwo, HandsThree, varianceOf, FitCallSays, SpeedCallSays, AlignCallSays, MaskCallSays, BandCallSays, TrajectoryCallSays, PlaceCallSays, ExcerptCallSays, JobCallSays};
@@ -11,7 +10,6 @@ use duration::Aligned;
 use duration::Fitted;
 use job::Answered;
 use lists::Filled;
-use mlpg_adjust::Created;
 use mlpg_adjust::GlobalVariance;
 use mlpg_adjust::Stream;
 use spool::Placed;
@@ -148,16 +146,7 @@ pub extern "C" fn hejmirov_band_rows(
     ensures { λ r. ⌜ BandCallSays (now (widths .entry)) (now (coefficients .entry)) (now (means .entry)) (now (ivars .entry)) (now (rows .entry)) (now (right .entry)) r (now (rows .exit)) (now (right .exit)) ⌝ }
 {
     let answer = band::band_rows(widths, coefficients, means, ivars, rows, right);
-    number_of_rows(answer)
-}
-
-fn number_of_rows(answer: Filled) -> u32
-    ensures { λ r. ⌜ r ≡ filled answer .number ⌝ }
-{
-    match answer {
-        Filled::Done(_) => 0,
-        Filled::Refused(number) => number as u32,
-    }
+    answer.number() as u32
 }
 
 // The trajectory of a stream, from its states' records.
@@ -201,7 +190,7 @@ pub extern "C" fn hejmirov_trajectory(
         work,
         marks,
     );
-    number_of_trajectory(answer)
+    answer.number() as u32
 }
 
 fn variance_of(on: u32, weight: f64) -> GlobalVariance
@@ -211,15 +200,6 @@ fn variance_of(on: u32, weight: f64) -> GlobalVariance
         return GlobalVariance::Off;
     }
     GlobalVariance::On(weight)
-}
-
-fn number_of_trajectory(answer: Created) -> u32
-    ensures { λ r. ⌜ r ≡ createdNumber answer ⌝ }
-{
-    match answer {
-        Created::Done => 0,
-        Created::Refused(number) => number as u32,
-    }
 }
 
 // The byte place of a frame's component in the spool.

@@ -20,8 +20,8 @@ use Rattle.job.specs.declared.Answered.the-variants.{Done, Refused}
 use Rattle.job.specs.declared.Heading.{Heading}
 use Rattle.job.specs.declared.Heading.the-variants.{States, Damaged}
 use Rattle.job.specs.Format.{countOf, Job, jobAt, formatRefusal}
-use Rattle.job.specs.Inner.Reading.{headed, CreateSays}
-use Rattle.job.specs.Promise.{fitOf, refusalOf, JobSays}
+use Rattle.job.specs.Inner.Reading.{headed, StatesFitted}
+use Rattle.job.specs.Promise.{jobFit, jobRefusal, JobSays}
 use Rattle.job.proofs.Departures.{accepted-job}
 use Rattle.job.proofs.Pairs.{floats-long}
 use Rattle.job.proofs.Frames.{Bounded, speed-bounded}
@@ -39,21 +39,21 @@ module _ (k : ℕ) (values new : List ℕ) (n : ℕ) (out work out′ work′ : 
 
 -- ---- durations that `create` does not refuse, at the front of its output
 
-module _ (j : Job) (out work out′ : List ℕ) (z : refusalOf j out work ≡ 0) (o : out′ ≡ written (refusalOf j out work) (fitOf j .durations) out) where
+module _ (j : Job) (out work out′ : List ℕ) (z : jobRefusal j out work ≡ 0) (o : out′ ≡ written (jobRefusal j out work) (jobFit j .durations) out) where
   none : (refusalOfLists (length (j .means)) (length (j .varis)) (length out) (length work) ≡ 0) × (refusalAt (j .means) (j .varis) (j .speed) ≡ 0)
   none = or-none (refusalOfLists (length (j .means)) (length (j .varis)) (length out) (length work)) (refusalAt (j .means) (j .varis) (j .speed)) z
 
-  pub fit-bounded : Bounded (length (j .means)) (fitOf j)
+  pub fit-bounded : Bounded (length (j .means)) (jobFit j)
   fit-bounded = let f = fitting _ _ _ _ (none .0) in speed-bounded (j .means) (j .varis) (f .few) (f .agree) (j .speed) (none .1)
 
-  out-is : out′ ≡ fitOf j .durations ++ drop (length (fitOf j .durations)) out
-  out-is = o ∙ ap (λ (k : ℕ). written k (fitOf j .durations) out) z
+  out-is : out′ ≡ jobFit j .durations ++ drop (length (jobFit j .durations)) out
+  out-is = o ∙ ap (λ (k : ℕ). written k (jobFit j .durations) out) z
 
   pub fit-room : length (j .means) ≤ length out′
   fit-room = rw out-is (simp length-append (omega (arith, fit-bounded .count)))
 
-  pub fit-taken : take (length (j .means)) out′ ≡ fitOf j .durations
-  fit-taken = ap (take (length (j .means))) out-is ∙ take-at (fitOf j .durations) (drop (length (fitOf j .durations)) out) (length (j .means)) (fit-bounded .count)
+  pub fit-taken : take (length (j .means)) out′ ≡ jobFit j .durations
+  fit-taken = ap (take (length (j .means))) out-is ∙ take-at (jobFit j .durations) (drop (length (jobFit j .durations)) out) (length (j .means)) (fit-bounded .count)
 
 -- ---- a job that departs from the format
 
@@ -82,30 +82,30 @@ module _ (bytes : List ℕ) (s : ℕ) (h : Heading) (g : h ≡ States s) (e : he
   long : length (j .means) ≡ s
   long = floats-long bytes 15 s
 
-  module _ (out work : List ℕ) (r : Fitted) (out′ work′ : List ℕ) (f : CreateSays j out work r out′ work′) where
+  module _ (out work : List ℕ) (r : Fitted) (out′ work′ : List ℕ) (f : StatesFitted j out work r out′ work′) where
     abbrev k : ℕ
-    k = refusalOf j out work
+    k = jobRefusal j out work
 
     pub job-refused : (m number : ℕ) → r ≡ Fit·Refused m → number ≡ fitted r .number → JobSays bytes out work (Refused number) out′ work′
-    job-refused m number d q = rw (sound .0, ← count-is, q ∙ ap (λ (x : Fitted). fitted x .number) d) (says-refused k _ (fitOf j .durations) (length (j .means)) out work out′ work′ _ m (rw d at f))
+    job-refused m number d q = rw (sound .0, ← count-is, q ∙ ap (λ (x : Fitted). fitted x .number) d) (says-refused k _ (jobFit j .durations) (length (j .means)) out work out′ work′ _ m (rw d at f))
 
     -- accepted, with c changes
     module _ (c : ℕ) (d : r ≡ Fit·Done c) where
-      done : (k ≡ 0) × (c ∷ [] ≡ fitOf j .changes ∷ [])
+      done : (k ≡ 0) × (c ∷ [] ≡ jobFit j .changes ∷ [])
       done = accepted-is (fitted (Fit·Done c)) k _ (sym (ap fitted d) ∙ f .answer) refl
 
       pub job-room : s ≤ length out′
       job-room = rw long at (fit-room j out work out′ (done .0) (f .output))
 
       module _ (frames : ℕ) (q : frames ≡ total (take (2 ^ 32) (take s out′))) where
-        bounded : Bounded (length (j .means)) (fitOf j)
+        bounded : Bounded (length (j .means)) (jobFit j)
         bounded = fit-bounded j out work out′ (done .0) (f .output)
 
-        frames-is : frames ≡ total (fitOf j .durations)
+        frames-is : frames ≡ total (jobFit j .durations)
         frames-is =
-            let t : take s out′ ≡ fitOf j .durations = rw long at (fit-taken j out work out′ (done .0) (f .output)) in
-            let l : length (fitOf j .durations) ≤ 4294967296 = omega (arith, bounded .count, long, few-states) in
-            q ∙ rw t (total-whole (fitOf j .durations) l)
+            let t : take s out′ ≡ jobFit j .durations = rw long at (fit-taken j out work out′ (done .0) (f .output)) in
+            let l : length (jobFit j .durations) ≤ 4294967296 = omega (arith, bounded .count, long, few-states) in
+            q ∙ rw t (total-whole (jobFit j .durations) l)
 
         pub job-few : frames ≤ mostFrames
         job-few = rw frames-is (bounded .few)
@@ -113,6 +113,6 @@ module _ (bytes : List ℕ) (s : ℕ) (h : Heading) (g : h ≡ States s) (e : he
         pub job-done : JobSays bytes out work (Done s frames c) out′ work′
         job-done =
             let v = done .1 in
-            let u : c ≡ fitOf j .changes = cc in
+            let u : c ≡ jobFit j .changes = cc in
             rw (sound .0, ← count-is)
-            (says-accepted k (length (j .means) ∷ total (fitOf j .durations) ∷ fitOf j .changes ∷ []) (fitOf j .durations) (length (j .means)) out work out′ work′ _ (record { number = 0; values = s ∷ frames ∷ c ∷ [] }) (fitted r) (done .0) (rw (long, frames-is, u)) f)
+            (says-accepted k (length (j .means) ∷ total (jobFit j .durations) ∷ jobFit j .changes ∷ []) (jobFit j .durations) (length (j .means)) out work out′ work′ _ (record { number = 0; values = s ∷ frames ∷ c ∷ [] }) (fitted r) (done .0) (rw (long, frames-is, u)) f)

@@ -12,7 +12,7 @@ use Rattle.lists.proofs.Refusals.{or-none}
 use Rattle.job.specs.declared.Answered.{Answered}
 use Rattle.job.specs.declared.Answered.the-variants.{Done, Refused}
 use Rattle.job.specs.Format.{IsJob, Job, jobOf, formatRefusal}
-use Rattle.job.specs.Promise.{answered, fitOf, refusalOf, JobSays}
+use Rattle.job.specs.Promise.{answered, jobFit, jobRefusal, JobSays}
 use Rattle.job.proofs.Departures.{job-accepted, no-job-9}
 use Rattle.job.proofs.Answers.{fit-room, fit-taken, damaged}
 
@@ -42,11 +42,11 @@ module _ (bytes out work : List ℕ) (r : Answered) (out′ work′ : List ℕ) 
       (same a .0 ∙ sym (same (g .answer) .0), b ∙ sym (g .output), c ∙ sym (g .workspace))
 
 -- an accepted job: its states' durations stand at the front of the output
-pub job-states : (bytes out work : List ℕ) (r : Answered) (s frames c : ℕ) (out′ work′ : List ℕ) → r ≡ Done s frames c → JobSays bytes out work r out′ work′ → (s ≤ length out′) × (take s out′ ≡ fitOf (jobOf bytes) .durations)
+pub job-states : (bytes out work : List ℕ) (r : Answered) (s frames c : ℕ) (out′ work′ : List ℕ) → r ≡ Done s frames c → JobSays bytes out work r out′ work′ → (s ≤ length out′) × (take s out′ ≡ jobFit (jobOf bytes) .durations)
 job-states bytes out work r s frames c out′ work′ e f =
     let j : Job = jobOf bytes in
-    let p = accepted-is (answered (Done s frames c)) (orElse (formatRefusal bytes) (refusalOf j out work)) _ (sym (ap answered e) ∙ f .answer) refl in
-    let z = or-none (formatRefusal bytes) (refusalOf j out work) (p .0) in
+    let p = accepted-is (answered (Done s frames c)) (orElse (formatRefusal bytes) (jobRefusal j out work)) _ (sym (ap answered e) ∙ f .answer) refl in
+    let z = or-none (formatRefusal bytes) (jobRefusal j out work) (p .0) in
     let v = p .1 in
     let q : s ≡ length (j .means) = cc in
     let o = rw (z .0) at (f .output) in

@@ -18,16 +18,16 @@ answered (Done states frames changes) = record { number = 0; values = states ∷
 answered (Refused number) = record { number = number; values = [] }
 
 -- what `duration::create` comes to with the job's lists at its speed, and the number with which it refuses them
-abbrev pub fitOf : Job → Outcome
-fitOf j = fitAt (j .means) (j .varis) (j .speed)
+abbrev pub jobFit : Job → Outcome
+jobFit j = fitAt (j .means) (j .varis) (j .speed)
 
-abbrev pub refusalOf : Job → List ℕ → List ℕ → ℕ
-refusalOf j out work = orElse (refusalOfLists (length (j .means)) (length (j .varis)) (length out) (length work)) (refusalAt (j .means) (j .varis) (j .speed))
+abbrev pub jobRefusal : Job → List ℕ → List ℕ → ℕ
+jobRefusal j out work = orElse (refusalOfLists (length (j .means)) (length (j .varis)) (length out) (length work)) (refusalAt (j .means) (j .varis) (j .speed))
 
 -- RULES, Refusals: of a job 9 comes first, whatever else applies
 abbrev pub JobSays : List ℕ → List ℕ → List ℕ → Answered → List ℕ → List ℕ → Type 0
 JobSays bytes out work r =
     let j = jobOf bytes in
     let n = length (j .means) in
-    let o = fitOf j in
-    Says (orElse (formatRefusal bytes) (refusalOf j out work)) (n ∷ total (o .durations) ∷ o .changes ∷ []) (o .durations) n out work (answered r)
+    let o = jobFit j in
+    Says (orElse (formatRefusal bytes) (jobRefusal j out work)) (n ∷ total (o .durations) ∷ o .changes ∷ []) (o .durations) n out work (answered r)

@@ -7,7 +7,7 @@ ghost use Rattle.lists.specs.Sizes.{mostJobStates};
 ghost use Rattle.lists.specs.Answers.{answerOf};
 ghost use Rattle.duration.specs.Promise.{fitted};
 ghost use Rattle.job.specs.Format.{floatsAt, countOf, jobAt, formatRefusal};
-ghost use Rattle.job.specs.Inner.Reading.{headed, CreateSays};
+ghost use Rattle.job.specs.Inner.Reading.{headed, StatesFitted};
 ghost use Rattle.job.specs.Promise.{JobSays};
 use duration::Fitted;
 
@@ -72,7 +72,7 @@ fn number_of(answer: Fitted) -> u8
 // Fits n states, whose pairs stand in the bytes, to the speed that stands before them.
 fn fit_states(bytes: &[u8], n: usize, out: &mut [u32], work: &mut [u32]) -> Fitted
     requires { ⌜ n ≤ mostJobStates ⌝ }
-    ensures { λ r. ⌜ CreateSays (jobAt (now (bytes .entry)) n) (now (out .entry)) (now (work .entry)) r (now (out .exit)) (now (work .exit)) ⌝ }
+    ensures { λ r. ⌜ StatesFitted (jobAt (now (bytes .entry)) n) (now (out .entry)) (now (work .entry)) r (now (out .exit)) (now (work .exit)) ⌝ }
 {
     let mut means = [0.0; MOST_STATES];
     let mut varis = [0.0; MOST_STATES];

@@ -6,12 +6,25 @@ ghost use lib.Dec.{leb};
 ghost use lib.Seq.{sets};
 ghost use Rattle.lists.specs.Totals.{total};
 ghost use Rattle.lists.specs.Parts.{PartSays};
+ghost use Rattle.lists.specs.Ends.{filled};
 ghost use Rattle.lists.specs.Bytes.{little, bytesOf, startsWith};
 
 // How many frames lists were filled for, or the number of why none was.
 pub enum Filled {
     Done(u32),
     Refused(u8),
+}
+
+impl Filled {
+    // The refusal's number, 0 for none.
+    pub fn number(self) -> u8
+        ensures { λ r. ⌜ r ≡ filled self .number ⌝ }
+    {
+        match self {
+            Filled::Done(_) => 0,
+            Filled::Refused(number) => number,
+        }
+    }
 }
 
 // The first n numbers become v.

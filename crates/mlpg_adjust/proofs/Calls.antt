@@ -27,7 +27,7 @@ use Rattle.solve.specs.Promise as solve
 use Rattle.solve.specs.Promise.{solvedIn, SolveSays}
 use Rattle.gv.specs.Promise as gv
 use Rattle.gv.specs.Promise.{VarySays}
-use Rattle.mlpg_adjust.specs.Trajectory.{sizeOf, gvOn, withGv}
+use Rattle.mlpg_adjust.specs.Trajectory.{stateSize, gvOn, withGv}
 use Rattle.mlpg_adjust.specs.Inner.Groups.{voicedIn, layoutOf, planOf, Ready, Varying, targetIn, columnOf, Columned}
 use Rattle.mlpg_adjust.specs.declared.GlobalVariance.{GlobalVariance}
 use Rattle.mlpg_adjust.specs.declared.GlobalVariance.the-variants.{Off, On}
@@ -60,7 +60,7 @@ module _ (p : Plan) (widths : List ℕ) (coefs records : List Float) (ds marks :
   pub layout-is : p .layout ≡ g
   layout-is = ap (λ (q : Plan). q .layout) (r .plan)
 
-  size-is : p .size ≡ sizeOf s widths
+  size-is : p .size ≡ stateSize s widths
   size-is = ap (λ (q : Plan). q .size) (r .plan)
 
   frames-is : p .frames ≡ total ds

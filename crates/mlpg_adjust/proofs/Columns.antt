@@ -26,8 +26,8 @@ use Rattle.region.specs.declared.Layout.{Layout}
 use Rattle.region.specs.declared.Group.{Group}
 use Rattle.voicing.specs.Space.{isIn, filledAt}
 use Rattle.gv.specs.Parmgen.{parmgen}
-use Rattle.mlpg_adjust.specs.Trajectory.{sizeOf, gvOn, withGv, matrix, side, solved, varied, trajectory, numbersOf}
-use Rattle.mlpg_adjust.specs.Inner.Groups.{voicedIn, valuesOf, columnOf, Columned}
+use Rattle.mlpg_adjust.specs.Trajectory.{stateSize, gvOn, withGv, matrix, side, solved, varied, trajectory, numbersOf}
+use Rattle.mlpg_adjust.specs.Inner.Groups.{voicedIn, componentValues, columnOf, Columned}
 use Rattle.mlpg_adjust.specs.declared.GlobalVariance.{GlobalVariance}
 use Rattle.mlpg_adjust.specs.declared.GlobalVariance.the-variants.{Off, On}
 use Rattle.mlpg_adjust.specs.declared.Stream.{Stream}
@@ -73,16 +73,16 @@ module _ (s : Stream) (widths : List ℕ) (coefs records : List Float) (ds : Lis
     (on-is : gvOn (s .gv) ≡ true → part (total ds) (count (voicedIn s widths records ds)) marks ≡ select (voicedIn s widths records ds) (expand ds switches)) where
   -- a component's values, from the states' switches
   abbrev valuesFor : ℕ → List Float
-  valuesFor c = withGv (s .gv) (λ weight. varied (sizeOf s widths) records (s .threshold) ds (s .v) widths coefs c weight gv switches) (solved (sizeOf s widths) records (s .threshold) ds (s .v) widths coefs c)
+  valuesFor c = withGv (s .gv) (λ weight. varied (stateSize s widths) records (s .threshold) ds (s .v) widths coefs c weight gv switches) (solved (stateSize s widths) records (s .threshold) ds (s .v) widths coefs c)
 
   varied-same : (on : List ℕ) (c : ℕ) (weight : Float) → on ≡ select (voicedIn s widths records ds) (expand ds switches)
-      → parmgen (bandWidth widths) (matrix (sizeOf s widths) records (s .threshold) ds (s .v) widths coefs c) (side (sizeOf s widths) records (s .threshold) ds (s .v) widths coefs c)
-      (map isOn on) (length widths) (mul binary64 (elem gv c) weight) (elem gv (s .v + c)) (solved (sizeOf s widths) records (s .threshold) ds (s .v) widths coefs c)
-      ≡ varied (sizeOf s widths) records (s .threshold) ds (s .v) widths coefs c weight gv switches
+      → parmgen (bandWidth widths) (matrix (stateSize s widths) records (s .threshold) ds (s .v) widths coefs c) (side (stateSize s widths) records (s .threshold) ds (s .v) widths coefs c)
+      (map isOn on) (length widths) (mul binary64 (elem gv c) weight) (elem gv (s .v + c)) (solved (stateSize s widths) records (s .threshold) ds (s .v) widths coefs c)
+      ≡ varied (stateSize s widths) records (s .threshold) ds (s .v) widths coefs c weight gv switches
   unfolding varied
   varied-same on c weight e =
-      ap (λ (o : List ℕ). parmgen (bandWidth widths) (matrix (sizeOf s widths) records (s .threshold) ds (s .v) widths coefs c) (side (sizeOf s widths) records (s .threshold) ds (s .v) widths coefs c)
-      (map isOn o) (length widths) (mul binary64 (elem gv c) weight) (elem gv (s .v + c)) (solved (sizeOf s widths) records (s .threshold) ds (s .v) widths coefs c)) e
+      ap (λ (o : List ℕ). parmgen (bandWidth widths) (matrix (stateSize s widths) records (s .threshold) ds (s .v) widths coefs c) (side (stateSize s widths) records (s .threshold) ds (s .v) widths coefs c)
+      (map isOn o) (length widths) (mul binary64 (elem gv c) weight) (elem gv (s .v + c)) (solved (stateSize s widths) records (s .threshold) ds (s .v) widths coefs c)) e
 
   column-same : (c : ℕ) → columnOf s widths coefs records ds marks gv c ≡ fill (s .fill) (voicedIn s widths records ds) (valuesFor c)
   unfolding columnOf

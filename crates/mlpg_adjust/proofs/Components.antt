@@ -19,8 +19,8 @@ use Rattle.band.specs.Promise.{rowedIn}
 use Rattle.solve.specs.Promise.{solvedIn}
 use Rattle.gv.specs.Promise.{variedIn}
 use Rattle.gv.specs.Parmgen.{parmgen}
-use Rattle.mlpg_adjust.specs.Trajectory.{sizeOf, withGv, ivarsOf, meansOf, matrix, side, solved}
-use Rattle.mlpg_adjust.specs.Inner.Groups.{voicedIn, layoutOf, valuesOf}
+use Rattle.mlpg_adjust.specs.Trajectory.{stateSize, withGv, voicedIvars, voicedMeans, matrix, side, solved}
+use Rattle.mlpg_adjust.specs.Inner.Groups.{voicedIn, layoutOf, componentValues}
 use Rattle.mlpg_adjust.specs.declared.GlobalVariance.{GlobalVariance}
 use Rattle.mlpg_adjust.specs.declared.GlobalVariance.the-variants.{Off, On}
 use Rattle.mlpg_adjust.specs.declared.Stream.{Stream}
@@ -53,19 +53,19 @@ module _ (s : Stream) (widths : List ℕ) (coefs records : List Float) (ds : Lis
 
   -- closed up, with its normal equations, and solved
   abbrev pub solvedRegion : ℕ → Region → Region
-  solvedRegion component r = solvedIn g (rowedIn widths coefs g (pairedIn (sizeOf s widths) records (s .v) widths (voicedIn s widths records ds) ds component r))
+  solvedRegion component r = solvedIn g (rowedIn widths coefs g (pairedIn (stateSize s widths) records (s .v) widths (voicedIn s widths records ds) ds component r))
 
   module _ (component : ℕ) (r : Region) where
-    matrix-is : solvedRegion component r .matrix ≡ matrix (sizeOf s widths) records (s .threshold) ds (s .v) widths coefs component
-    unfolding matrix ivarsOf
+    matrix-is : solvedRegion component r .matrix ≡ matrix (stateSize s widths) records (s .threshold) ds (s .v) widths coefs component
+    unfolding matrix voicedIvars
     matrix-is = refl
 
-    side-is : solvedRegion component r .side ≡ side (sizeOf s widths) records (s .threshold) ds (s .v) widths coefs component
-    unfolding side ivarsOf meansOf
+    side-is : solvedRegion component r .side ≡ side (stateSize s widths) records (s .threshold) ds (s .v) widths coefs component
+    unfolding side voicedIvars voicedMeans
     side-is = refl
 
-    solved-is : solvedRegion component r .values ≡ solved (sizeOf s widths) records (s .threshold) ds (s .v) widths coefs component
-    unfolding solved matrix side ivarsOf meansOf
+    solved-is : solvedRegion component r .values ≡ solved (stateSize s widths) records (s .threshold) ds (s .v) widths coefs component
+    unfolding solved matrix side voicedIvars voicedMeans
     solved-is = refl
 
   -- ---- the values of each lane, after the global variance where it is on
@@ -78,9 +78,9 @@ module _ (s : Stream) (widths : List ℕ) (coefs records : List Float) (ds : Lis
         (at : regionAt g lanes l work ≡ solvedRegion (first + l) r) where
       lane-values : (switch : GlobalVariance) → regionAt g lanes l (withGv switch (λ weight. eachRegion g lanes (target weight) work) work) .values
           ≡ withGv switch
-          (λ weight. parmgen (bandWidth widths) (matrix (sizeOf s widths) records (s .threshold) ds (s .v) widths coefs (first + l)) (side (sizeOf s widths) records (s .threshold) ds (s .v) widths coefs (first + l))
-          (map isOn on) (length widths) (mul binary64 (elem gv (first + l)) weight) (elem gv (s .v + (first + l))) (solved (sizeOf s widths) records (s .threshold) ds (s .v) widths coefs (first + l)))
-          (solved (sizeOf s widths) records (s .threshold) ds (s .v) widths coefs (first + l))
+          (λ weight. parmgen (bandWidth widths) (matrix (stateSize s widths) records (s .threshold) ds (s .v) widths coefs (first + l)) (side (stateSize s widths) records (s .threshold) ds (s .v) widths coefs (first + l))
+          (map isOn on) (length widths) (mul binary64 (elem gv (first + l)) weight) (elem gv (s .v + (first + l))) (solved (stateSize s widths) records (s .threshold) ds (s .v) widths coefs (first + l)))
+          (solved (stateSize s widths) records (s .threshold) ds (s .v) widths coefs (first + l))
       lane-values Off = ap (λ (q : Region). q .values) at ∙ solved-is (first + l) r
       lane-values (On weight) =
           let mean-is : elem (part first lanes gv) l ≡ elem gv (first + l) = sym (part-elem first lanes l gv h) in
@@ -90,14 +90,14 @@ module _ (s : Stream) (widths : List ℕ) (coefs records : List Float) (ds : Lis
           ∙ ap (λ (q : Region). target weight l q .values) at
           ∙ rw (mean-is, vari-is, solved-is (first + l) r, matrix-is (first + l) r, side-is (first + l) r)
 
-      pub values-are : regionAt g lanes l (withGv (s .gv) (λ weight. eachRegion g lanes (target weight) work) work) .values ≡ valuesOf s widths coefs records ds on gv (first + l)
+      pub values-are : regionAt g lanes l (withGv (s .gv) (λ weight. eachRegion g lanes (target weight) work) work) .values ≡ componentValues s widths coefs records ds on gv (first + l)
       values-are = lane-values (s .gv)
 
   -- ---- three steps: closed up, with normal equations, solved
 
   module _ (first lanes : ℕ) where
     abbrev pub closed : ℕ → Region → Region
-    closed l = pairedIn (sizeOf s widths) records (s .v) widths (voicedIn s widths records ds) ds (first + l)
+    closed l = pairedIn (stateSize s widths) records (s .v) widths (voicedIn s widths records ds) ds (first + l)
 
     abbrev pub rowed : ℕ → Region → Region
     rowed l = rowedIn widths coefs g

@@ -17,7 +17,7 @@ use Rattle.voicing.specs.Space.{flagged, grouped, closes, fills}
 use Rattle.band.specs.Promise as band
 use Rattle.solve.specs.Promise as solve
 use Rattle.gv.specs.Promise as gv
-use Rattle.mlpg_adjust.specs.Trajectory.{sizeOf}
+use Rattle.mlpg_adjust.specs.Trajectory.{stateSize}
 use Rattle.mlpg_adjust.specs.Inner.Groups.{Shaped, Marked, layoutOf}
 use Rattle.mlpg_adjust.specs.declared.Stream.{Stream}
 
@@ -45,15 +45,15 @@ module _ (s : Stream) (widths : List ℕ) (coefs records : List Float) (ds : Lis
         let q : c .v ≤ 64 = rw e (k .most-v) in
         rw (frames-flagged (length marks) (omega (arith, m .room)), m .flags, eq-eqb (g .n) (g .n) refl, le-leb (c .v) 64 q, le-leb (c .first + c .lanes) (c .v) h, le-leb (c .lanes * region.sizeOf g) floats room)
 
-    pub closing-opens : closes (sizeOf s widths) records widths ds marks g c floats ≡ true
+    pub closing-opens : closes (stateSize s widths) records widths ds marks g c floats ≡ true
     closing-opens =
-        let pairs : (length widths + length widths) * c .v ≤ sizeOf s widths = rw (e, add-mul (length widths) (length widths) (s .v)) (omega arith) in
+        let pairs : (length widths + length widths) * c .v ≤ stateSize s widths = rw (e, add-mul (length widths) (length widths) (s .v)) (omega arith) in
         rw (
           group-opens,
           eq-eqb (length widths) (length widths) refl,
           le-leb (length widths) 4 (k .most-windows),
-          le-leb ((length widths + length widths) * c .v) (sizeOf s widths) pairs,
-          le-leb (length ds * sizeOf s widths) (length records) (le-of-eq (sym (k .recorded))),
+          le-leb ((length widths + length widths) * c .v) (stateSize s widths) pairs,
+          le-leb (length ds * stateSize s widths) (length records) (le-of-eq (sym (k .recorded))),
         )
 
     pub filling-opens : (numbers : ℕ) → numbers ≡ total ds * c .v → fills ds marks g c floats numbers ≡ true

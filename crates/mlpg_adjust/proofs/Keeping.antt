@@ -11,7 +11,7 @@ use Rattle.voicing.proofs.Sizes.{paired-sized}
 use Rattle.band.proofs.Lengths.{rowed-sized}
 use Rattle.solve.proofs.Solved.{solved-sized}
 use Rattle.gv.proofs.Varied.{varied-sized}
-use Rattle.mlpg_adjust.specs.Trajectory.{sizeOf}
+use Rattle.mlpg_adjust.specs.Trajectory.{stateSize}
 use Rattle.mlpg_adjust.specs.Inner.Groups.{voicedIn, layoutOf}
 use Rattle.mlpg_adjust.specs.declared.Stream.{Stream}
 use Rattle.mlpg_adjust.proofs.Marks.{mask-long}
@@ -19,7 +19,7 @@ use Rattle.mlpg_adjust.proofs.Components.{Keeps, target, closed, rowed,
 
 module _ (s : Stream) (widths : List ℕ) (coefs records : List Float) (ds : List ℕ) (first lanes : ℕ) where
   pub closed-keeps : Keeps (layoutOf s widths records ds) lanes (closed s widths coefs records ds first lanes)
-  closed-keeps l r h k = paired-sized (sizeOf s widths) records (s .v) (first + l) widths (voicedIn s widths records ds) ds (mask-long s widths records ds) (layoutOf s widths records ds) r refl refl k
+  closed-keeps l r h k = paired-sized (stateSize s widths) records (s .v) (first + l) widths (voicedIn s widths records ds) ds (mask-long s widths records ds) (layoutOf s widths records ds) r refl refl k
 
   pub rowed-keeps : Keeps (layoutOf s widths records ds) lanes (rowed s widths coefs records ds first lanes)
   rowed-keeps l r h k = rowed-sized widths coefs (layoutOf s widths records ds) r k

@@ -24,7 +24,7 @@ use Rattle.voicing.specs.declared.Voicing.{Voicing}
 use Rattle.voicing.proofs.Theory.{mask-length, weights-length}
 use Rattle.voicing.proofs.Sizes.{select-length}
 use Rattle.voicing.proofs.Masks.{mask-voiced, stream-flagged}
-use Rattle.mlpg_adjust.specs.Trajectory.{sizeOf, gvOn, withGv, numbersOf}
+use Rattle.mlpg_adjust.specs.Trajectory.{stateSize, gvOn, withGv, numbersOf}
 use Rattle.mlpg_adjust.specs.Inner.Groups.{Shaped, Marked, Ready, voicedIn, planOf, columnOf, Columned}
 use Rattle.mlpg_adjust.specs.declared.GlobalVariance.{GlobalVariance}
 use Rattle.mlpg_adjust.specs.declared.GlobalVariance.the-variants.{Off, On}
@@ -35,7 +35,7 @@ use Rattle.mlpg_adjust.proofs.Columns.{rendered}
 
 -- a mask has as many frames as the durations say
 pub mask-long : (s : Stream) (widths : List ℕ) (records : List Float) (ds : List ℕ) → length (voicedIn s widths records ds) ≡ total ds
-mask-long s widths records ds = mask-length (s .threshold) (weightsOf (sizeOf s widths) records (length ds)) ds (weights-length (sizeOf s widths) records (length ds))
+mask-long s widths records ds = mask-length (s .threshold) (weightsOf (stateSize s widths) records (length ds)) ds (weights-length (stateSize s widths) records (length ds))
 
 -- ---- the flags
 
@@ -45,7 +45,7 @@ module _ (s : Stream) (widths : List ℕ) (coefs records : List Float) (ds : Lis
 
   -- any marks that begin with the flags
   pub flags-said : (rest : List ℕ) → maskIn ds (map flag mask ++ rest) ≡ mask
-  flags-said rest = stream-flagged (sizeOf s widths) records (s .threshold) ds rest
+  flags-said rest = stream-flagged (stateSize s widths) records (s .threshold) ds rest
 
   pub voiced-most : count mask ≤ total ds
   voiced-most = rw (flags-said []) at (mask-voiced ds (map flag mask ++ []))
@@ -53,9 +53,9 @@ module _ (s : Stream) (widths : List ℕ) (coefs records : List Float) (ds : Lis
   flags-long : length (map flag mask) ≡ total ds
   flags-long = length-map mask flag ∙ mask-long s widths records ds
 
-  module _ (u : Voicing) (size-is : u .size ≡ sizeOf s widths) (threshold-is : u .threshold ≡ s .threshold) (n : ℕ) (flags flags′ : List ℕ) (room : total ds ≤ length flags) (says : MarkSays u records ds flags n flags′) where
+  module _ (u : Voicing) (size-is : u .size ≡ stateSize s widths) (threshold-is : u .threshold ≡ s .threshold) (n : ℕ) (flags flags′ : List ℕ) (room : total ds ≤ length flags) (says : MarkSays u records ds flags n flags′) where
     opens : marks u records ds (length flags) ≡ true
-    opens = rw (frames-flagged s widths coefs records ds gv k (length flags) room, size-is, le-leb (length ds * sizeOf s widths) (length records) (le-of-eq (sym (k .recorded))))
+    opens = rw (frames-flagged s widths coefs records ds gv k (length flags) room, size-is, le-leb (length ds * stateSize s widths) (length records) (le-of-eq (sym (k .recorded))))
 
     pub counted : n ≡ count mask
     counted = says .answer ∙ rw (opens, size-is, threshold-is)

@@ -18,7 +18,7 @@ use Rattle.lists.proofs.Stores.{filled}
 use Rattle.lists.proofs.Fills.{build-length}
 use Rattle.model.specs.Windows.{widthsFit, allFinite, windowRefusal}
 use Rattle.model.proofs.Windows.{fit-few}
-use Rattle.mlpg_adjust.specs.Trajectory.{recordSize, gvOn, sizeOf, trajectory, numbersOf}
+use Rattle.mlpg_adjust.specs.Trajectory.{recordSize, gvOn, stateSize, trajectory, numbersOf}
 use Rattle.lists.specs.Answers.{written}
 use Rattle.mlpg_adjust.specs.Promise.{lengthsOf, outOfRange, gvDisagrees, disagree, short, createRefusal, zeroFloats, zeroMarks, CreateSays}
 use Rattle.mlpg_adjust.specs.Inner.Groups.{Shaped, Room}
@@ -46,7 +46,7 @@ module _ (s : Stream) (ws : List ℕ) (few : length ws ≤ 4) (cs states t : ℕ
   unfolding disagree
   disagree-taps h = rw (← summed, ne-eqb cs t h)
 
-  module _ (a : cs ≡ t) (size : ℕ) (o : size ≡ sizeOf s ws) where
+  module _ (a : cs ≡ t) (size : ℕ) (o : size ≡ stateSize s ws) where
     pub disagree-records : (n .records ≡ states * size → ⊥) → true ≡ disagree s ws cs states n
     unfolding disagree
     disagree-records h = rw (← summed, eq-eqb cs t a, ← o, ne-eqb (n .records) (states * size) h)
@@ -134,7 +134,7 @@ module _ (s : Stream) (ws : List ℕ) (cs : List Float) (ds : List ℕ) (lengths
 -- lists that agree: what is left where 4 is not given
 record Agree (s : Stream) (ws : List ℕ) (cs states : ℕ) (n : Lengths) : Type 0 where
   pub whole : cs ≡ total ws
-  pub recorded : n .records ≡ states * sizeOf s ws
+  pub recorded : n .records ≡ states * stateSize s ws
   pub varied : gvOn (s .gv) ≡ true → n .gv ≡ s .v + s .v
   pub switched : gvOn (s .gv) ≡ true → n .switches ≡ states
 
@@ -147,11 +147,11 @@ both-agree true true true h e = (refl, refl)
 agree : (s : Stream) (ws : List ℕ) (cs states : ℕ) (n : Lengths) → disagree s ws cs states n ≡ false → Agree s ws cs states n
 unfolding disagree
 agree s ws cs states n h =
-    let t = three-tests (not (eqb cs (total ws))) (not (eqb (n .records) (states * sizeOf s ws))) (gvDisagrees s states n) h in
+    let t = three-tests (not (eqb cs (total ws))) (not (eqb (n .records) (states * stateSize s ws))) (gvDisagrees s states n) h in
     let u = both-agree (gvOn (s .gv)) (eqb (n .gv) (2 * s .v)) (eqb (n .switches) states) (t .2) in
     record {
       whole = eqb-true cs (total ws) (not-false (eqb cs (total ws)) (t .0));
-      recorded = eqb-true (n .records) (states * sizeOf s ws) (not-false (eqb (n .records) (states * sizeOf s ws)) (t .1));
+      recorded = eqb-true (n .records) (states * stateSize s ws) (not-false (eqb (n .records) (states * stateSize s ws)) (t .1));
       varied = λ e. omega (arith, eqb-true (n .gv) (2 * s .v) (u e .0));
       switched = λ e. eqb-true (n .switches) states (u e .1);
     }

@@ -12,7 +12,7 @@ use Rattle.lists.specs.Refusals.{orElse}
 use Rattle.lists.specs.Answers.{written}
 use Rattle.floats.specs.Numbers.{nought}
 use Rattle.model.specs.Windows.{widthsFit, allFinite}
-use Rattle.mlpg_adjust.specs.Trajectory.{gvOn, sizeOf, numbersOf}
+use Rattle.mlpg_adjust.specs.Trajectory.{gvOn, stateSize, numbersOf}
 use Rattle.mlpg_adjust.specs.declared.Stream.{Stream}
 use Rattle.mlpg_adjust.specs.declared.refusing.Lengths.{Lengths}
 use Rattle.mlpg_adjust.specs.declared.Created.{Created}
@@ -58,7 +58,7 @@ gvDisagrees s states n = gvOn (s .gv) && (not (eqb (n .gv) (2 * s .v)) || not (e
 -- RULES, Refusals: 4 for list lengths that disagree, with so many coefficients and states
 unfoldable pub disagree : Stream → List ℕ → ℕ → ℕ → Lengths → Bool
 unfolding total
-disagree s widths coefs states n = not (eqb coefs (total widths)) || not (eqb (n .records) (states * sizeOf s widths)) || gvDisagrees s states n
+disagree s widths coefs states n = not (eqb coefs (total widths)) || not (eqb (n .records) (states * stateSize s widths)) || gvDisagrees s states n
 
 -- RULES, Refusals: 6 for an output or work space that is too short
 abbrev pub short : ℕ → ℕ → Lengths → Bool

@@ -32,24 +32,24 @@ module _ (size : ℕ) (records : List Float) (threshold : Float) (ds : List ℕ)
 
   module _ (v : ℕ) (widths : List ℕ) (coefs : List Float) (component : ℕ) where
     -- the component's inverse variances of the voiced frames, window after window
-    unfoldable pub ivarsOf : List Float
+    unfoldable pub voicedIvars : List Float
     unfolding rows ivarsIn
-    ivarsOf = rows (ivarsIn size records v component widths mask ds) (length widths)
+    voicedIvars = rows (ivarsIn size records v component widths mask ds) (length widths)
 
     -- and its means
-    unfoldable pub meansOf : List Float
+    unfoldable pub voicedMeans : List Float
     unfolding rows meansIn
-    meansOf = rows (meansIn size records v component mask ds) (length widths)
+    voicedMeans = rows (meansIn size records v component mask ds) (length widths)
 
     -- RULES, Mask: all voiced frames, closed up, are solved together: the matrix of their normal equations
     unfoldable pub matrix : List Float
-    unfolding bandRows ivarsOf
-    matrix = bandRows widths coefs (count mask) ivarsOf (bandWidth widths)
+    unfolding bandRows voicedIvars
+    matrix = bandRows widths coefs (count mask) voicedIvars (bandWidth widths)
 
     -- and the right side
     unfoldable pub side : List Float
-    unfolding rightSide ivarsOf meansOf
-    side = rightSide widths coefs (count mask) ivarsOf meansOf
+    unfolding rightSide voicedIvars voicedMeans
+    side = rightSide widths coefs (count mask) voicedIvars voicedMeans
 
     -- RULES, Band rows: the values that solve them
     unfoldable pub solved : List Float
@@ -78,13 +78,13 @@ gvOn Off = false
 gvOn (On weight) = true
 
 -- how many numbers a state of the stream has
-abbrev pub sizeOf : Stream → List ℕ → ℕ
-sizeOf s widths = recordSize (s .v) (length widths) (s .masked)
+abbrev pub stateSize : Stream → List ℕ → ℕ
+stateSize s widths = recordSize (s .v) (length widths) (s .masked)
 
 -- the trajectory of a stream: each component's values, with GV where it is on
 unfoldable pub numbersOf : Stream → List ℕ → List Float → List Float → List ℕ → List Float → List ℕ → List Float
 unfolding trajectory varied solved
 numbersOf s widths coefs records ds gv switches =
-    trajectory (sizeOf s widths) records (s .threshold) ds (s .v) (s .fill)
-    (λ component. withGv (s .gv) (λ weight. varied (sizeOf s widths) records (s .threshold) ds (s .v) widths coefs component weight gv switches)
-    (solved (sizeOf s widths) records (s .threshold) ds (s .v) widths coefs component))
+    trajectory (stateSize s widths) records (s .threshold) ds (s .v) (s .fill)
+    (λ component. withGv (s .gv) (λ weight. varied (stateSize s widths) records (s .threshold) ds (s .v) widths coefs component weight gv switches)
+    (solved (stateSize s widths) records (s .threshold) ds (s .v) widths coefs component))

@@ -6,7 +6,7 @@ ghost use lib.ListN.{length};
 ghost use Rattle.lists.specs.Totals.{total};
 ghost use Rattle.lists.specs.Answers.{written};
 ghost use Rattle.mlpg_adjust.specs.Trajectory.{recordSize, gvOn, numbersOf};
-ghost use Rattle.mlpg_adjust.specs.Promise.{lengthsOf, zeroFloats, zeroMarks, CreateSays};
+ghost use Rattle.mlpg_adjust.specs.Promise.{createdNumber, lengthsOf, zeroFloats, zeroMarks, CreateSays};
 ghost use Rattle.mlpg_adjust.specs.Inner.Groups.{Shaped, Room};
 
 mod group;
@@ -48,6 +48,18 @@ impl Stream {
 pub enum Created {
     Done,
     Refused(u8),
+}
+
+impl Created {
+    // The refusal's number, 0 for none.
+    pub fn number(self) -> u8
+        ensures { λ r. ⌜ r ≡ createdNumber self ⌝ }
+    {
+        match self {
+            Created::Done => 0,
+            Created::Refused(number) => number,
+        }
+    }
 }
 
 // `MlpgAdjust::create`: the trajectory of a stream. With GV off its two lists are no input.

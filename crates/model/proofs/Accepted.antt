@@ -12,7 +12,7 @@ use lib.Ieee.{Float}
 use Rattle.lists.specs.Totals.{total}
 use Rattle.lists.specs.Refusals.{orElse}
 use Rattle.lists.proofs.Sums.{total-append, total-more}
-use Rattle.model.specs.Windows.{between, allOf, widthsFit, allFinite, windowRefusal, widthOf, startOf, windowOf}
+use Rattle.model.specs.Windows.{between, allOf, widthsFit, allFinite, windowRefusal, widthOf, windowStart, windowOf}
 use Rattle.model.proofs.Windows.{and-first, and-second, fit-some, fit-few}
 
 -- what holds of every item holds of each
@@ -61,11 +61,11 @@ module _ (ws : List ℕ) (cs : List Float) (h : windowRefusal ws cs ≡ 0) where
     width-few = leb-true (widthOf ws i) 15 (and-second (leb 1 (widthOf ws i)) (leb (widthOf ws i) 15) narrow)
 
     -- window i's coefficients end where the next one's begin
-    pub start-next : startOf ws (i + 1) ≡ startOf ws i + widthOf ws i
+    pub start-next : windowStart ws (i + 1) ≡ windowStart ws i + widthOf ws i
     start-next = total-more ws i l
 
-    pub window-within : startOf ws i + widthOf ws i ≤ length cs
+    pub window-within : windowStart ws i + widthOf ws i ≤ length cs
     window-within = omega (arith, start-next, accepted-whole, total-append (take (i + 1) ws) (drop (i + 1) ws), ap total (take-append-drop (i + 1) ws))
 
     pub window-length : length (windowOf ws cs i) ≡ widthOf ws i
-    window-length = length-take-le (widthOf ws i) (drop (startOf ws i) cs) (rw length-drop (omega (arith, window-within)))
+    window-length = length-take-le (widthOf ws i) (drop (windowStart ws i) cs) (rw length-drop (omega (arith, window-within)))

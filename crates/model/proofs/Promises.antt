@@ -8,9 +8,9 @@ use lib.ListN.{length, take, drop, length-map, length-drop}
 use lib.Seq.{sets, sets-eq, take-all, drop-at}
 use borrow.Rule.Slice.PartMut.{putMid}
 use lib.Ieee.{Float}
-use Rattle.model.specs.declared.voice.model.Written.{Written}
-use Rattle.model.specs.declared.voice.model.Written.the-variants.{Done, TooShort}
-use Rattle.model.specs.Promise.{numberOf, MulSays, MulAddSays}
+use Rattle.model.specs.declared.voice.model.Mixed.{Mixed}
+use Rattle.model.specs.declared.voice.model.Mixed.the-variants.{Done, TooShort}
+use Rattle.model.specs.Promise.{mixedNumber, MulSays, MulAddSays}
 use Rattle.model.specs.Record.{meansOf, varisOf, restOf}
 use Rattle.model.specs.Mixing.{moreBy}
 use Rattle.model.proofs.Records.{means-length, varis-length}
@@ -22,13 +22,13 @@ pub answer-one : {A : Type 0} {v r s : A} → r ≡ v → s ≡ v → r ≡ s
 answer-one e d = e ∙ sym d
 
 -- each answer has a number of its own
-number-one : (r s : Written) → numberOf r ≡ numberOf s → r ≡ s
+number-one : (r s : Mixed) → mixedNumber r ≡ mixedNumber s → r ≡ s
 number-one Done Done e = refl
 number-one Done TooShort e = absurd (omega arith)
 number-one TooShort Done e = absurd (omega arith)
 number-one TooShort TooShort e = refl
 
-pub mul-one : {lin out : List Float} {w : Float} {r s : Written} {out′ out″ : List Float} → MulSays lin w out r out′ → MulSays lin w out s out″ → (r ≡ s) × (out′ ≡ out″)
+pub mul-one : {lin out : List Float} {w : Float} {r s : Mixed} {out′ out″ : List Float} → MulSays lin w out r out′ → MulSays lin w out s out″ → (r ≡ s) × (out′ ≡ out″)
 mul-one {r = r} {s = s} a b = (number-one r s (answer-one (a .answer) (b .answer)), answer-one (a .output) (b .output))
 
 pub mul-add-one : {lhs rhs : List Float} {w : Float} {out out′ : List Float} → MulAddSays lhs w rhs out → MulAddSays lhs w rhs out′ → out ≡ out′

@@ -14,7 +14,7 @@ use Rattle.lists.specs.Build.{foldFrom}
 use Rattle.lists.specs.Totals.{total}
 use Rattle.lists.proofs.Parts.{take-min, take-both}
 use Rattle.lists.proofs.Sums.{total-whole}
-use Rattle.model.specs.Windows.{between, allOf, finite, widthsFit, allFinite, windowRefusal, longest, bandWidth, widthOf, startOf}
+use Rattle.model.specs.Windows.{between, allOf, finite, widthsFit, allFinite, windowRefusal, longest, bandWidth, widthOf, windowStart}
 
 -- ---- a loop that tests each item: what the items from i on say is what all say
 
@@ -65,7 +65,7 @@ module _ (ws : List ℕ) (i : ℕ) where
   pub width-past : min 4 (length ws) ≤ i → 0 ≡ widthOf (take 4 ws) i
   width-past h = sym (List·getD-eq-default (take 4 ws) 0 (rw length-take h))
 
-  pub start-at : (k : ℕ) → k ≡ min (min i 4) (length ws) → total (take (2 ^ 32) (take k ws)) ≡ startOf (take 4 ws) i
+  pub start-at : (k : ℕ) → k ≡ min (min i 4) (length ws) → total (take (2 ^ 32) (take k ws)) ≡ windowStart (take 4 ws) i
   start-at k e =
       let l : length (take k ws) ≤ 4294967296 = rw length-take (omega arith) in
       total-whole (take k ws) l ∙ ap total (ap (λ (m : ℕ). take m ws) e ∙ take-min (min i 4) ws ∙ sym (take-both i 4 ws))

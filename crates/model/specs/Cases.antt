@@ -11,7 +11,7 @@ ivar bits = toBits binary64 (ivarOf (ofBits binary64 bits))
 
 record Ivars : Type 0 where
   -- RULES, Pairs: 0 has 1e38, -4 has -0.25, and NaN has NaN
-  pub nought : ivar 0 ≡ 0x47d2_ced3_2a16_a1b1
+  pub no-variance : ivar 0 ≡ 0x47d2_ced3_2a16_a1b1
   pub minus-four : ivar 0xc010_0000_0000_0000 ≡ 0xbfd0_0000_0000_0000
   pub no-number : ivar 0x7ff8_0000_0000_0000 ≡ 0x7ff8_0000_0000_0000
   -- 1e19 and 1e-19 themselves are inverted; the next number above, and the next below, are not
@@ -22,4 +22,4 @@ record Ivars : Type 0 where
 
 ivars : Ivars
 unfolding ivar
-ivars = record { nought = refl; minus-four = refl; no-number = refl; at-high = refl; above-high = refl; at-low = refl; below-low = refl }
+ivars = record { no-variance = refl; minus-four = refl; no-number = refl; at-high = refl; above-high = refl; at-low = refl; below-low = refl }

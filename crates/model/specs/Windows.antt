@@ -67,9 +67,9 @@ abbrev pub widthOf : List ℕ → ℕ → ℕ
 widthOf widths i = getD widths i 0
 
 -- the coefficients before window i's
-abbrev pub startOf : List ℕ → ℕ → ℕ
-startOf widths i = total (take i widths)
+abbrev pub windowStart : List ℕ → ℕ → ℕ
+windowStart widths i = total (take i widths)
 
 -- window i's coefficients
 abbrev pub windowOf : List ℕ → List Float → ℕ → List Float
-windowOf widths coefficients i = take (widthOf widths i) (drop (startOf widths i) coefficients)
+windowOf widths coefficients i = take (widthOf widths i) (drop (windowStart widths i) coefficients)

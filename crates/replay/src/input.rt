@@ -40,7 +40,7 @@ pub fn read(bytes: &mut [u8]) -> Came {
 }
 
 // The number of four bytes at most, the least first.
-fn number_of(bytes: &[u8]) -> Number {
+fn whole_number(bytes: &[u8]) -> Number {
     Number::Of((lists::little_endian(bytes, 0, 4) % 0x1_0000_0000) as u32)
 }
 
@@ -49,7 +49,7 @@ fn read_byte() -> Number {
     let Came::Whole = read(&mut bytes) else {
         return Number::Cut;
     };
-    number_of(&bytes)
+    whole_number(&bytes)
 }
 
 fn read_number() -> Number {
@@ -57,7 +57,7 @@ fn read_number() -> Number {
     let Came::Whole = read(&mut bytes) else {
         return Number::Cut;
     };
-    number_of(&bytes)
+    whole_number(&bytes)
 }
 
 fn read_float() -> Float {

@@ -1,8 +1,8 @@
 // Operations on records.
 use crate::case;
 use model::voice::model::Found;
+use model::voice::model::Mixed;
 use model::voice::model::Weight;
-use model::voice::model::Written;
 use replay::OUT_F64;
 
 // x at a place, if there is one.
@@ -45,7 +45,7 @@ fn make(operation: u32, lin: &[f64], other: &[f64], weight: f64, out: &mut [f64]
             true
         }
         1 => {
-            let Written::Done = model::voice::model::mul(lin, weight, out) else {
+            let Mixed::Done = model::voice::model::mul(lin, weight, out) else {
                 return false;
             };
             true

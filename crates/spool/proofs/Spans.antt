@@ -6,7 +6,7 @@ use native.Mathlib.Omega.{arith}
 use lib.Ieee.{Float}
 use lib.ListN.{length, take, drop}
 use Rattle.lists.proofs.Answers.{same, accepted-is}
-use Rattle.spool.specs.Excerpt.{startOf, countOf, excerptOf}
+use Rattle.spool.specs.Excerpt.{excerptStart, excerptCount, excerptOf}
 use Rattle.spool.specs.Refusal.{excerptRefusal}
 use Rattle.spool.specs.Promise.{spanned, SpanSays}
 use Rattle.spool.specs.declared.Span.{Span}
@@ -22,13 +22,13 @@ module _ (trajectory : List Float) (ds : List ℕ) (v state : ℕ) (r : Span) (s
     pub span-none : excerptRefusal (length trajectory) ds v state ≡ 0
     span-none = accepted-is (spanned (Numbers first count)) _ _ (sym (ap spanned e) ∙ says) refl .0
 
-    span-is : first ∷ count ∷ [] ≡ startOf ds v state ∷ countOf ds v state ∷ []
+    span-is : first ∷ count ∷ [] ≡ excerptStart ds v state ∷ excerptCount ds v state ∷ []
     span-is = accepted-is (spanned (Numbers first count)) _ _ (sym (ap spanned e) ∙ says) refl .1
 
-    pub span-first : first ≡ startOf ds v state
+    pub span-first : first ≡ excerptStart ds v state
     span-first = cc span-is
 
-    pub span-count : count ≡ countOf ds v state
+    pub span-count : count ≡ excerptCount ds v state
     span-count = cc span-is
 
     -- the numbers that it names are the excerpt

@@ -11,7 +11,7 @@ use Rattle.lists.specs.Totals.{total}
 use Rattle.lists.specs.Answers.{given}
 use Rattle.lists.proofs.Answers.{given-none, refused-is}
 use Rattle.spool.specs.Place.{numberOf}
-use Rattle.spool.specs.Excerpt.{startOf, countOf, excerptOf}
+use Rattle.spool.specs.Excerpt.{excerptStart, excerptCount, excerptOf}
 use Rattle.spool.specs.Refusal.{excerptRefusal}
 use Rattle.spool.specs.Promise.{spanned, SpanSays, ExcerptSays}
 use Rattle.spool.specs.declared.Span.{Span}
@@ -21,7 +21,7 @@ use Rattle.spool.proofs.Spans.{span-none, span-first, span-part}
 -- a state's first number and its count, from the frames summed before it
 pub span-values : (ds : List ℕ) (v state at first width start count : ℕ)
     → at ≡ state → first ≡ total (take at ds) → width ≡ v → start ≡ numberOf first 0 width → count ≡ getD ds at 0 * width
-    → start ∷ count ∷ [] ≡ startOf ds v state ∷ countOf ds v state ∷ []
+    → start ∷ count ∷ [] ≡ excerptStart ds v state ∷ excerptCount ds v state ∷ []
 span-values ds v state at first width start count s f w p q = rw (p, q, f, w, s)
 
 -- the part that `excerpt` cuts out, from what `excerpt_span` answers
@@ -45,5 +45,5 @@ module _ (t : RefT (List Float)) (ds : List ℕ) (v state : ℕ) (r : Span) (say
         let z : t .ptr .1 ≡ t .ptr .1 + 0 * 8 = omega arith in
         record {
           numbers = n ∙ sym (none (excerptOf (t .now) ds v state) []);
-          itself = p ∙ ap (λ (o : ℕ). (t .ptr .0, o)) (z ∙ ap (λ (o : ℕ). t .ptr .1 + o * 8) (sym (none (startOf ds v state) 0)));
+          itself = p ∙ ap (λ (o : ℕ). (t .ptr .0, o)) (z ∙ ap (λ (o : ℕ). t .ptr .1 + o * 8) (sym (none (excerptStart ds v state) 0)));
         }

@@ -10,13 +10,13 @@ abbrev pub firstOf : List ℕ → ℕ → ℕ
 firstOf durations state = total (take state durations)
 
 -- where its first number stands: component 0 of that frame
-abbrev pub startOf : List ℕ → ℕ → ℕ → ℕ
-startOf durations v state = numberOf (firstOf durations state) 0 v
+abbrev pub excerptStart : List ℕ → ℕ → ℕ → ℕ
+excerptStart durations v state = numberOf (firstOf durations state) 0 v
 
 -- how many numbers it has: v a frame
-abbrev pub countOf : List ℕ → ℕ → ℕ → ℕ
-countOf durations v state = getD durations state 0 * v
+abbrev pub excerptCount : List ℕ → ℕ → ℕ → ℕ
+excerptCount durations v state = getD durations state 0 * v
 
 -- RULES, Places: a state's excerpt is the part of the trajectory that holds its frames
 unfoldable pub excerptOf : {A : Type 0} → List A → List ℕ → ℕ → ℕ → List A
-excerptOf trajectory durations v state = take (countOf durations v state) (drop (startOf durations v state) trajectory)
+excerptOf trajectory durations v state = take (excerptCount durations v state) (drop (excerptStart durations v state) trajectory)

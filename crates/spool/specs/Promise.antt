@@ -8,7 +8,7 @@ use lib.ListN.{length}
 use Rattle.lists.specs.Totals.{total}
 use Rattle.lists.specs.Answers.{Answer, given, answerOf}
 use Rattle.spool.specs.Place.{placeOf}
-use Rattle.spool.specs.Excerpt.{startOf, countOf, excerptOf}
+use Rattle.spool.specs.Excerpt.{excerptStart, excerptCount, excerptOf}
 use Rattle.spool.specs.Refusal.{placeRefusal, excerptRefusal}
 use Rattle.spool.specs.declared.Placed.{Placed}
 use Rattle.spool.specs.declared.Placed.the-variants as place
@@ -32,12 +32,12 @@ PlaceSays frame component v r = placed r ≡ answerOf (placeRefusal component v)
 -- RULES, Places: what `excerpt_span` answers, the excerpt's first number and how many there are
 abbrev pub SpanSays : List Float → List ℕ → ℕ → ℕ → Span → Type 0
 SpanSays trajectory durations v state r =
-    spanned r ≡ answerOf (excerptRefusal (length trajectory) durations v state) (startOf durations v state ∷ countOf durations v state ∷ [])
+    spanned r ≡ answerOf (excerptRefusal (length trajectory) durations v state) (excerptStart durations v state ∷ excerptCount durations v state ∷ [])
 
 -- RULES, Places: an excerpt's numbers, and where they lie, in the trajectory's own memory at 8 bytes a number; the empty part on a refusal
 pub record ExcerptSays (trajectory : RefT (List Float)) (durations : List ℕ) (v state : ℕ) (r : RefT (List Float)) : Type 0 where
   pub numbers : r .now ≡ given (excerptRefusal (length (trajectory .now)) durations v state) (excerptOf (trajectory .now) durations v state) []
-  pub itself : r .ptr ≡ (trajectory .ptr .0, trajectory .ptr .1 + given (excerptRefusal (length (trajectory .now)) durations v state) (startOf durations v state) 0 * 8)
+  pub itself : r .ptr ≡ (trajectory .ptr .0, trajectory .ptr .1 + given (excerptRefusal (length (trajectory .now)) durations v state) (excerptStart durations v state) 0 * 8)
 
 -- a sum of at most 4,096 numbers of 32 bits, and how large it can be
 pub record Summed (durations : List ℕ) (r : ℕ) : Type 0 where

@@ -75,8 +75,8 @@ module _ (ds on flags : List ℕ) where
 -- ---- regions of a group
 
 -- so many from the first on are left of v
-within-left : (v first lanes : ℕ) → (leb first v && leb lanes (v - min first v)) ≡ leb (first + lanes) v
-within-left v first lanes = ⊎-elim
+components-left : (v first lanes : ℕ) → (leb first v && leb lanes (v - min first v)) ≡ leb (first + lanes) v
+components-left v first lanes = ⊎-elim
     (λ (h : first + lanes ≤ v). let k : first ≤ v = omega arith in let l : lanes ≤ v - min first v = omega arith in rw (le-leb first v k, le-leb lanes (v - min first v) l, le-leb (first + lanes) v h))
     (λ (h : v < first + lanes). ⊎-elim
     (λ (k : first ≤ v). let l : v - min first v < lanes = omega arith in rw (le-leb first v k, lt-leb lanes (v - min first v) l, lt-leb (first + lanes) v h))
@@ -84,8 +84,8 @@ within-left v first lanes = ⊎-elim
     (le-or-lt first v))
     (le-or-lt (first + lanes) v)
 
-pub within-is : (v first lanes : ℕ) → (leb v 64 && leb first v && leb lanes (v - min first v)) ≡ (leb v 64 && leb (first + lanes) v)
-within-is v first lanes = and-assoc (leb v 64) (leb first v) (leb lanes (v - min first v)) ∙ ap (λ (b : Bool). leb v 64 && b) (within-left v first lanes)
+pub components-is : (v first lanes : ℕ) → (leb v 64 && leb first v && leb lanes (v - min first v)) ≡ (leb v 64 && leb (first + lanes) v)
+components-is v first lanes = and-assoc (leb v 64) (leb first v) (leb lanes (v - min first v)) ∙ ap (λ (b : Bool). leb v 64 && b) (components-left v first lanes)
 
 pub grouped-is : (ds flags : List ℕ) (g : Layout) (c : Group) (floats : ℕ) → grouped ds flags g c floats ≡ true → Grouped ds flags g c floats
 grouped-is ds flags g c floats e =

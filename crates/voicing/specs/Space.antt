@@ -48,12 +48,12 @@ pub record SwitchesSay (ds on flags flags′ : List ℕ) : Type 0 where
 -- ---- regions of a group
 
 -- the components are some of v
-abbrev pub within : Group → Bool
-within c = leb (c .v) mostComponents && leb (c .first + c .lanes) (c .v)
+abbrev pub componentsFit : Group → Bool
+componentsFit c = leb (c .v) mostComponents && leb (c .first + c .lanes) (c .v)
 
 -- there is a flag a frame, as many are voiced as the layout says, the components are some of v, and their regions lie within the list
 abbrev pub grouped : List ℕ → List ℕ → Layout → Group → ℕ → Bool
-grouped ds flags g c floats = flagged ds (length flags) && eqb (count (maskIn ds flags)) (g .n) && within c && leb (c .lanes * sizeOf g) floats
+grouped ds flags g c floats = flagged ds (length flags) && eqb (count (maskIn ds flags)) (g .n) && componentsFit c && leb (c .lanes * sizeOf g) floats
 
 -- ---- `close_up`
 

@@ -1,7 +1,7 @@
 // Which frames of a stream are voiced, and what follows: the voiced frames are closed up for the solver, and their values are filled back.
 ghost use mathlib.Core.Path.{_≡_};
 ghost use lib.ListN.{length};
-ghost use Rattle.voicing.specs.Space.{within, grouped, closes, MarkSays, SwitchesSay, CloseSays, FillSays};
+ghost use Rattle.voicing.specs.Space.{componentsFit, grouped, closes, MarkSays, SwitchesSay, CloseSays, FillSays};
 use closing::close_group;
 use filling::fill_group;
 use flags::count_voiced;
@@ -51,8 +51,8 @@ pub fn mark_switches(durations: &[u32], switches: &[u8], flags: &mut [u32])
 }
 
 // Whether the components of a group are some of v.
-fn within(c: Group) -> bool
-    ensures { λ r. ⌜ r ≡ within c ⌝ }
+fn components_fit(c: Group) -> bool
+    ensures { λ r. ⌜ r ≡ componentsFit c ⌝ }
 {
     let left = c.v - lists::least(c.first, c.v);
     (c.v <= 64) & (c.first <= c.v) & (c.lanes <= left)
@@ -66,7 +66,7 @@ fn grouped(durations: &[u32], flags: &[u32], g: Layout, c: Group, floats: usize)
         return false;
     }
     let voiced = count_voiced(durations, flags) == lists::wide(g.n);
-    voiced & within(c) & g.fits(c.lanes, floats)
+    voiced & components_fit(c) & g.fits(c.lanes, floats)
 }
 
 // Whether, moreover, records of so many numbers have the pairs of so many windows.

@@ -5,7 +5,7 @@ use native.Mathlib.Nat.{mul-le-mul-left}
 use native.Mathlib.Omega.{arith}
 use lib.ListN.{length}
 use lib.Seq.{length-take-le}
-use Rattle.band.specs.Promise.{framesOf, setRefusal}
+use Rattle.band.specs.Promise.{frameCount, setRefusal}
 use Rattle.lists.specs.declared.Filled.the-variants.{Done}
 use Rattle.lists.proofs.Ends.{passed}
 use Rattle.band.proofs.Ways.{agree, band-narrow, set-taps, band-stops, band-rows-short, band-right-short, band-finished}
@@ -15,11 +15,11 @@ use Rattle.band.proofs.band_rows.Tie as tie
 
 -- nothing of 1, 2, 4 and 5 is given
 ok : (c : tie.After-known-told) → (setRefusal (c .before .before .before .before .before .before .before .before .before .before .args .widths .now) (c .before .before .before .before .before .before .before .before .before .before .args .coefficients .now) (length (c .before .before .before .before .before .before .before .before .before .before .args .means .now)) (length (c .before .before .before .before .before .before .before .before .before .before .args .ivars .now)) ≡ 0)
-    × (framesOf (c .before .before .before .before .before .before .before .before .before .before .args .widths .now) (length (c .before .before .before .before .before .before .before .before .before .before .args .means .now)) ≡ c .before .framed .given .0 .0)
+    × (frameCount (c .before .before .before .before .before .before .before .before .before .before .args .widths .now) (length (c .before .before .before .before .before .before .before .before .before .before .args .means .now)) ≡ c .before .framed .given .0 .0)
 ok c = passed _ _ _ (sym (c .before .before .before .frames-of .ensures) ∙ c .before .framed .given .1)
 
 -- so many frames
-count : (c : tie.After-wide) → c .wide .result ≡ framesOf (c .before .before .before .before .before .before .before .before .before .before .before .args .widths .now) (length (c .before .before .before .before .before .before .before .before .before .before .before .args .means .now))
+count : (c : tie.After-wide) → c .wide .result ≡ frameCount (c .before .before .before .before .before .before .before .before .before .before .before .args .widths .now) (length (c .before .before .before .before .before .before .before .before .before .before .before .args .means .now))
 count c = c .wide .ensures ∙ sym (ok (c .before) .1)
 
 frames-of-requires : tie.Need-frames-of-requires

@@ -12,14 +12,14 @@ use Rattle.lists.specs.Parts.{part}
 use Rattle.floats.specs.Numbers.{nought}
 use Rattle.model.specs.Windows.{windowOf}
 use Rattle.region.specs.Rows.{elem}
-use Rattle.band.specs.Paper.{added, term, rightTerm, partOf}
+use Rattle.band.specs.Paper.{plusTerm, term, rightTerm, partOf}
 use Rattle.band.specs.declared.passes.Block.{Block}
 
 -- ---- a block of rows
 
 -- other rows of the same band
-abbrev pub between : Block → ℕ → ℕ → Block
-between b from to = record { rows = b .rows; right = b .right; n = b .n; w = b .w; from = from; to = to }
+abbrev pub rowsBetween : Block → ℕ → ℕ → Block
+rowsBetween b from to = record { rows = b .rows; right = b .right; n = b .n; w = b .w; from = from; to = to }
 
 -- a block's rows are among the band's, and the band and the right side behind it lie within so many numbers
 pub record Room (b : Block) (size : ℕ) : Type 0 where
@@ -66,8 +66,8 @@ pub record Ready (taps : List Float) (u : ℕ) (b : Block) (size : ℕ) : Type 0
   pub fit : Room b size
 
 -- entry j of row t, and the right side at t, with the tap's term added
-unfoldable pub columnOf : List Float → ℕ → Block → List Float → ℕ → ℕ → Float → Float
-columnOf taps u b d t j = inside (b .n) t j (added (mul binary64 (elem taps 0) (elem d (u + (t - b .from)))) (getD taps j nought))
+unfoldable pub tapColumn : List Float → ℕ → Block → List Float → ℕ → ℕ → Float → Float
+tapColumn taps u b d t j = inside (b .n) t j (plusTerm (mul binary64 (elem taps 0) (elem d (u + (t - b .from)))) (getD taps j nought))
 
 unfoldable pub sideOf : List Float → ℕ → ℕ → Block → List Float → ℕ → Float → Float
 sideOf taps u mean b d t y = add binary64 y (mul binary64 (mul binary64 (elem taps 0) (elem d (u + (t - b .from)))) (elem d (mean + (t - b .from))))
@@ -102,7 +102,7 @@ atFrame half n k t h y = cond (leb k (t + half)) (cond (ltb (t + half - k) n) (h
 
 -- s has the rows t of a block b for which tap k of a window so wide stands at a frame
 pub record Stands (width k : ℕ) (b s : Block) : Type 0 where
-  pub band : s ≡ between b (s .from) (s .to)
+  pub band : s ≡ rowsBetween b (s .from) (s .to)
   pub inside : (t : ℕ) → s .from ≤ t → t < s .to → (b .from ≤ t) × (t < b .to) × (k ≤ t + width / 2) × (t + width / 2 - k < b .n)
   pub whole : (t : ℕ) → t < b .n → b .from ≤ t → t < b .to → k ≤ t + width / 2 → t + width / 2 - k < b .n → (s .from ≤ t) × (t < s .to)
 

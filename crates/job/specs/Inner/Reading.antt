@@ -13,5 +13,5 @@ headed (States count) = record { number = 0; values = count ∷ [] }
 headed Damaged = record { number = 9; values = [] }
 
 -- what `duration::create` promises, of a job
-abbrev pub CreateSays : Job → List ℕ → List ℕ → Fitted → List ℕ → List ℕ → Type 0
-CreateSays j = SpeedSays (j .means) (j .varis) (j .speed)
+abbrev pub StatesFitted : Job → List ℕ → List ℕ → Fitted → List ℕ → List ℕ → Type 0
+StatesFitted j = SpeedSays (j .means) (j .varis) (j .speed)

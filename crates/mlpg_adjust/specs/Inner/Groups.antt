@@ -19,7 +19,7 @@ use Rattle.region.specs.declared.Group.{Group}
 use Rattle.voicing.specs.Mask.{streamMask, maskIn}
 use Rattle.gv.specs.Parmgen.{parmgen}
 use Rattle.gv.specs.Promise.{variedIn}
-use Rattle.mlpg_adjust.specs.Trajectory.{gvOn, withGv, sizeOf, matrix, side, solved}
+use Rattle.mlpg_adjust.specs.Trajectory.{gvOn, withGv, stateSize, matrix, side, solved}
 use Rattle.mlpg_adjust.specs.Promise.{floatsAFrame, marksAFrame}
 use Rattle.mlpg_adjust.specs.declared.Stream.{Stream}
 use Rattle.mlpg_adjust.specs.declared.refusing.Lengths.{Lengths}
@@ -33,7 +33,7 @@ pub record Shaped (s : Stream) (widths : List ℕ) (coefs records : List Float) 
   pub most-windows : length widths ≤ mostWindows
   pub most-width : bandWidth widths ≤ mostTaps
   pub whole : length coefs ≡ total widths
-  pub recorded : length records ≡ length ds * sizeOf s widths
+  pub recorded : length records ≡ length ds * stateSize s widths
   pub few : length ds ≤ mostStates
   pub frames : total ds ≤ mostFrames
   pub varied : gvOn (s .gv) ≡ true → length gv ≡ s .v + s .v
@@ -47,13 +47,13 @@ pub record Room (v frames : ℕ) (n : Lengths) : Type 0 where
 module _ (s : Stream) (widths : List ℕ) (records : List Float) (ds : List ℕ) where
   -- the voiced frames of a stream, how a component's region is laid out, and what else is the same for every component
   abbrev pub voicedIn : List Bool
-  voicedIn = streamMask (sizeOf s widths) records (s .threshold) ds
+  voicedIn = streamMask (stateSize s widths) records (s .threshold) ds
 
   abbrev pub layoutOf : Layout
   layoutOf = record { windows = length widths; n = count voicedIn; w = bandWidth widths }
 
   abbrev pub planOf : Plan
-  planOf = record { stream = s; layout = layoutOf; size = sizeOf s widths; frames = total ds }
+  planOf = record { stream = s; layout = layoutOf; size = stateSize s widths; frames = total ds }
 
 -- marks whose first numbers are the flags of the stream's frames, with room for a switch a voiced frame behind them
 pub record Marked (s : Stream) (widths : List ℕ) (records : List Float) (ds marks : List ℕ) : Type 0 where
@@ -85,17 +85,17 @@ targetIn p c marks gv weight l =
 
 module _ (s : Stream) (widths : List ℕ) (coefs records : List Float) (ds : List ℕ) where
   -- a component's values, from the voiced frames' switches
-  abbrev pub valuesOf : List ℕ → List Float → ℕ → List Float
-  valuesOf on gv component =
+  abbrev pub componentValues : List ℕ → List Float → ℕ → List Float
+  componentValues on gv component =
       withGv (s .gv)
-      (λ weight. parmgen (bandWidth widths) (matrix (sizeOf s widths) records (s .threshold) ds (s .v) widths coefs component) (side (sizeOf s widths) records (s .threshold) ds (s .v) widths coefs component)
-      (map isOn on) (length widths) (mul binary64 (elem gv component) weight) (elem gv (s .v + component)) (solved (sizeOf s widths) records (s .threshold) ds (s .v) widths coefs component))
-      (solved (sizeOf s widths) records (s .threshold) ds (s .v) widths coefs component)
+      (λ weight. parmgen (bandWidth widths) (matrix (stateSize s widths) records (s .threshold) ds (s .v) widths coefs component) (side (stateSize s widths) records (s .threshold) ds (s .v) widths coefs component)
+      (map isOn on) (length widths) (mul binary64 (elem gv component) weight) (elem gv (s .v + component)) (solved (stateSize s widths) records (s .threshold) ds (s .v) widths coefs component))
+      (solved (stateSize s widths) records (s .threshold) ds (s .v) widths coefs component)
 
   -- and its numbers at all frames, with the switches behind the marks of all frames
   unfoldable pub columnOf : List ℕ → List Float → ℕ → List Float
   unfolding fill parmgen matrix side solved
-  columnOf marks gv component = fill (s .fill) (voicedIn s widths records ds) (valuesOf (part (total ds) (count (voicedIn s widths records ds)) marks) gv component)
+  columnOf marks gv component = fill (s .fill) (voicedIn s widths records ds) (componentValues (part (total ds) (count (voicedIn s widths records ds)) marks) gv component)
 
 -- the first c columns of v stand in the trajectory
 pub record Columned (f : ℕ → List Float) (v c : ℕ) (out : List Float) : Type 0 where

@@ -37,7 +37,7 @@ pub enum Found {
 }
 
 // How a call that writes a record ends: 6 is the number of the second.
-pub enum Written {
+pub enum Mixed {
     Done,
     TooShort,
 }
@@ -72,18 +72,18 @@ pub fn msd(lin: &[f64]) -> Weight
 }
 
 // Every number of a record times the weight, over the first numbers of out; what is beyond stays.
-pub fn mul(lin: &[f64], weight: f64, out: &mut [f64]) -> Written
+pub fn mul(lin: &[f64], weight: f64, out: &mut [f64]) -> Mixed
     ensures { λ r. ⌜ MulSays (now (lin .entry)) weight (now (out .entry)) r (now (out .exit)) ⌝ }
 {
     if out.len() < lin.len() {
-        return Written::TooShort;
+        return Mixed::TooShort;
     }
     let mut i = 0;
     while i < lin.len() {
         out[i] = floats::one_nan(lin[i] * weight);
         i += 1;
     }
-    Written::Done
+    Mixed::Done
 }
 
 // The weight times rhs, added to lhs: means to means, variances to variances, weight to weight, each as far as both have them.

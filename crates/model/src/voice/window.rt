@@ -3,7 +3,7 @@
 ghost use mathlib.Core.Path.{_≡_};
 ghost use lib.ListN.{take};
 ghost use Rattle.lists.specs.Parts.{PartSays};
-ghost use Rattle.model.specs.Windows.{between, allOf, finite, widthsFit, allFinite, windowRefusal, longest, maxWidth, bandWidth, leftWidth, rightWidth, widthOf, startOf};
+ghost use Rattle.model.specs.Windows.{between, allOf, finite, widthsFit, allFinite, windowRefusal, longest, maxWidth, bandWidth, leftWidth, rightWidth, widthOf, windowStart};
 
 // Why a set is refused, and 0 where it isn't.
 pub fn refusal(widths: &[u32], coefficients: &[f64]) -> u8
@@ -133,7 +133,7 @@ pub fn width(widths: &[u32], i: usize) -> usize
 
 // Where window i's coefficients begin.
 pub fn start(widths: &[u32], i: usize) -> usize
-    ensures { λ r. ⌜ r ≡ startOf (take 4 (now (widths .entry))) i ⌝ }
+    ensures { λ r. ⌜ r ≡ windowStart (take 4 (now (widths .entry))) i ⌝ }
 {
     let before = lists::least(lists::least(i, 4), widths.len());
     lists::total_u32(&widths[..before]) as usize
@@ -141,7 +141,7 @@ pub fn start(widths: &[u32], i: usize) -> usize
 
 // Window i's coefficients: a part of the lent list itself, empty where there is no such window.
 pub fn coefficients_of<'a>(widths: &[u32], coefficients: &'a [f64], i: usize) -> &'a [f64]
-    ensures { λ r. ⌜ PartSays 8 (coefficients .entry) (startOf (take 4 (now (widths .entry))) i) (widthOf (take 4 (now (widths .entry))) i) r ⌝ }
+    ensures { λ r. ⌜ PartSays 8 (coefficients .entry) (windowStart (take 4 (now (widths .entry))) i) (widthOf (take 4 (now (widths .entry))) i) r ⌝ }
 {
     lists::part_f64(coefficients, start(widths, i), width(widths, i))
 }

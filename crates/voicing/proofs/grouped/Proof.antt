@@ -22,4 +22,4 @@ grouped-spec =
     (λ c κs. search needs)
     (λ c κs. search needs)
     (λ c κs. search needs)
-    (λ c. rw (opened (c .before .before .before .before), c .fits2 .ensures, c .before .within .ensures, c .before .before .wide .ensures, c .before .before .before .count-voiced .ensures)))
+    (λ c. rw (opened (c .before .before .before .before), c .fits2 .ensures, c .before .components-fit .ensures, c .before .before .wide .ensures, c .before .before .before .count-voiced .ensures)))

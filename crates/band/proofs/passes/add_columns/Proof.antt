@@ -7,14 +7,14 @@ use lib.ListN.{length}
 use lib.Ieee.{eq}
 use Rattle.floats.specs.Numbers.{nought}
 use Rattle.region.specs.Rows.{elem}
-use Rattle.band.specs.Inner.Passes.{Moved, Ready, still, inColumns, columnOf}
+use Rattle.band.specs.Inner.Passes.{Moved, Ready, still, inColumns, tapColumn}
 use Rattle.band.proofs.Columns.{columns-none, columns-next, columns-all}
 use borrow.Author.Needs.{needs}
 use Rattle.band.proofs.passes.add_columns.Statement.{statement}
 use Rattle.band.proofs.passes.add_columns.Tie as tie
 
 abbrev Inv-loop : tie.InvT-loop
-Inv-loop m₀ taps u b whole j₀ m j = (j ≤ length taps) × (j < length taps → eq (elem taps j) nought ≡ false) × (length m ≡ length m₀) × Moved b (inColumns 0 j (columnOf taps u b m₀)) still m₀ m
+Inv-loop m₀ taps u b whole j₀ m j = (j ≤ length taps) × (j < length taps → eq (elem taps j) nought ≡ false) × (length m ≡ length m₀) × Moved b (inColumns 0 j (tapColumn taps u b m₀)) still m₀ m
 
 abbrev μ-loop : tie.MeasureT-loop
 μ-loop m₀ taps u b whole j₀ m j = length taps - j

@@ -7,14 +7,14 @@ use lib.ListN.{length, getD, drop}
 use Rattle.lists.specs.Build.{build}
 use Rattle.floats.specs.Numbers.{nought}
 use Rattle.region.specs.Rows.{elem}
-use Rattle.band.specs.Paper.{added}
+use Rattle.band.specs.Paper.{plusTerm}
 use Rattle.band.proofs.Terms.{add-next, add-done}
 use borrow.Author.Needs.{needs}
 use Rattle.band.proofs.row.add_taps.Statement.{statement}
 use Rattle.band.proofs.row.add_taps.Tie as tie
 
 abbrev Inv-loop : tie.InvT-loop
-Inv-loop wu taps row₀ j₀ row j = (j ≤ length taps) × (length row ≡ length row₀) × (row ≡ build (λ j. added wu (getD taps j nought) (elem row₀ j)) j ++ drop j row₀)
+Inv-loop wu taps row₀ j₀ row j = (j ≤ length taps) × (length row ≡ length row₀) × (row ≡ build (λ j. plusTerm wu (getD taps j nought) (elem row₀ j)) j ++ drop j row₀)
 
 abbrev μ-loop : tie.MeasureT-loop
 μ-loop wu taps row₀ j₀ row j = length taps - j
