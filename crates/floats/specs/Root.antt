@@ -28,13 +28,6 @@ sqrtOf (fin false (suc m) e) =
     let w = (size a - 105) / 2 in
     round binary64 false (nearestRoot (a / 2 ^ (2 * w)) * 2 ^ w) (2 ^ 589)
 
--- x is digits * 2 ^ scale / 2 ^ 1126, with 53 digits
-pub record IsScaled (x : Float) (digits scale : ℕ) : Type 0 where
-  pub value : HasValue x false (digits * 2 ^ scale) (2 ^ 1126)
-  pub full : 2 ^ 52 ≤ digits
-  pub short : digits < 2 ^ 53
-  pub near : scale < 2100
-
 -- The exact claim of a correctly rounded root. x above zero is n * 2 ^ (2 * w) / 2 ^ 1178 with an n of 105 or 106 digits, and r is q * 2 ^ w / 2 ^ 589
 -- with a q of 53. The root of n lies between q - 1/2 and q + 1/2, said by squares of whole numbers. It is 2 ^ 52 at least, where the format's values
 -- are a unit apart, so r is the nearest of them, and no root lies half way.

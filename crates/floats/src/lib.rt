@@ -7,7 +7,8 @@ ghost use lib.Seq.{sets};
 ghost use Rattle.lists.specs.Bytes.{little, bytesOf};
 ghost use Rattle.floats.specs.Rounding.{roundedOf, nearestHalf};
 ghost use Rattle.floats.specs.Order.{absOf, costBelow};
-ghost use Rattle.floats.specs.Root.{nearestRoot, sqrtOf, IsScaled};
+ghost use Rattle.floats.specs.Root.{nearestRoot, sqrtOf};
+ghost use Rattle.floats.specs.Inner.Scaled.{IsScaled};
 
 // digits / 2 ^ places to the nearest whole number, a half upward: one shift leaves the halves, and an odd one rounds up.
 fn without_fraction(digits: u64, places: u64) -> u64

@@ -8,7 +8,7 @@ use lib.ListN.{length, take, drop, getD, length-drop, take-append-drop}
 use lib.Seq.{take-all}
 use Rattle.lists.specs.Totals.{total}
 use Rattle.lists.proofs.Sums.{total-append, total-whole, total-under}
-use Rattle.spool.specs.Promise.{Summed}
+use Rattle.spool.specs.Inner.Sums.{Summed}
 
 -- what `total_u32` says of durations that are few
 pub summed : (ds : List ℕ) (r : ℕ) → ((i : ℕ) → getD ds i 0 ≤ 4294967295) → length ds ≤ 4096 → r ≡ total (take (2 ^ 32) ds) → Summed ds r

@@ -1,11 +1,10 @@
 -- What the calls promise.
 use mathlib.Core.Path.{_≡_}
 use mathlib.Core.List.{List, [], _∷_}
-use Prim.Native.Nat.{ℕ, _+_, _*_, _≤_}
+use Prim.Native.Nat.{ℕ, _+_, _*_}
 use denote.Ref.{RefT}
 use lib.Ieee.{Float}
 use lib.ListN.{length}
-use Rattle.lists.specs.Totals.{total}
 use Rattle.lists.specs.Answers.{Answer, given, answerOf}
 use Rattle.spool.specs.Place.{placeOf}
 use Rattle.spool.specs.Excerpt.{excerptStart, excerptCount, excerptOf}
@@ -38,8 +37,3 @@ SpanSays trajectory durations v state r =
 pub record ExcerptSays (trajectory : RefT (List Float)) (durations : List ℕ) (v state : ℕ) (r : RefT (List Float)) : Type 0 where
   pub numbers : r .now ≡ given (excerptRefusal (length (trajectory .now)) durations v state) (excerptOf (trajectory .now) durations v state) []
   pub itself : r .ptr ≡ (trajectory .ptr .0, trajectory .ptr .1 + given (excerptRefusal (length (trajectory .now)) durations v state) (excerptStart durations v state) 0 * 8)
-
--- a sum of at most 4,096 numbers of 32 bits, and how large it can be
-pub record Summed (durations : List ℕ) (r : ℕ) : Type 0 where
-  pub sum : r ≡ total durations
-  pub small : r ≤ 4096 * 4294967295

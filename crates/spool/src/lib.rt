@@ -5,7 +5,8 @@ ghost use lib.ListN.{length};
 ghost use Rattle.spool.specs.Place.{numberOf};
 ghost use Rattle.lists.specs.Sizes.{outside};
 ghost use Rattle.spool.specs.Refusal.{excerptRefusal};
-ghost use Rattle.spool.specs.Promise.{PlaceSays, SpanSays, ExcerptSays, Summed};
+ghost use Rattle.spool.specs.Promise.{PlaceSays, SpanSays, ExcerptSays};
+ghost use Rattle.spool.specs.Inner.Sums.{Summed};
 
 // A byte place in the spool, or why there is none.
 pub enum Placed {
