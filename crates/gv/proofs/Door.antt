@@ -3,21 +3,20 @@ use mathlib.Core.Path.{_≡_, refl, sym, _∙_}
 use mathlib.Core.Bool.{Bool, true, false, not, _&&_, true≢false}
 use mathlib.Core.List.{List, map}
 use Prim.Native.Nat.{ℕ, _*_, _<_, _≤_, _^_}
-use native.Mathlib.Omega.{arith}
 use borrow.Author.Tests.{ltb-true, leb-true, eqb-true, not-true}
 use lib.ListN.{length}
 use lib.Ieee.{Float, binary64, mul}
 use Rattle.lists.specs.Flags.{isOn}
-use Rattle.lists.proofs.Regions.{cut-length}
 use Rattle.region.specs.Rows.{elem}
-use Rattle.region.specs.Region.{sizeOf, placesOf, regionIn, regionOf, flat}
+use Rattle.region.specs.Region.{sizeOf, placesOf, regionOf}
+use Rattle.region.specs.Inner.Passes.{Across}
 use Rattle.region.specs.declared.Layout.{Layout}
 use Rattle.region.specs.declared.Places.{Places}
 use Rattle.region.proofs.Laying.{laid}
-use Rattle.region.proofs.Lanes.{region-fits}
-use Rattle.region.proofs.Flats.{each-is}
+use Rattle.region.proofs.Lanes.{region-long}
+use Rattle.region.proofs.Flats.{across-is}
 use Rattle.gv.specs.Promise.{opens, variedIn, VarySays}
-use Rattle.gv.specs.Inner.Turns.{Planned, Suited, Each}
+use Rattle.gv.specs.Inner.Turns.{Planned, Suited, parmgenIn}
 use Rattle.gv.specs.declared.MlpgGlobalVariance.{MlpgGlobalVariance}
 use Rattle.gv.proofs.Varied.{varied-flat}
 
@@ -52,7 +51,7 @@ module _ (g : Layout) (on means varis floats : ℕ) where
 
   -- a layout's own sizes suit its regions
   pub suited : (s : MlpgGlobalVariance) (bs : List Bool) → Opened → g .w < 2 ^ 32 → Planned g bs s → Suited s (placesOf g) (sizeOf g)
-  suited s bs o b k = rw (k .length, k .width, k .windows) (record { some = o .some; narrow = b; few = o .few; sets = o .sets; spaced = laid g .behind })
+  suited s bs o b k = rw (k .length, k .width, k .windows) (record { some = o .some; narrow = b; few = o .few; sets = o .sets; spaced = laid g })
 
 -- ---- the call
 
@@ -61,13 +60,15 @@ module _ (g : Layout) (on : List ℕ) (means varis : List Float) (weight : Float
   none-varied b e h = record { space = rw (← e, not-true b h) }
 
   pub all-varied : (work′ : List Float) (s : MlpgGlobalVariance) (p : Places) → opens g (length on) (length means) (length varis) (length work) ≡ true → Planned g (map isOn on) s → p ≡ placesOf g
-      → Each s p (map isOn on) means varis weight work work′ → VarySays g on means varis weight work work′
+      → Across (λ l b e. e ≡ parmgenIn s p (map isOn on) (mul binary64 (elem means l) weight) (elem varis l) b) (p .size) (length means) work work′ → VarySays g on means varis weight work work′
   all-varied work′ s p o k e q =
       let d = opened g (length on) (length means) (length varis) (length work) o in
-      let size : ℕ = sizeOf g in
       let q′ = rw e at q in
-      let each : (l : ℕ) → l < length means → regionOf size l work′ ≡ flat (variedIn g (map isOn on) (mul binary64 (elem means l) weight) (elem varis l) (regionIn g (regionOf size l work))) =
-      λ l h. q′ .regions l h ∙ varied-flat g (d .some) (map isOn on) (mul binary64 (elem means l) weight) (elem varis l) (regionOf size l work) s (placesOf g) k refl (cut-length (l * size) size work (region-fits size (length means) l work h (d .room))) in
       record {
-        space = rw o (each-is g (length means) (λ l. variedIn g (map isOn on) (mul binary64 (elem means l) weight) (elem varis l)) work (d .room) work′ (record { long = q′ .long; done = each; left = λ j h i. absurd (omega arith); behind = q′ .behind }));
+        space = rw o (across-is g (length means) (λ l. variedIn g (map isOn on) (mul binary64 (elem means l) weight) (elem varis l)) work (d .room) work′ (record {
+          long = q′ .long;
+          each = λ l h. q′ .each l h
+              ∙ varied-flat g (d .some) (map isOn on) (mul binary64 (elem means l) weight) (elem varis l) (regionOf (sizeOf g) l work) s (placesOf g) k refl (region-long (sizeOf g) (length means) l work h (d .room));
+          behind = q′ .behind;
+        }));
       }

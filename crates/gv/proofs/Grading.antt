@@ -15,7 +15,7 @@ use Rattle.lists.proofs.Orders.{over-step, over-same}
 use Rattle.lists.proofs.Regions.{cut-length, stored-behind, stored-before, stored-rule}
 use Rattle.floats.specs.Numbers.{nought}
 use Rattle.region.specs.Rows.{elem}
-use Rattle.region.specs.Region.{Spaced}
+use Rattle.region.specs.Inner.Passes.{Spaced}
 use Rattle.region.specs.declared.Places.{Places}
 use Rattle.region.proofs.Readings.{part-elem, read-under}
 use Rattle.gv.specs.Gv.{plusRight, plusLeft, beside, gradientAt, gradient, hmmTerm, hmmObj}

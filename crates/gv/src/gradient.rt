@@ -6,7 +6,7 @@ ghost use lib.ListN.{length, set};
 ghost use lib.Ieee.{Float, binary64, add, mul};
 ghost use Rattle.lists.specs.Parts.{part};
 ghost use Rattle.region.specs.Rows.{elem};
-ghost use Rattle.region.specs.Region.{Spaced};
+ghost use Rattle.region.specs.Inner.Passes.{Spaced};
 ghost use Rattle.gv.specs.Gv.{plusRight, plusLeft, gradientAt, hmmTerm};
 ghost use Rattle.gv.specs.Inner.Turns.{Graded};
 use super::objective::hmm_term;

@@ -4,11 +4,14 @@ ghost use mathlib.Core.List.{map};
 ghost use Prim.Native.Nat.{_*_, _<_, _≤_};
 ghost use lib.ListN.{length};
 ghost use lib.Seq.{sets};
+ghost use lib.Ieee.{binary64, mul};
 ghost use Rattle.lists.specs.Build.{build};
 ghost use Rattle.lists.specs.Flags.{isOn};
+ghost use Rattle.region.specs.Rows.{elem};
+ghost use Rattle.region.specs.Inner.Passes.{Across};
 ghost use Rattle.gv.specs.Gv.{meanOf, variOf, convGv, weightOf, hmmObj};
 ghost use Rattle.gv.specs.Promise.{opens, VarySays};
-ghost use Rattle.gv.specs.Inner.Turns.{Counted, Planned, Sampled, Suited, Pulls, movedIn, sideIn, valuesIn, gradientIn, Turned, fiveTurns, parmgenIn, Each};
+ghost use Rattle.gv.specs.Inner.Turns.{Counted, Planned, Sampled, Suited, Pulls, movedIn, sideIn, valuesIn, gradientIn, Turned, fiveTurns, parmgenIn};
 use gradient::inner_rows_of_three;
 use gradient::rows_by_entries;
 use objective::W2;
@@ -226,7 +229,8 @@ impl MlpgGlobalVariance {
         work: &mut [f64],
     )
         requires { ⌜ Suited self p (p .size) × Counted self (map isOn (now on)) × (length (now varis) ≡ length (now means)) × (length (now means) * p .size ≤ length (now work)) ⌝ }
-        ensures { λ _. ⌜ Each self p (map isOn (now (on .entry))) (now (means .entry)) (now (varis .entry)) weight (now (work .entry)) (now (work .exit)) ⌝ }
+        ensures { λ _. ⌜ Across (λ l b e. e ≡ parmgenIn self p (map isOn (now (on .entry))) (mul binary64 (elem (now (means .entry)) l) weight) (elem (now (varis .entry)) l) b)
+            (p .size) (length (now (means .entry))) (now (work .entry)) (now (work .exit)) ⌝ }
     {
         let lanes = means.len();
         let size = p.size;

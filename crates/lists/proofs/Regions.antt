@@ -22,6 +22,11 @@ module _ {A : Type 0} where
   pub stored-within : (l : List A) (o k i : ℕ) (v : A) → i < k → cut o k (set l (o + i) v) ≡ set (cut o k l) i v
   stored-within l o k i v h = rw (drop-set-add o l i v, take-set-lt k (drop o l) i v h)
 
+  -- and several
+  pub sets-within : (vs l : List A) (o k i j : ℕ) → j ≡ o + i → i + length vs ≤ k → cut o k (sets l j vs) ≡ sets (cut o k l) i vs
+  sets-within [] l o k i j e h = refl
+  sets-within (v ∷ vs) l o k i j e h = sets-within vs (set l j v) o k (suc i) (suc j) (omega arith) (omega arith) ∙ ap (λ (p : List A). sets p (suc i) vs) (rw e (stored-within l o k i v (omega arith)))
+
   -- a store behind a part, and one before it
   under : (o k i : ℕ) (l : List A) (v : A) → o + k ≤ i → cut o k (set l i v) ≡ cut o k l
   under o k i l v h =

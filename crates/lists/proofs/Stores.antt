@@ -6,8 +6,8 @@ use Prim.Native.Nat.{ℕ, suc, _+_, _-_, _<_, _≤_, min}
 use native.Mathlib.Nat.{add-zero, add-suc, suc-add}
 use native.Mathlib.Numerals.{add-one}
 use native.Mathlib.Omega.{arith}
-use lib.ListN.{length, take, drop, getD, set, replicate, length-take, length-replicate, length-set, getD-replicate, take-append-drop, drop-of-length-le}
-use lib.Seq.{sets, length-sets, sets-eq, set-out, take-suc, take-all, take-length, length-take-le, getD-take}
+use lib.ListN.{length, take, drop, getD, set, replicate, length-append, length-take, length-drop, length-replicate, length-set, getD-replicate, take-append-drop, drop-of-length-le}
+use lib.Seq.{sets, length-sets, sets-eq, set-out, take-suc, take-all, take-at, take-length, length-take-le, getD-take, drop-append-add, drop-drop}
 use Rattle.lists.proofs.Numbers.{le-or-lt}
 
 module _ {A : Type 0} where
@@ -35,6 +35,13 @@ module _ {A : Type 0} where
       let p : length (sets d at (take i xs)) ≤ at + length (take i xs) = rw (length-sets d at (take i xs), l) (omega arith) in
       e ∙ sym (ap (sets d at) (sym (take-append-drop i xs)) ∙ sets-append (take i xs) (drop i xs) d at ∙ sets-past (drop i xs) (sets d at (take i xs)) (at + length (take i xs)) p))
       (le-or-lt (length xs) i)
+
+  -- p is done, a run is stored behind it, and the rest is as it was
+  pub sets-next : (p vs d : List A) (t u : ℕ) → length p ≡ t → t + length vs ≡ u → u ≤ length d → sets (p ++ drop t d) t vs ≡ p ++ vs ++ drop u d
+  sets-next p vs d t u e f h =
+      let room : t + length vs ≤ length (p ++ drop t d) = simp (length-append, length-drop) (omega arith) in
+      let rest : drop (t + length vs) (p ++ drop t d) ≡ drop u d = rw (← f, ← e) (drop-append-add p (drop (length p) d) (length vs) ∙ drop-drop (length vs) (length p) d) in
+      sets-eq vs (p ++ drop t d) t room ∙ rw (take-at p (drop t d) t e, rest)
 
   -- where there is room for n of them: the front is new, and the rest is as it was
   pub filled : (n : ℕ) (v : A) (l : List A) → n ≤ length l → sets l 0 (replicate n v) ≡ replicate n v ++ drop n l

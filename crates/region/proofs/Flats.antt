@@ -11,8 +11,9 @@ use Rattle.lists.specs.Parts.{part}
 use Rattle.lists.proofs.Joins.{part-joined, part-last, part-first, part-behind, rows-same, rows-length, rows-part, rows-cut}
 use Rattle.lists.proofs.Regions.{cut-length}
 use Rattle.region.specs.Region.{Region, ivarsAt, rowsAt, rightAt, factorsAt, valuesAt, sizeOf, regionIn, flat, Sized, regionOf, eachRegion}
+use Rattle.region.specs.Inner.Passes.{Across}
 use Rattle.region.specs.declared.Layout.{Layout}
-use Rattle.region.proofs.Lanes.{Stepped, region-fits}
+use Rattle.region.proofs.Lanes.{Stepped, region-long}
 
 -- ---- one region
 
@@ -77,13 +78,25 @@ module _ (g : Layout) (lanes : ℕ) (f : ℕ → Region → Region) (work : List
   abbrev before : ℕ → Region
   before l = regionIn g (regionOf (sizeOf g) l work)
 
-  -- each region made its step, and what lies behind them is as it was
-  pub each-is : (work′ : List Float) → Stepped (λ l b e. e ≡ flat (f l (regionIn g b))) (sizeOf g) lanes lanes work work′ → work′ ≡ eachRegion g lanes f work
+  -- each region is so, and what lies behind them is as it was
+  pub across-is : (work′ : List Float) → Across (λ l b e. e ≡ flat (f l (regionIn g b))) (sizeOf g) lanes work work′ → work′ ≡ eachRegion g lanes f work
   unfolding eachRegion
-  each-is work′ k =
+  across-is work′ k =
       sym (rows-cut (sizeOf g) lanes work′)
       ∙ rw (k .behind)
-      (ap (λ (x : List Float). x ++ drop (lanes * sizeOf g) work) (rows-same (λ l. regionOf (sizeOf g) l work′) (λ l. flat (f l (before l))) lanes (λ l h. k .done l h)))
+      (ap (λ (x : List Float). x ++ drop (lanes * sizeOf g) work) (rows-same (λ l. regionOf (sizeOf g) l work′) (λ l. flat (f l (before l))) lanes (k .each)))
+
+  pub each-is : (work′ : List Float) → Stepped (λ l b e. e ≡ flat (f l (regionIn g b))) (sizeOf g) lanes lanes work work′ → work′ ≡ eachRegion g lanes f work
+  each-is work′ k = across-is work′ (record { long = k .long; each = k .done; behind = k .behind })
+
+  -- each region's six lists are so
+  pub lists-are : (work′ : List Float) → Across (λ l b e. regionIn g e ≡ f l (regionIn g b)) (sizeOf g) lanes work work′ → work′ ≡ eachRegion g lanes f work
+  lists-are work′ k =
+      across-is work′ (record {
+        long = k .long;
+        each = λ l h. sym (flat-read g (regionOf (sizeOf g) l work′) (region-long (sizeOf g) lanes l work′ h (omega (arith, k .long)))) ∙ ap flat (k .each l h);
+        behind = k .behind;
+      })
 
   module _ (sized : (l : ℕ) → l < lanes → Sized g (f l (before l))) where
     pub each-length : length (eachRegion g lanes f work) ≡ length work
@@ -102,4 +115,4 @@ module _ (g : Layout) (lanes : ℕ) (f : ℕ → Region → Region) (work : List
 
   -- a region within the list has all its floats
   pub before-sized : (l : ℕ) → l < lanes → Sized g (before l)
-  before-sized l h = read-sized g (regionOf (sizeOf g) l work) (cut-length (l * sizeOf g) (sizeOf g) work (region-fits (sizeOf g) lanes l work h fit))
+  before-sized l h = read-sized g (regionOf (sizeOf g) l work) (region-long (sizeOf g) lanes l work h fit)

@@ -12,11 +12,15 @@ use lib.Ieee.{Float}
 use Rattle.lists.proofs.Numbers.{le-or-lt}
 use Rattle.lists.proofs.Rows.{row-fits}
 use Rattle.region.specs.Region.{regionOf}
-use Rattle.lists.proofs.Regions.{returned, stored-whole, stored-behind, stored-before, dropped-before}
+use Rattle.lists.proofs.Regions.{cut-length, returned, stored-whole, stored-behind, stored-before, dropped-before}
 
 -- region l lies within the list
 pub region-fits : (size lanes l : ℕ) (m : List Float) → l < lanes → lanes * size ≤ length m → l * size + size ≤ length m
 region-fits size lanes l m h b = omega (arith, row-fits size l lanes h)
+
+-- and has all its floats
+pub region-long : (size lanes l : ℕ) (m : List Float) → l < lanes → lanes * size ≤ length m → length (regionOf size l m) ≡ size
+region-long size lanes l m h b = cut-length (l * size) size m (region-fits size lanes l m h b)
 
 -- the first l of the regions of d have made the step, and the others are as they were
 pub record Stepped (Step : ℕ → List Float → List Float → Type 0) (size lanes l : ℕ) (d m : List Float) : Type 0 where

@@ -1,9 +1,10 @@
 -- Laws of a layout's places.
-use mathlib.Core.Path.{_≡_, refl}
+use mathlib.Core.Path.{_≡_}
 use Prim.Native.Nat.{ℕ, _+_, _*_, _≤_}
 use native.Mathlib.Nat.{mul-le-mul, mul-comm, add-mul}
 use native.Mathlib.Omega.{arith}
-use Rattle.region.specs.Region.{floatsOf, sizeOf, placesOf, Spaced, Laid}
+use Rattle.region.specs.Region.{floatsOf, sizeOf, placesOf}
+use Rattle.region.specs.Inner.Passes.{Spaced}
 use Rattle.region.specs.declared.Layout.{Layout}
 
 -- a byte times a number of 32 bits
@@ -14,12 +15,8 @@ pub times-byte : (n b : ℕ) → n ≤ 4294967295 → b ≤ 255 → n * b ≤ 10
 times-byte n b h k = mul-le-mul h k
 
 -- the lists of a region follow each other
-pub laid : (g : Layout) → Laid (placesOf g) (g .windows) (g .n) (g .w) (sizeOf g)
-laid g = record {
-  ivars-at = refl;
-  rows-at = omega arith;
-  behind = record { right-at = omega arith; factors-at = omega arith; values-at = omega arith; room = omega arith };
-}
+pub laid : (g : Layout) → Spaced (placesOf g) (g .n) (g .w) (sizeOf g)
+laid g = record { rows-at = omega arith; right-at = omega arith; factors-at = omega arith; values-at = omega arith; room = omega arith }
 
 -- a region has so many floats for each of its frames
 pub size-floats : (g : Layout) → sizeOf g ≡ g .n * floatsOf g

@@ -2,4 +2,6 @@
 pub mod Readings
 pub mod Laying
 pub mod Lanes
+pub mod Across
+pub mod Stores
 pub mod Flats

@@ -1,5 +1,5 @@
 -- One component's region of the work space: its six lists, where they lie, and the regions of several components one after the other.
-use Prim.Native.Nat.{ℕ, _+_, _*_, _≤_}
+use Prim.Native.Nat.{ℕ, _+_, _*_}
 use mathlib.Core.Path.{_≡_}
 use mathlib.Core.List.{List, _++_}
 use lib.ListN.{length, drop}
@@ -44,16 +44,20 @@ sizeOf g = valuesAt g + g .n
 abbrev pub placesOf : Layout → Places
 placesOf g = record { ivars = ivarsAt g; rows = rowsAt g; right = rightAt g; factors = factorsAt g; values = valuesAt g; size = sizeOf g }
 
--- the six lists of a region m
-abbrev pub regionIn : Layout → List Float → Region
-regionIn g m = record {
-  means = part 0 (ivarsAt g) m;
-  ivars = part (ivarsAt g) (ivarsAt g) m;
-  matrix = part (rowsAt g) (g .n * g .w) m;
-  side = part (rightAt g) (g .n) m;
-  factors = part (factorsAt g) (g .n * g .w) m;
-  values = part (valuesAt g) (g .n) m;
+-- the six lists of a region m of n frames and rows of w numbers, which begin at places p
+abbrev pub regionAt : Places → ℕ → ℕ → List Float → Region
+regionAt p n w m = record {
+  means = part 0 (p .ivars) m;
+  ivars = part (p .ivars) (p .ivars) m;
+  matrix = part (p .rows) (n * w) m;
+  side = part (p .right) n m;
+  factors = part (p .factors) (n * w) m;
+  values = part (p .values) n m;
 }
+
+-- those at a layout's places
+abbrev pub regionIn : Layout → List Float → Region
+regionIn g m = regionAt (placesOf g) (g .n) (g .w) m
 
 -- and a region of six lists
 abbrev pub flat : Region → List Float
@@ -76,18 +80,3 @@ regionOf size l m = part (l * size) size m
 unfoldable pub eachRegion : Layout → ℕ → (ℕ → Region → Region) → List Float → List Float
 unfolding rows
 eachRegion g lanes f work = rows (λ l. flat (f l (regionIn g (regionOf (sizeOf g) l work)))) lanes ++ drop (lanes * sizeOf g) work
-
--- ---- what passes over a region need of its places
-
--- rows, right side, factors and values follow each other
-pub record Spaced (p : Places) (n w size : ℕ) : Type 0 where
-  pub right-at : p .rows + n * w ≤ p .right
-  pub factors-at : p .right + n ≤ p .factors
-  pub values-at : p .factors + n * w ≤ p .values
-  pub room : p .values + n ≤ size
-
--- behind the means, which are first, and the inverse variances
-pub record Laid (p : Places) (windows n w size : ℕ) : Type 0 where
-  pub ivars-at : p .ivars ≡ windows * n
-  pub rows-at : p .ivars + windows * n ≤ p .rows
-  pub behind : Spaced p n w size

@@ -1,17 +1,15 @@
 -- Laws of the factors and the substitutions: rows that are stored, and what a row looks back at.
 use mathlib.Core.Path.{_≡_, refl, sym, ap, _∙_}
 use mathlib.Core.List.{List, [], _∷_, _++_, append-assoc, append-nil}
-use mathlib.Core.Logic.{⊎-elim}
 use Prim.Native.Nat.{ℕ, zero, suc, _+_, _-_, _*_, _<_, _≤_}
-use native.Mathlib.Nat.{add-zero, add-sub-cancel-left, mul-le-mul-right, suc-mul, zero-mul, le-refl}
+use native.Mathlib.Nat.{add-zero, add-sub-cancel-left, suc-mul, zero-mul, le-refl}
 use native.Mathlib.Numerals.{add-one}
 use native.Mathlib.Omega.{arith}
 use lib.ListN.{length, set, take, drop, length-append, length-set, List·getD-append}
-use lib.Seq.{sets, getD-take, take-append-le, take-all, take-suc, take-length, length-take-le, drop-at, drop-cons, drop-length, set-at, set-comm}
+use lib.Seq.{sets, getD-take, take-suc, take-length, length-take-le, drop-at, drop-cons, drop-length, set-at, set-comm}
 use lib.Ieee.{Float, nan, binary64, div}
 use Rattle.lists.specs.Build.{build}
 use Rattle.lists.proofs.Fills.{build-length}
-use Rattle.lists.proofs.Numbers.{le-or-lt}
 use Rattle.lists.proofs.Rows.{row-in}
 use Rattle.region.specs.Rows.{elem, row}
 use Rattle.lists.specs.Parts.{part}
@@ -75,24 +73,11 @@ module _ (w : ℕ) (A : List Float) where
   factor-length (suc t) =
       simp length-append (omega (arith, factor-length t, build-length (factorAt w (row w A t) (factor w A t) t) w, suc-mul t w))
 
-  pub factor-front : (n t : ℕ) → t ≤ n → take (t * w) (factor w A n) ≡ factor w A t
-  unfolding factor
-  factor-front zero t h = let e : t ≡ 0 = omega arith in rw (e, zero-mul)
-  factor-front (suc n) t h = ⊎-elim
-      (λ (l : t ≤ n). take-append-le (t * w) (factor w A n) _ (rw (factor-length n) (mul-le-mul-right w l)) ∙ factor-front n t l)
-      (λ (l : n < t). let e : t ≡ suc n = omega arith in rw e (take-all (suc n * w) (factor w A (suc n)) (omega (arith, factor-length (suc n)))))
-      (le-or-lt t n)
-
   pub factor-next : (t : ℕ) → factor w A (t + 1) ≡ factor w A t ++ build (factorAt w (row w A t) (factor w A t) t) w
   unfolding factor
   factor-next t = rw add-one
 
--- ---- forward substitution looks back at the rows before t only
-
-pub forward-looks : (w : ℕ) (F : List Float) (x : Float) (g : List Float) (t : ℕ) → 0 < w → forwardAt w (take (t * w) F) x g t ≡ forwardAt w F x g t
-forward-looks w F x g t pos =
-    less-same x (forwardTerm w (take (t * w) F) g t) (forwardTerm w F g t) (reach w t)
-    (λ k l. rw (getD-take (t * w) F ((t - (k + 1)) * w + (k + 1)) nan (row-in w (t - (k + 1)) t (k + 1) (omega arith) (omega arith))))
+-- ---- forward substitution
 
 module _ (w : ℕ) (F r : List Float) where
   pub forward-length : (t : ℕ) → length (forward w F r t) ≡ t
@@ -103,6 +88,18 @@ module _ (w : ℕ) (F r : List Float) where
   pub forward-next : (t : ℕ) → forward w F r (t + 1) ≡ forward w F r t ++ (forwardAt w F (elem r t) (forward w F r t) t ∷ [])
   unfolding forward
   forward-next t = rw add-one
+
+-- it looks back at the rows before t only
+pub forward-more : (w : ℕ) (F X r : List Float) (t k : ℕ) → k * w ≤ length F → t ≤ k + 1 → forward w (F ++ X) r t ≡ forward w F r t
+unfolding forward
+forward-more w F X r zero k h l = refl
+forward-more w F X r (suc t) k h l =
+    let g : List Float = forward w F r t in
+    rw (
+      forward-more w F X r t k h (omega arith),
+      less-same (elem r t) (forwardTerm w (F ++ X) g t) (forwardTerm w F g t) (reach w t)
+          (λ j b. rw (List·getD-append F X nan ((t - (j + 1)) * w + (j + 1)) (omega (arith, row-in w (t - (j + 1)) k (j + 1) (omega arith) (omega arith))))),
+    )
 
 -- ---- backward substitution, in place: g has the values from t + 1 on
 

@@ -2,7 +2,6 @@
 pub mod Orders
 pub mod Factors
 pub mod Standings
-pub mod Across
 pub mod Threes
 pub mod Solved
 pub mod One

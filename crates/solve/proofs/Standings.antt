@@ -2,115 +2,109 @@
 use mathlib.Core.Path.{_≡_, refl, sym, ap, _∙_}
 use mathlib.Core.List.{List, [], _∷_}
 use Prim.Native.Nat.{ℕ, _+_, _*_, _<_, _≤_}
-use native.Mathlib.Nat.{zero-add, suc-mul, zero-mul}
+use native.Mathlib.Nat.{suc-mul, zero-mul}
 use native.Mathlib.Numerals.{add-one}
 use native.Mathlib.Omega.{arith}
-use lib.ListN.{length, set, take, drop, length-set}
-use lib.Seq.{sets, length-sets}
-use lib.Ieee.{Float}
+use lib.ListN.{length, set, take, drop}
+use lib.Seq.{sets, take-take, take-at}
+use lib.Ieee.{Float, nan}
 use Rattle.lists.specs.Build.{build}
 use Rattle.lists.specs.Parts.{part}
-use Rattle.lists.proofs.Fills.{build-length}
-use Rattle.lists.proofs.Regions.{stored-behind, stored-before, stored-at, stored-within}
+use Rattle.lists.proofs.Fills.{build-length, fill-next}
+use Rattle.lists.proofs.Stores.{sets-next}
+use Rattle.lists.proofs.Regions.{cut-length}
 use Rattle.lists.proofs.Rows.{row-fits}
 use Rattle.region.specs.Rows.{elem, row}
-use Rattle.region.specs.Region.{Spaced}
+use Rattle.region.specs.Region.{Region, regionAt, regionOf}
+use Rattle.region.specs.Inner.Passes.{Spaced, replaced, Across}
 use Rattle.region.specs.declared.Places.{Places}
 use Rattle.region.proofs.Readings.{part-elem, part-part}
+use Rattle.region.proofs.Lanes.{region-long}
+use Rattle.region.proofs.Across.{across-none, across-then}
+use Rattle.region.proofs.Stores.{factors-stored, values-stored}
 use Rattle.solve.specs.Solve.{factorAt, factor, forwardAt, forward, backwardAt}
-use Rattle.solve.specs.Inner.Standing.{matrixIn, sideIn, factorsOf, forwardOf, Standing, Backing}
-use Rattle.solve.proofs.Factors.{factor-front, factor-next, forward-looks, forward-length, forward-next, backward-next, backward-none}
+use Rattle.solve.specs.Inner.Standing.{stoodIn, backedIn, rowDone, valueBack, Forth, Back}
+use Rattle.solve.proofs.Factors.{factor-length, factor-next, forward-length, forward-next, forward-more, backward-next, backward-none}
 
--- lists that begin alike have the same parts there
-pub front-part : (k o c : ℕ) (l d : List Float) → o + c ≤ k → take k l ≡ take k d → part o c l ≡ part o c d
-front-part k o c l d h e = rw zero-add at (sym (part-part o c 0 k l h) ∙ ap (part o c) e ∙ part-part o c 0 k d h)
+-- ---- before the first row, and before the last value
 
--- ---- row t is done
+pub stood-none : (w : ℕ) (r : Region) → r ≡ stoodIn w 0 r
+unfolding factor forward
+stood-none w r = rw zero-mul
 
-module _ (p : Places) (n w : ℕ) (d m : List Float) (t : ℕ) (h : t < n) (pos : 0 < w) (s : Spaced p n w (length m)) (k : Standing p n w d m t)
-    (m₁ : List Float) (g : Float)
-    (factored : m₁ ≡ sets m (p .factors + t * w) (build (factorAt w (part (p .rows + t * w) w m) (part (p .factors) (t * w) m) t) w))
-    (forwarded : g ≡ forwardAt w (part (p .factors) (t * w) m) (elem m (p .right + t)) (part (p .values) t m) t) where
-  abbrev m₂ : List Float
-  m₂ = set m₁ (p .values + t) g
+pub backed-none : (w n : ℕ) (r : Region) → length (r .values) ≡ n → r ≡ backedIn w n r
+backed-none w n r e = ap (replaced r (r .factors)) (backward-none w (r .factors) (r .values) n e)
 
-  abbrev A : List Float
-  A = matrixIn p n w d
+-- ---- a region m, and row t of it
 
-  abbrev R : List Float
-  R = sideIn p n w d
+module _ (p : Places) (n w t : ℕ) (m : List Float) {size : ℕ} (h : t < n) (s : Spaced p n w size) (r : Region) where
+  -- it is r with the rows before t done
+  module _ (lf : length (r .factors) ≡ n * w) (lv : length (r .values) ≡ n) (k : regionAt p n w m ≡ stoodIn w t r) where
+    abbrev F : List Float
+    F = factor w (r .matrix) t
 
-  abbrev F : List Float
-  F = factorsOf p n w d
+    abbrev Y : List Float
+    Y = forward w F (r .side) t
 
-  abbrev new : List Float
-  new = build (factorAt w (part (p .rows + t * w) w m) (part (p .factors) (t * w) m) t) w
+    abbrev new : List Float
+    new = build (factorAt w (row w (r .matrix) t) F t) w
 
-  fit : t * w + w ≤ n * w
-  fit = row-fits w t n h
+    abbrev x : Float
+    x = forwardAt w F (elem (r .side) t) Y t
 
-  new-long : length new ≡ w
-  new-long = build-length _ w
+    fit : t * w + w ≤ n * w
+    fit = row-fits w t n h
 
-  l₁ : length m₁ ≡ length m
-  l₁ = rw (factored, length-sets)
+    -- what is read
+    read-so : rowDone p w t m ≡ set (sets m (p .factors + t * w) new) (p .values + t) x
+    read-so =
+        let factors : part (p .factors) (t * w) m ≡ F = sym (take-take (t * w) (n * w) (drop (p .factors) m) (omega (arith, fit))) ∙ ap (λ (q : Region). take (t * w) (q .factors)) k ∙ take-at F _ (t * w) (factor-length w (r .matrix) t) in
+        let values : part (p .values) t m ≡ Y = sym (take-take t n (drop (p .values) m) (omega arith)) ∙ ap (λ (q : Region). take t (q .values)) k ∙ take-at Y _ t (forward-length w F (r .side) t) in
+        let matrix : part (p .rows + t * w) w m ≡ row w (r .matrix) t = sym (part-part (t * w) w (p .rows) (n * w) m fit) ∙ ap (λ (q : Region). row w (q .matrix) t) k in
+        let side : elem m (p .right + t) ≡ elem (r .side) t = part-elem (p .right) n t m h ∙ ap (λ (q : Region). elem (q .side) t) k in
+        rw (factors, values, matrix, side)
 
-  front-so : take (p .factors) m₂ ≡ take (p .factors) d
-  front-so =
-      stored-behind (g ∷ []) m₁ 0 (p .factors) (p .values + t) (omega arith)
-      ∙ ap (take (p .factors)) factored
-      ∙ stored-behind new m 0 (p .factors) (p .factors + t * w) (omega arith)
-      ∙ k .front
+    -- and what is stored
+    pub stood-next : regionAt p n w (rowDone p w t m) ≡ stoodIn w (t + 1) r
+    stood-next =
+        let long : length new ≡ w = build-length _ w in
+        let next : t * w + length new ≡ (t + 1) * w = rw (add-one, suc-mul, long) in
+        ap (regionAt p n w) read-so
+        ∙ values-stored p n w (sets m (p .factors + t * w) new) s t (p .values + t) (x ∷ []) refl (omega arith)
+        ∙ ap (λ (q : Region). replaced q (q .factors) (set (q .values) t x)) (factors-stored p n w m s (t * w) (p .factors + t * w) new refl (omega (arith, fit, long)) ∙ ap (λ (q : Region). replaced q (sets (q .factors) (t * w) new) (q .values)) k)
+        ∙ rw (
+          sets-next F new (r .factors) (t * w) ((t + 1) * w) (factor-length w (r .matrix) t) next (omega (arith, fit, long)),
+          fill-next Y (r .values) t x nan (forward-length w F (r .side) t) (omega arith),
+          factor-next w (r .matrix) t,
+          forward-more w F new (r .side) (t + 1) t (omega (arith, factor-length w (r .matrix) t)) (omega arith),
+          forward-next w F (r .side) t,
+        )
 
-  factors-so : part (p .factors) ((t + 1) * w) m₂ ≡ factor w A (t + 1)
-  factors-so =
-      let e : (t + 1) * w ≡ t * w + w = rw (add-one, suc-mul) in
-      let a-is : part (p .rows + t * w) w m ≡ row w A t =
-      sym (part-part (t * w) w (p .rows) (n * w) m fit) ∙ ap (λ (l : List Float). row w l t) (front-part (p .factors) (p .rows) (n * w) m d (omega arith) (k .front)) in
-      stored-behind (g ∷ []) m₁ (p .factors) ((t + 1) * w) (p .values + t) (omega (arith, fit))
-      ∙ ap (part (p .factors) ((t + 1) * w)) factored
-      ∙ stored-at new m (p .factors) (t * w) (p .factors + t * w) ((t + 1) * w) refl (omega (arith, new-long)) (omega (arith, fit, new-long))
-      ∙ rw (k .factors, a-is) (sym (factor-next w A t))
+  -- it is r with the values behind t put backward
+  pub backed-next : length (r .values) ≡ n → regionAt p n w m ≡ backedIn w (t + 1) r → regionAt p n w (valueBack p n w t m) ≡ backedIn w t r
+  backed-next lv k =
+      values-stored p n w m s t (p .values + t) (_ ∷ []) refl (omega arith)
+      ∙ ap (λ (q : Region). replaced q (q .factors) (set (q .values) t (backwardAt w (q .factors) (elem (q .values) t) (drop (t + 1) (q .values)) t))) k
+      ∙ ap (replaced r (r .factors)) (backward-next w (r .factors) (r .values) _ t (omega arith) refl)
 
-  values-so : part (p .values) (t + 1) m₂ ≡ forwardOf p n w d (t + 1)
-  values-so =
-      let old : part (p .values) t m₁ ≡ forward w F R t =
-      ap (part (p .values) t) factored ∙ stored-before new m (p .values) t (p .factors + t * w) (omega (arith, fit, new-long)) ∙ k .values in
-      let before : part (p .factors) (t * w) m ≡ take (t * w) F = k .factors ∙ sym (factor-front w A n t (omega arith)) in
-      let x-is : elem m (p .right + t) ≡ elem R t = part-elem (p .right) n t m h ∙ ap (λ (l : List Float). elem l t) (front-part (p .factors) (p .right) n m d (omega arith) (k .front)) in
-      let g-is : g ≡ forwardAt w F (elem R t) (forward w F R t) t = forwarded ∙ rw (before, k .values, x-is) (forward-looks w F (elem R t) (forward w F R t) t pos) in
-      stored-at (g ∷ []) m₁ (p .values) t (p .values + t) (t + 1) refl refl (omega (arith, l₁))
-      ∙ rw (old, g-is) (sym (forward-next w F R t))
+-- ---- each of several regions
 
-  pub standing-next : Standing p n w d m₂ (t + 1)
-  standing-next = record { long = rw (length-set, l₁) (k .long); front = front-so; factors = factors-so; values = values-so }
+module _ (p : Places) (n w size lanes : ℕ) (s : Spaced p n w size) (old : List Float) (room : lanes * size ≤ length old) where
+  abbrev begun : ℕ → Region
+  begun l = regionAt p n w (regionOf size l old)
 
--- ---- before the first row, after the last, and backward from there
+  factors-long : (l : ℕ) → l < lanes → length (begun l .factors) ≡ n * w
+  factors-long l b = cut-length (p .factors) (n * w) (regionOf size l old) (omega (arith, region-long size lanes l old b room))
 
-module _ (p : Places) (n w : ℕ) (d : List Float) where
-  pub standing-none : Standing p n w d d 0
-  unfolding factor forward
-  standing-none = record { long = refl; front = refl; factors = rw zero-mul; values = refl }
+  values-long : (l : ℕ) → l < lanes → length (begun l .values) ≡ n
+  values-long l b = cut-length (p .values) n (regionOf size l old) (omega (arith, region-long size lanes l old b room))
 
-  pub backing-none : (m : List Float) → Standing p n w d m n → Backing p n w d m n
-  backing-none m k = record {
-    long = k .long;
-    front = k .front;
-    factors = k .factors;
-    values = k .values ∙ backward-none w (factorsOf p n w d) (forwardOf p n w d n) n (forward-length w (factorsOf p n w d) (sideIn p n w d) n);
-  }
+  pub back-none : Across (λ l. Back p n w n) size lanes old old
+  back-none = across-none (λ l b. backed-none w n (begun l) (values-long l b))
 
-  -- the value at t is put backward
-  pub backing-next : (m : List Float) (t : ℕ) (x : Float) → t < n → Spaced p n w (length m) → Backing p n w d m (t + 1)
-      → x ≡ backwardAt w (part (p .factors) (n * w) m) (elem (part (p .values) n m) t) (drop (t + 1) (part (p .values) n m)) t
-      → Backing p n w d (set m (p .values + t) x) t
-  backing-next m t x h s k e =
-      let F : List Float = factorsOf p n w d in
-      let G : List Float = forwardOf p n w d n in
-      let q : length G ≡ n = forward-length w F (sideIn p n w d) n in
-      record {
-        long = rw length-set (k .long);
-        front = stored-behind (x ∷ []) m 0 (p .factors) (p .values + t) (omega arith) ∙ k .front;
-        factors = stored-behind (x ∷ []) m (p .factors) (n * w) (p .values + t) (omega arith) ∙ k .factors;
-        values = stored-within m (p .values) n t x h ∙ rw (e, k .factors) (backward-next w F G (part (p .values) n m) t (omega arith) (k .values));
-      }
+  module _ (t : ℕ) (work new : List Float) (h : t < n) where
+    pub forth-next : Across (λ l. Forth p n w t) size lanes old work → Across (λ l b e. e ≡ rowDone p w t b) size lanes work new → Across (λ l. Forth p n w (t + 1)) size lanes old new
+    forth-next = across-then (λ l b x y. rw y (stood-next p n w t (regionOf size l work) h s (begun l) (factors-long l b) (values-long l b) x))
+
+    pub back-next : Across (λ l. Back p n w (t + 1)) size lanes old work → Across (λ l b e. e ≡ valueBack p n w t b) size lanes work new → Across (λ l. Back p n w t) size lanes old new
+    back-next = across-then (λ l b x y. rw y (backed-next p n w t (regionOf size l work) h s (begun l) (values-long l b) x))

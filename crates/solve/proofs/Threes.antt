@@ -10,14 +10,13 @@ use Rattle.lists.specs.Build.{build}
 use Rattle.lists.specs.Parts.{part}
 use Rattle.lists.proofs.Regions.{cut-length}
 use Rattle.region.specs.Rows.{elem, entry}
-use Rattle.region.specs.Region.{Spaced}
+use Rattle.region.specs.Inner.Passes.{Spaced}
 use Rattle.region.specs.declared.Places.{Places}
 use Rattle.region.proofs.Readings.{part-elem}
 use Rattle.solve.specs.Sums.{less}
 use Rattle.solve.specs.Solve.{reduced, factorTerm, factorAt, forwardTerm, forwardAt, backwardTerm, backwardAt}
-use Rattle.solve.specs.Inner.Standing.{Forth, Back}
+use Rattle.solve.specs.Inner.Standing.{rowDone, valueBack}
 use Rattle.solve.specs.Inner.Three.{pivotThree, secondThree, forwardThree}
-use Rattle.solve.proofs.Standings.{standing-next, backing-next}
 
 -- number j of a part of count from place o on, as it is read at place x of the list
 read : (m : List Float) (o count x j : ℕ) → (j < count) × (x ≡ o + j) → elem m x ≡ elem (part o count m) j
@@ -25,7 +24,7 @@ read m o count x j h = ap (elem m) (h .1) ∙ part-elem o count j m (h .0)
 
 -- ---- row t + 2 of the factors and the value at t + 2, from the two rows and values before
 
-module _ (p : Places) (n : ℕ) (m : List Float) (t : ℕ) where
+module _ (p : Places) (m : List Float) (t : ℕ) where
   abbrev a : ℕ
   a = p .rows + t * 3 + 6
 
@@ -98,11 +97,8 @@ module _ (p : Places) (n : ℕ) (m : List Float) (t : ℕ) where
         let i₂ : f + 8 ≡ suc (suc (p .factors + (t + 2) * 3)) = omega arith in
         rw (i₀, i₁, i₂, d-is, u-is, pivot-is, second-is, third-is)
 
-    pub three-forth : t + 2 < n → Spaced p n 3 (length m) → Forth p n 3 (t + 2) (t + 3) m (set stored (v + 2) g)
-    three-forth h s d k =
-        let i : v + 2 ≡ p .values + (t + 2) = omega arith in
-        let e : t + 3 ≡ t + 2 + 1 = omega arith in
-        rw (i, e) (standing-next p n 3 d m (t + 2) h (omega arith) s k stored g factored (g-is ∙ forward-is))
+    pub three-forth : set stored (v + 2) g ≡ rowDone p 3 (t + 2) m
+    three-forth = let i : v + 2 ≡ p .values + (t + 2) = omega arith in rw (i, factored, g-is, forward-is)
 
 -- ---- the value at t, from the two behind it
 
@@ -128,9 +124,9 @@ module _ (p : Places) (n : ℕ) (m : List Float) (t : ℕ) where
   value-is : (x j : ℕ) → (t + 1 + j < n) × (x ≡ p .values + (t + 1 + j)) → elem m x ≡ elem C j
   value-is x j h = read m (p .values) n x (t + 1 + j) h ∙ sym (getD-drop (t + 1) P j nan)
 
-  pub three-back : t + 2 < n → Spaced p n 3 (length m) → Back p n 3 (t + 1) t m (set m y X)
+  pub three-back : t + 2 < n → Spaced p n 3 (length m) → set m y X ≡ valueBack p n 3 t m
   unfolding less
-  three-back h s d k =
+  three-back h s =
       let long : length C ≡ n - (t + 1) = simp length-drop (omega (arith, cut-length (p .values) n m (s .room))) in
       let o : min 2 (length C) ≡ 2 = omega arith in
       let is : X ≡ backwardAt 3 L (elem P t) C t =
@@ -143,4 +139,4 @@ module _ (p : Places) (n : ℕ) (m : List Float) (t : ℕ) where
         value-is (y + 2) 1 (omega arith),
       )
       (sym (ap (less (div binary64 (elem P t) (entry 3 L t 0)) (backwardTerm 3 L C t)) o)) in
-      backing-next p n 3 d m t X (omega arith) s k is
+      ap (set m y) is

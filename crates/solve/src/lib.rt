@@ -5,11 +5,10 @@ ghost use lib.ListN.{length};
 ghost use lib.Seq.{sets};
 ghost use Rattle.lists.specs.Build.{build};
 ghost use Rattle.lists.specs.Parts.{part};
-ghost use Rattle.region.specs.Region.{Spaced};
+ghost use Rattle.region.specs.Inner.Passes.{Spaced, Across};
 ghost use Rattle.solve.specs.Solve.{factorAt};
 ghost use Rattle.solve.specs.Promise.{SolveSays};
-ghost use Rattle.solve.specs.Inner.Across.{Across};
-ghost use Rattle.solve.specs.Inner.Standing.{Forth, Back};
+ghost use Rattle.solve.specs.Inner.Standing.{rowDone, valueBack, Forth, Back};
 use region::Layout;
 use region::Places;
 use row::backward_at;
@@ -41,7 +40,7 @@ fn factor_row(m: &mut [f64], rows: usize, factors: usize, w: usize, t: usize)
 // Row t of one component: its right side is put forward, and the row factored.
 fn eliminate_row(m: &mut [f64], p: Places, n: usize, w: usize, t: usize)
     requires { ⌜ (t < n) × (0 < w) × Spaced p n w (length (now m)) ⌝ }
-    ensures { λ _. ⌜ Forth p n w t (t + 1) (now (m .entry)) (now (m .exit)) ⌝ }
+    ensures { λ _. ⌜ now (m .exit) ≡ rowDone p w t (now (m .entry)) ⌝ }
 {
     let factors = p.factors;
     let factors_end = factors + t * w;
@@ -56,7 +55,7 @@ fn eliminate_row(m: &mut [f64], p: Places, n: usize, w: usize, t: usize)
 // The value at t of one component is put backward, in place.
 fn backward_row(m: &mut [f64], p: Places, n: usize, w: usize, t: usize)
     requires { ⌜ (t < n) × (0 < w) × Spaced p n w (length (now m)) ⌝ }
-    ensures { λ _. ⌜ Back p n w (t + 1) t (now (m .entry)) (now (m .exit)) ⌝ }
+    ensures { λ _. ⌜ now (m .exit) ≡ valueBack p n w t (now (m .entry)) ⌝ }
 {
     let factors = p.factors;
     let factors_end = factors + n * w;
@@ -69,7 +68,7 @@ fn backward_row(m: &mut [f64], p: Places, n: usize, w: usize, t: usize)
 // Row t of one component, whichever its width.
 fn eliminate_lane(m: &mut [f64], p: Places, n: usize, w: usize, t: usize)
     requires { ⌜ (t < n) × (0 < w) × Spaced p n w (length (now m)) ⌝ }
-    ensures { λ _. ⌜ Forth p n w t (t + 1) (now (m .entry)) (now (m .exit)) ⌝ }
+    ensures { λ _. ⌜ now (m .exit) ≡ rowDone p w t (now (m .entry)) ⌝ }
 {
     if w == 3 && 2 <= t {
         eliminate_three(m, p, n, t - 2);
@@ -89,7 +88,7 @@ fn eliminate_rows(
     lanes: usize,
 )
     requires { ⌜ (t < n) × (0 < w) × Spaced p n w size × (lanes * size ≤ length (now work)) ⌝ }
-    ensures { λ _. ⌜ Across (Forth p n w t (t + 1)) size lanes (now (work .entry)) (now (work .exit)) ⌝ }
+    ensures { λ _. ⌜ Across (λ l b e. e ≡ rowDone p w t b) size lanes (now (work .entry)) (now (work .exit)) ⌝ }
 {
     let mut l = 0;
     let mut o = 0;
@@ -104,7 +103,7 @@ fn eliminate_rows(
 // The factors of each component, and its right side put forward.
 fn eliminate(work: &mut [f64], p: Places, n: usize, w: usize, size: usize, lanes: usize)
     requires { ⌜ (0 < w) × Spaced p n w size × (lanes * size ≤ length (now work)) ⌝ }
-    ensures { λ _. ⌜ Across (Forth p n w 0 n) size lanes (now (work .entry)) (now (work .exit)) ⌝ }
+    ensures { λ _. ⌜ Across (λ l. Forth p n w n) size lanes (now (work .entry)) (now (work .exit)) ⌝ }
 {
     let mut t = 0;
     while t < n {
@@ -116,7 +115,7 @@ fn eliminate(work: &mut [f64], p: Places, n: usize, w: usize, size: usize, lanes
 // The value at t of one component is put backward, whichever its width.
 fn backward_lane(m: &mut [f64], p: Places, n: usize, w: usize, t: usize)
     requires { ⌜ (t < n) × (0 < w) × Spaced p n w (length (now m)) ⌝ }
-    ensures { λ _. ⌜ Back p n w (t + 1) t (now (m .entry)) (now (m .exit)) ⌝ }
+    ensures { λ _. ⌜ now (m .exit) ≡ valueBack p n w t (now (m .entry)) ⌝ }
 {
     if w == 3 && 2 < n - t {
         backward_three(m, p, n, t);
@@ -136,7 +135,7 @@ fn backward_rows(
     lanes: usize,
 )
     requires { ⌜ (t < n) × (0 < w) × Spaced p n w size × (lanes * size ≤ length (now work)) ⌝ }
-    ensures { λ _. ⌜ Across (Back p n w (t + 1) t) size lanes (now (work .entry)) (now (work .exit)) ⌝ }
+    ensures { λ _. ⌜ Across (λ l b e. e ≡ valueBack p n w t b) size lanes (now (work .entry)) (now (work .exit)) ⌝ }
 {
     let mut l = 0;
     let mut o = 0;
@@ -151,7 +150,7 @@ fn backward_rows(
 // The values of each component are put backward.
 fn backward(work: &mut [f64], p: Places, n: usize, w: usize, size: usize, lanes: usize)
     requires { ⌜ (0 < w) × Spaced p n w size × (lanes * size ≤ length (now work)) ⌝ }
-    ensures { λ _. ⌜ Across (Back p n w n 0) size lanes (now (work .entry)) (now (work .exit)) ⌝ }
+    ensures { λ _. ⌜ Across (λ l. Back p n w 0) size lanes (now (work .entry)) (now (work .exit)) ⌝ }
 {
     let mut t = n;
     while 0 < t {

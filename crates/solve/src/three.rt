@@ -3,8 +3,8 @@
 ghost use mathlib.Core.Path.{_≡_};
 ghost use Prim.Native.Nat.{_+_, _<_, _≤_};
 ghost use lib.ListN.{length};
-ghost use Rattle.region.specs.Region.{Spaced};
-ghost use Rattle.solve.specs.Inner.Standing.{Forth, Back};
+ghost use Rattle.region.specs.Inner.Passes.{Spaced};
+ghost use Rattle.solve.specs.Inner.Standing.{rowDone, valueBack};
 ghost use Rattle.solve.specs.Inner.Three.{pivotThree, secondThree, forwardThree};
 use region::Places;
 
@@ -37,7 +37,7 @@ fn forward_three(m: &[f64], x: usize, f: usize, v: usize) -> f64
 // Row t + 2 of one component: its right side is put forward, and the row factored.
 pub(crate) fn eliminate_three(m: &mut [f64], p: Places, n: usize, t: usize)
     requires { ⌜ (t + 2 < n) × Spaced p n 3 (length (now m)) ⌝ }
-    ensures { λ _. ⌜ Forth p n 3 (t + 2) (t + 3) (now (m .entry)) (now (m .exit)) ⌝ }
+    ensures { λ _. ⌜ now (m .exit) ≡ rowDone p 3 (t + 2) (now (m .entry)) ⌝ }
 {
     let a = p.rows + t * 3 + 6;
     let f = p.factors + t * 3;
@@ -55,7 +55,7 @@ pub(crate) fn eliminate_three(m: &mut [f64], p: Places, n: usize, t: usize)
 // The value at t of one component is put backward, in place, from the two behind it.
 pub(crate) fn backward_three(m: &mut [f64], p: Places, n: usize, t: usize)
     requires { ⌜ (t + 2 < n) × Spaced p n 3 (length (now m)) ⌝ }
-    ensures { λ _. ⌜ Back p n 3 (t + 1) t (now (m .entry)) (now (m .exit)) ⌝ }
+    ensures { λ _. ⌜ now (m .exit) ≡ valueBack p n 3 t (now (m .entry)) ⌝ }
 {
     let e = p.factors + t * 3;
     let v = p.values + t;

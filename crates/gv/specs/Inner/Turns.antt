@@ -4,7 +4,7 @@ use mathlib.Core.Bool.{Bool, true, false, cond}
 use mathlib.Core.List.{List, [], _∷_}
 use Prim.Native.Nat.{ℕ, suc, _+_, _-_, _*_, _<_, _≤_, _^_}
 use lib.Dec.{eqb}
-use lib.ListN.{length, getD, drop}
+use lib.ListN.{length, getD}
 use lib.Seq.{sets}
 use lib.Ieee.{Float, nan, binary64, add, sub, mul, div, neg}
 use Rattle.lists.specs.Build.{build, over}
@@ -12,7 +12,7 @@ use Rattle.lists.specs.Frames.{count}
 use Rattle.lists.specs.Parts.{part}
 use Rattle.floats.specs.Numbers.{nought, number}
 use Rattle.region.specs.Rows.{elem}
-use Rattle.region.specs.Region.{Spaced, regionOf}
+use Rattle.region.specs.Inner.Passes.{Spaced}
 use Rattle.region.specs.declared.Layout.{Layout}
 use Rattle.region.specs.declared.Places.{Places}
 use Rattle.gv.specs.Gv.{W1, W2, two, stepInit, convGv, gradientAt, gradient, weightOf, hmmTerm, dvOf, nextG}
@@ -122,9 +122,3 @@ module _ (g : MlpgGlobalVariance) (p : Places) (on : List Bool) (gvMean gvVari :
   -- the region after the global variance
   abbrev pub parmgenIn : List Float
   parmgenIn = cond (eqb (count on) 0) m (fiveTurns (convGv on gvMean (valuesIn g p m)))
-
--- each of several regions is so, and what lies behind them is as it was
-pub record Each (g : MlpgGlobalVariance) (p : Places) (on : List Bool) (means varis : List Float) (weight : Float) (work work′ : List Float) : Type 0 where
-  pub long : length work′ ≡ length work
-  pub regions : (l : ℕ) → l < length means → regionOf (p .size) l work′ ≡ parmgenIn g p on (mul binary64 (elem means l) weight) (elem varis l) (regionOf (p .size) l work)
-  pub behind : drop (length means * p .size) work′ ≡ drop (length means * p .size) work

@@ -14,8 +14,7 @@ returns : tie.Need-returns
 returns c = let t = c .before .before .before .before .before .before .before .args .t in
     let h : 2 ≤ t = search needs in
     let a : t - 2 + 2 ≡ t = omega (arith, h) in
-    let b : t - 2 + 3 ≡ t + 1 = omega (arith, h) in
-    rw (c .before .before .before .before .before .if1 .taken) (rw (a, b) at (c .before .before .eliminate-three .ensures))
+    rw (c .before .before .before .before .before .if1 .taken) (rw a at (c .before .before .eliminate-three .ensures))
 
 pub eliminate-lane-spec : {M : Type 1} → statement M
 eliminate-lane-spec =

@@ -5,7 +5,6 @@ use native.Mathlib.Omega.{arith}
 use borrow.Rule.Slice.PartMut.{mid-len}
 use lib.ListN.{length-set}
 use Rattle.lists.proofs.Rows.{row-fits}
-use Rattle.solve.proofs.Standings.{standing-next}
 use borrow.Author.Needs.{needs}
 use Rattle.solve.proofs.eliminate_row.Statement.{statement}
 use Rattle.solve.proofs.eliminate_row.Tie as tie
@@ -20,10 +19,8 @@ forward-at-requires c κs = let s = c .before .before .before .before .before .b
     omega (arith, mid-len (a .p .factors) (a .p .factors + a .t * a .w) (a .m .now) (omega (arith, fit s)), mid-len (a .p .values) (a .p .values + a .t) (a .m .now) (omega arith))
 
 returns : tie.Need-returns
-returns c = let s = c .before .before .before .before .before .before .before .before .before .before .before in
-    let a = s .args in
-    λ d k. standing-next (a .p) (a .n) (a .w) d (a .m .now) (a .t) (s .pre .0) (s .pre .1) (s .pre .2) k _ _ (c .before .before .factor-row .ensures)
-    (rw (add-sub-cancel-left (a .p .factors) (a .t * a .w), add-sub-cancel-left (a .p .values) (a .t)) at (c .before .before .before .before .forward-at .ensures))
+returns c = let a = c .before .before .before .before .before .before .before .before .before .before .before .args in
+    rw (c .before .before .factor-row .ensures, rw (add-sub-cancel-left (a .p .factors) (a .t * a .w), add-sub-cancel-left (a .p .values) (a .t)) at (c .before .before .before .before .forward-at .ensures))
 
 pub eliminate-row-spec : {M : Type 1} → statement M
 eliminate-row-spec =

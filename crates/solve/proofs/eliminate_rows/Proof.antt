@@ -1,15 +1,16 @@
 -- `solve::eliminate_rows` meets its contract: l components have row t.
+use mathlib.Core.Path.{_≡_}
 use Prim.Native.Nat.{_+_, _-_, _≤_}
 use native.Mathlib.Omega.{arith}
 use lib.ListN.{length}
-use Rattle.solve.specs.Inner.Standing.{Forth}
-use Rattle.solve.proofs.Across.{Passing, passing-none, passing-fits, passing-long, passing-next, passing-done}
+use Rattle.region.proofs.Across.{Passing, passing-none, passing-fits, passing-long, passing-next, passing-done}
+use Rattle.solve.specs.Inner.Standing.{rowDone}
 use borrow.Author.Needs.{needs}
 use Rattle.solve.proofs.eliminate_rows.Statement.{statement}
 use Rattle.solve.proofs.eliminate_rows.Tie as tie
 
 abbrev Inv-loop : tie.InvT-loop
-Inv-loop work₀ p n w t size lanes l₀ o₀ work l o = Passing (Forth p n w t (t + 1)) size lanes work₀ work l o
+Inv-loop work₀ p n w t size lanes l₀ o₀ work l o = Passing (λ j b e. e ≡ rowDone p w t b) size lanes work₀ work l o
 
 abbrev μ-loop : tie.MeasureT-loop
 μ-loop work₀ p n w t size lanes l₀ o₀ work l o = lanes - l

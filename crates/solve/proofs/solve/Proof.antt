@@ -16,7 +16,7 @@ backward-requires c κs = let r = eliminate-requires (c .before .before .before 
 returns-3 : tie.Need-returns-3
 returns-3 c = let s = c .before .before .before .before .before .before .before .before in
     solve-all _ _ _ (omega arith) _ (s .before .before .before .before .fits2 .ensures) (s .before .before .before .if2 .left) _ _ _ (s .before .before .places .ensures) (s .before .wide .ensures) (s .small .ensures)
-    _ _ (c .before .before .before .before .before .before .eliminate .kept .0) (c .before .before .backward .kept .0) (c .before .before .before .before .before .before .eliminate .ensures) (c .before .before .backward .ensures)
+    _ _ (c .before .before .before .before .before .before .eliminate .ensures) (c .before .before .backward .ensures)
 
 pub solve-spec : {M : Type 1} → statement M
 solve-spec =

@@ -1,48 +1,43 @@
--- How far a region's equations are solved: what the passes of the solver say of it.
-use Prim.Native.Nat.{ℕ, _*_}
+-- How far a component's equations are solved, said of its six lists, and what the passes of the solver do to a region.
+use Prim.Native.Nat.{ℕ, _+_, _*_}
 use mathlib.Core.Path.{_≡_}
 use mathlib.Core.List.{List, _++_}
-use lib.ListN.{length, take, drop}
+use lib.ListN.{set, take, drop}
+use lib.Seq.{sets}
 use lib.Ieee.{Float}
+use Rattle.lists.specs.Build.{build}
 use Rattle.lists.specs.Parts.{part}
+use Rattle.region.specs.Rows.{elem}
+use Rattle.region.specs.Region.{Region, regionAt}
+use Rattle.region.specs.Inner.Passes.{replaced}
 use Rattle.region.specs.declared.Places.{Places}
-use Rattle.solve.specs.Solve.{factor, forward, backward}
+use Rattle.solve.specs.Solve.{factorAt, factor, forwardAt, forward, backwardAt, backward}
 
-module _ (p : Places) (n w : ℕ) where
-  -- the rows that a region holds
-  abbrev pub matrixIn : List Float → List Float
-  matrixIn d = part (p .rows) (n * w) d
+-- ---- the six lists, with rows of w numbers
 
-  -- and their right side
-  abbrev pub sideIn : List Float → List Float
-  sideIn d = part (p .right) n d
+-- the first t rows are factored, and as many values put forward
+abbrev pub stoodIn : ℕ → ℕ → Region → Region
+stoodIn w t r = let f = factor w (r .matrix) t in replaced r (f ++ drop (t * w) (r .factors)) (forward w f (r .side) t ++ drop t (r .values))
 
-  -- the factors of the rows
-  abbrev pub factorsOf : List Float → List Float
-  factorsOf d = factor w (matrixIn d) n
+-- the values from t on are put backward
+abbrev pub backedIn : ℕ → ℕ → Region → Region
+backedIn w t r = replaced r (r .factors) (take t (r .values) ++ backward w (r .factors) t (drop t (r .values)))
 
-  -- the first t values put forward
-  abbrev pub forwardOf : List Float → ℕ → List Float
-  forwardOf d t = forward w (factorsOf d) (sideIn d) t
+-- ---- a region m of the work space
 
-  -- d with its first t rows factored and put forward; what lies before the factors is as it was
-  pub record Standing (d m : List Float) (t : ℕ) : Type 0 where
-    pub long : length m ≡ length d
-    pub front : take (p .factors) m ≡ take (p .factors) d
-    pub factors : part (p .factors) (t * w) m ≡ factor w (matrixIn d) t
-    pub values : part (p .values) t m ≡ forwardOf d t
+-- row t is done: its factors are stored behind those of the rows before it, and its value behind theirs
+abbrev pub rowDone : Places → ℕ → ℕ → List Float → List Float
+rowDone p w t m = let f = part (p .factors) (t * w) m in
+    set (sets m (p .factors + t * w) (build (factorAt w (part (p .rows + t * w) w m) f t) w)) (p .values + t) (forwardAt w f (elem m (p .right + t)) (part (p .values) t m) t)
 
-  -- d with all rows factored, and the values from row t on put backward
-  pub record Backing (d m : List Float) (t : ℕ) : Type 0 where
-    pub long : length m ≡ length d
-    pub front : take (p .factors) m ≡ take (p .factors) d
-    pub factors : part (p .factors) (n * w) m ≡ factorsOf d
-    pub values : part (p .values) n m ≡ take t (forwardOf d n) ++ backward w (factorsOf d) t (drop t (forwardOf d n))
+module _ (p : Places) (n w t : ℕ) where
+  -- the value at t is put backward
+  abbrev pub valueBack : List Float → List Float
+  valueBack m = let r = regionAt p n w m in set m (p .values + t) (backwardAt w (r .factors) (elem (r .values) t) (drop (t + 1) (r .values)) t)
 
-  -- a pass that takes a region from row t on to row u
-  abbrev pub Forth : ℕ → ℕ → List Float → List Float → Type 0
-  Forth t u m m′ = (d : List Float) → Standing d m t → Standing d m′ u
+  -- a pass that does the first t rows, and one that puts the values from t on backward
+  abbrev pub Forth : List Float → List Float → Type 0
+  Forth m m′ = regionAt p n w m′ ≡ stoodIn w t (regionAt p n w m)
 
-  -- and one that takes it from row t back to row u
-  abbrev pub Back : ℕ → ℕ → List Float → List Float → Type 0
-  Back t u m m′ = (d : List Float) → Backing d m t → Backing d m′ u
+  abbrev pub Back : List Float → List Float → Type 0
+  Back m m′ = regionAt p n w m′ ≡ backedIn w t (regionAt p n w m)

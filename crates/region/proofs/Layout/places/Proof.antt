@@ -1,6 +1,5 @@
 -- `region::Layout::places` meets its contract: no product of a byte and a number of 32 bits passes 40 bits.
-use mathlib.Core.Path.{_≡_}
-use Prim.Native.Nat.{ℕ, _*_, _≤_}
+use Prim.Native.Nat.{_*_, _≤_}
 use native.Mathlib.Omega.{arith}
 use borrow.Author.Needs.{needs}
 use Rattle.region.proofs.Laying.{byte-times, times-byte}

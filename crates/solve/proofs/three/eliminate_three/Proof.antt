@@ -7,7 +7,7 @@ use Rattle.solve.proofs.three.eliminate_three.Tie as tie
 
 returns : tie.Need-returns
 returns c = let s = c .before .before .before .before .before .before .before .before .before .before .before .before in
-    three-forth (s .args .p) (s .args .n) (s .args .m .now) (s .args .t) _ _ _ (c .before .before .before .before .before .before .pivot-three .ensures) (c .before .before .before .before .second-three .ensures) (c .forward-three .ensures) (s .pre .0) (s .pre .1)
+    three-forth (s .args .p) (s .args .m .now) (s .args .t) _ _ _ (c .before .before .before .before .before .before .pivot-three .ensures) (c .before .before .before .before .second-three .ensures) (c .forward-three .ensures)
 
 pub eliminate-three-spec : {M : Type 1} → statement M
 eliminate-three-spec =

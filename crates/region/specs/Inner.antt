@@ -1,0 +1,2 @@
+-- What only private contracts and proofs need, here and in the crates above.
+pub mod Passes
