@@ -8,17 +8,17 @@ use lib.ListN.{length}
 use lib.Ieee.{Float, binary64, mul}
 use Rattle.lists.specs.Flags.{isOn}
 use Rattle.region.specs.Rows.{elem}
-use Rattle.region.specs.Region.{sizeOf, placesOf, regionOf}
+use Rattle.region.specs.Region.{Region, sizeOf, placesOf, regionIn, regionOf}
 use Rattle.region.specs.Inner.Passes.{Across}
 use Rattle.region.specs.declared.Layout.{Layout}
 use Rattle.region.specs.declared.Places.{Places}
 use Rattle.region.proofs.Laying.{laid}
-use Rattle.region.proofs.Lanes.{region-long}
-use Rattle.region.proofs.Flats.{across-is}
+use Rattle.region.proofs.Across.{across-as}
+use Rattle.region.proofs.Flats.{lists-are}
 use Rattle.gv.specs.Promise.{opens, variedIn, VarySays}
-use Rattle.gv.specs.Inner.Turns.{Planned, Suited, parmgenIn}
+use Rattle.gv.specs.Inner.Turns.{Planned, Suited, listsIn, parmgenIn}
 use Rattle.gv.specs.declared.MlpgGlobalVariance.{MlpgGlobalVariance}
-use Rattle.gv.proofs.Varied.{varied-flat}
+use Rattle.gv.proofs.Varied.{varied-is}
 
 both : (a b : Bool) → a && b ≡ true → (a ≡ true) × (b ≡ true)
 both true b e = (refl, e)
@@ -60,15 +60,9 @@ module _ (g : Layout) (on : List ℕ) (means varis : List Float) (weight : Float
   none-varied b e h = record { space = rw (← e, not-true b h) }
 
   pub all-varied : (work′ : List Float) (s : MlpgGlobalVariance) (p : Places) → opens g (length on) (length means) (length varis) (length work) ≡ true → Planned g (map isOn on) s → p ≡ placesOf g
-      → Across (λ l b e. e ≡ parmgenIn s p (map isOn on) (mul binary64 (elem means l) weight) (elem varis l) b) (p .size) (length means) work work′ → VarySays g on means varis weight work work′
+      → Across (λ l b e. listsIn s p e ≡ parmgenIn s (map isOn on) (mul binary64 (elem means l) weight) (elem varis l) (listsIn s p b)) (p .size) (length means) work work′ → VarySays g on means varis weight work work′
   all-varied work′ s p o k e q =
-      let d = opened g (length on) (length means) (length varis) (length work) o in
-      let q′ = rw e at q in
-      record {
-        space = rw o (across-is g (length means) (λ l. variedIn g (map isOn on) (mul binary64 (elem means l) weight) (elem varis l)) work (d .room) work′ (record {
-          long = q′ .long;
-          each = λ l h. q′ .each l h
-              ∙ varied-flat g (d .some) (map isOn on) (mul binary64 (elem means l) weight) (elem varis l) (regionOf (sizeOf g) l work) s (placesOf g) k refl (region-long (sizeOf g) (length means) l work h (d .room));
-          behind = q′ .behind;
-        }));
-      }
+      let aim : ℕ → Region → Region = λ l. variedIn g (map isOn on) (mul binary64 (elem means l) weight) (elem varis l) in
+      let q′ : Across (λ l b e. regionIn g e ≡ aim l (regionIn g b)) (sizeOf g) (length means) work work′ =
+      across-as (λ l h x. x ∙ varied-is g (map isOn on) (mul binary64 (elem means l) weight) (elem varis l) (regionIn g (regionOf (sizeOf g) l work))) (rw (e, k .windows, k .length, k .width) at q) in
+      record { space = rw o (lists-are g (length means) aim work (opened g (length on) (length means) (length varis) (length work) o .room) work′ q′) }

@@ -1,5 +1,4 @@
 -- Laws that belong to no one function.
-pub mod Stored
 pub mod Lengths
 pub mod Switched
 pub mod Three

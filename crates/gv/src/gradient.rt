@@ -4,8 +4,8 @@ ghost use mathlib.Core.List.{List};
 ghost use Prim.Native.Nat.{_+_, _-_, _*_, _<_, _≤_, _^_};
 ghost use lib.ListN.{length, set};
 ghost use lib.Ieee.{Float, binary64, add, mul};
-ghost use Rattle.lists.specs.Parts.{part};
 ghost use Rattle.region.specs.Rows.{elem};
+ghost use Rattle.region.specs.Region.{regionAt};
 ghost use Rattle.region.specs.Inner.Passes.{Spaced};
 ghost use Rattle.gv.specs.Gv.{plusRight, plusLeft, gradientAt, hmmTerm};
 ghost use Rattle.gv.specs.Inner.Turns.{Graded};
@@ -56,7 +56,7 @@ fn gradient_by_entries(wuw: &[f64], par: &[f64], w: usize, t: usize) -> f64
 // Row t of a region, by its entries.
 fn gradient_at(m: &[f64], p: Places, n: usize, w: usize, t: usize) -> f64
     requires { ⌜ (0 < w) × (w < 2 ^ 32) × (t < n) × Spaced p n w (length (now m)) ⌝ }
-    ensures { λ x. ⌜ x ≡ gradientAt w (part (p .rows) (n * w) (now (m .entry))) (part (p .values) n (now (m .entry))) t ⌝ }
+    ensures { λ x. ⌜ x ≡ gradientAt w (regionAt p n w (now (m .entry)) .matrix) (regionAt p n w (now (m .entry)) .values) t ⌝ }
 {
     let rows = p.rows;
     let rows_end = rows + n * w;
@@ -76,7 +76,7 @@ fn product(m: &[f64], a: usize, b: usize) -> f64
 // The same for rows of width 3, the usual one, where two values stand to each side: nothing is tested, so that a row is straight-line code.
 fn gradient_of_three(m: &[f64], p: Places, n: usize, t: usize) -> f64
     requires { ⌜ (2 ≤ t) × (t + 2 < n) × Spaced p n 3 (length (now m)) ⌝ }
-    ensures { λ x. ⌜ x ≡ gradientAt 3 (part (p .rows) (n * 3) (now (m .entry))) (part (p .values) n (now (m .entry))) t ⌝ }
+    ensures { λ x. ⌜ x ≡ gradientAt 3 (regionAt p n 3 (now (m .entry)) .matrix) (regionAt p n 3 (now (m .entry)) .values) t ⌝ }
 {
     let q = p.rows + t * 3;
     let v = p.values + t;

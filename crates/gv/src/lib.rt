@@ -11,7 +11,7 @@ ghost use Rattle.region.specs.Rows.{elem};
 ghost use Rattle.region.specs.Inner.Passes.{Across};
 ghost use Rattle.gv.specs.Gv.{meanOf, variOf, convGv, weightOf, hmmObj};
 ghost use Rattle.gv.specs.Promise.{opens, VarySays};
-ghost use Rattle.gv.specs.Inner.Turns.{Counted, Planned, Sampled, Suited, Pulls, movedIn, sideIn, valuesIn, gradientIn, Turned, fiveTurns, parmgenIn};
+ghost use Rattle.gv.specs.Inner.Turns.{Counted, Planned, Sampled, Suited, Pulls, movedIn, listsIn, gradientOf, Turned, fiveTurns, parmgenIn};
 use gradient::inner_rows_of_three;
 use gradient::rows_by_entries;
 use objective::W2;
@@ -102,8 +102,8 @@ impl MlpgGlobalVariance {
     // The matrix times the values, which goes where the factors were, and the objective's first part, in one pass over the rows.
     fn calc_hmmobj_derivative(self, m: &mut [f64], p: Places) -> f64
         requires { ⌜ Suited self p (length (now m)) ⌝ }
-        ensures { λ r. ⌜ (now (m .exit) ≡ sets (now (m .entry)) (p .factors) (gradientIn self p (now (m .entry))))
-            × (r ≡ hmmObj (weightOf (self .windows) (self .length)) (sideIn self p (now (m .entry))) (gradientIn self p (now (m .entry))) (valuesIn self p (now (m .entry)))) ⌝ }
+        ensures { λ r. let q = listsIn self p (now (m .entry)) in
+            ⌜ (now (m .exit) ≡ sets (now (m .entry)) (p .factors) (gradientOf self q)) × (r ≡ hmmObj (weightOf (self .windows) (self .length)) (q .side) (gradientOf self q) (q .values)) ⌝ }
     {
         let n = self.length;
         let w = self.width;
@@ -179,7 +179,7 @@ impl MlpgGlobalVariance {
         s: Descent,
     ) -> Descent
         requires { ⌜ Suited self p (length (now m)) × Counted self (map isOn (now on)) × (0 < self .switched) ⌝ }
-        ensures { λ r. ⌜ Turned self p (map isOn (now (on .entry))) «gv_mean» «gv_vari» (now (m .entry)) (s .step) (s .prev) (now (m .exit)) (r .step) (r .prev) ⌝ }
+        ensures { λ r. ⌜ Turned self (map isOn (now (on .entry))) «gv_mean» «gv_vari» (listsIn self p (now (m .entry))) (s .step) (s .prev) (listsIn self p (now (m .exit))) (r .step) (r .prev) ⌝ }
     {
         let values = p.values;
         let values_end = values + self.length;
@@ -194,7 +194,7 @@ impl MlpgGlobalVariance {
 
     fn five_turns(self, m: &mut [f64], p: Places, on: &[u32], gv_mean: f64, gv_vari: f64)
         requires { ⌜ Suited self p (length (now m)) × Counted self (map isOn (now on)) × (0 < self .switched) ⌝ }
-        ensures { λ _. ⌜ now (m .exit) ≡ fiveTurns self p (map isOn (now (on .entry))) «gv_mean» «gv_vari» (now (m .entry)) (valuesIn self p (now (m .entry))) ⌝ }
+        ensures { λ _. ⌜ listsIn self p (now (m .exit)) ≡ fiveTurns self (map isOn (now (on .entry))) «gv_mean» «gv_vari» (listsIn self p (now (m .entry))) (listsIn self p (now (m .entry)) .values) ⌝ }
     {
         let mut s = Descent::start();
         let mut k = 0;
@@ -207,7 +207,7 @@ impl MlpgGlobalVariance {
     // A region after the global variance; its rows are the matrix before factoring.
     fn parmgen(self, m: &mut [f64], p: Places, on: &[u32], gv_mean: f64, gv_vari: f64)
         requires { ⌜ Suited self p (length (now m)) × Counted self (map isOn (now on)) ⌝ }
-        ensures { λ _. ⌜ now (m .exit) ≡ parmgenIn self p (map isOn (now (on .entry))) «gv_mean» «gv_vari» (now (m .entry)) ⌝ }
+        ensures { λ _. ⌜ listsIn self p (now (m .exit)) ≡ parmgenIn self (map isOn (now (on .entry))) «gv_mean» «gv_vari» (listsIn self p (now (m .entry))) ⌝ }
     {
         if self.switched == 0 {
             return;
@@ -229,7 +229,7 @@ impl MlpgGlobalVariance {
         work: &mut [f64],
     )
         requires { ⌜ Suited self p (p .size) × Counted self (map isOn (now on)) × (length (now varis) ≡ length (now means)) × (length (now means) * p .size ≤ length (now work)) ⌝ }
-        ensures { λ _. ⌜ Across (λ l b e. e ≡ parmgenIn self p (map isOn (now (on .entry))) (mul binary64 (elem (now (means .entry)) l) weight) (elem (now (varis .entry)) l) b)
+        ensures { λ _. ⌜ Across (λ l b e. listsIn self p e ≡ parmgenIn self (map isOn (now (on .entry))) (mul binary64 (elem (now (means .entry)) l) weight) (elem (now (varis .entry)) l) (listsIn self p b))
             (p .size) (length (now (means .entry))) (now (work .entry)) (now (work .exit)) ⌝ }
     {
         let lanes = means.len();

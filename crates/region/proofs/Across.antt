@@ -2,17 +2,18 @@
 use mathlib.Core.Path.{_≡_, refl, sym, _∙_}
 use mathlib.Core.List.{List}
 use Prim.Native.Nat.{ℕ, _+_, _-_, _*_, _<_, _≤_}
-use native.Mathlib.Nat.{suc-mul, zero-mul, add-sub-cancel-left}
+use native.Mathlib.Nat.{suc-mul, zero-mul}
 use native.Mathlib.Numerals.{add-one}
 use native.Mathlib.Omega.{arith}
-use borrow.Rule.Slice.PartMut.{putMid, mid-len}
+use borrow.Rule.Slice.PartMut.{putMid}
 use lib.ListN.{length, take, drop}
 use lib.Ieee.{Float}
+use Rattle.lists.proofs.Expansions.{part-length}
 use Rattle.region.specs.Region.{regionOf}
 use Rattle.region.specs.Inner.Passes.{Across}
 use Rattle.region.proofs.Lanes.{Stepped, stepped-none, stepped-lent, region-fits}
 
--- ---- no pass, and one pass after another
+-- ---- no pass, one pass after another, and a pass in other words
 
 module _ {size lanes : ℕ} where
   pub across-none : {P : ℕ → List Float → List Float → Type 0} {a : List Float} → ((l : ℕ) → l < lanes → P l (regionOf size l a) (regionOf size l a)) → Across P size lanes a a
@@ -22,6 +23,11 @@ module _ {size lanes : ℕ} where
       → ((l : ℕ) → l < lanes → P l (regionOf size l a) (regionOf size l b) → Q l (regionOf size l b) (regionOf size l c) → R l (regionOf size l a) (regionOf size l c))
       → Across P size lanes a b → Across Q size lanes b c → Across R size lanes a c
   across-then join p q = record { long = q .long ∙ p .long; each = λ l h. join l h (p .each l h) (q .each l h); behind = q .behind ∙ p .behind }
+
+  -- the same pass, said otherwise
+  pub across-as : {P R : ℕ → List Float → List Float → Type 0} {a b : List Float} → ((l : ℕ) → l < lanes → P l (regionOf size l a) (regionOf size l b) → R l (regionOf size l a) (regionOf size l b))
+      → Across P size lanes a b → Across R size lanes a b
+  across-as say p = record { long = p .long; each = λ l h. say l h (p .each l h); behind = p .behind }
 
 -- ---- a loop over the regions has passed the first l, and the next one begins at o
 
@@ -44,7 +50,7 @@ module _ {Pass : ℕ → List Float → List Float → Type 0} {size lanes : ℕ
     passing-fits = rw (k .place) (region-fits size lanes l m h (k .room))
 
     pub passing-long : length (take (o + size - o) (drop o m)) ≡ size
-    passing-long = mid-len o (o + size) m passing-fits ∙ add-sub-cancel-left o size
+    passing-long = part-length m o size passing-fits
 
     -- it is back as x
     pub passing-next : (x : List Float) → length x ≡ length (take (o + size - o) (drop o m)) → Pass l (take (o + size - o) (drop o m)) x → Passing Pass size lanes d (putMid o (o + size - o) m x) (l + 1) (o + size)

@@ -5,12 +5,13 @@ use mathlib.Core.Logic.{⊎-elim}
 use Prim.Native.Nat.{ℕ, _+_, _-_, _*_, _<_, _≤_}
 use native.Mathlib.Nat.{add-sub-cancel-left}
 use native.Mathlib.Omega.{arith}
-use borrow.Rule.Slice.PartMut.{putMid, mid-len}
+use borrow.Rule.Slice.PartMut.{putMid}
 use lib.ListN.{length, take, drop}
 use lib.Seq.{sets, length-sets}
 use lib.Ieee.{Float}
 use Rattle.lists.proofs.Numbers.{le-or-lt}
 use Rattle.lists.proofs.Rows.{row-fits}
+use Rattle.lists.proofs.Expansions.{part-length}
 use Rattle.region.specs.Region.{regionOf}
 use Rattle.lists.proofs.Regions.{cut-length, returned, stored-whole, stored-behind, stored-before, dropped-before}
 
@@ -56,6 +57,6 @@ module _ (Step : ℕ → List Float → List Float → Type 0) (size lanes : ℕ
   stepped-lent l o m x h b k z e s =
       let f : o + size ≤ length m = rw z (region-fits size lanes l m h b) in
       let c : o + size - o ≡ size = add-sub-cancel-left o size in
-      let long : length x ≡ size = e ∙ mid-len o (o + size) m f ∙ c in
+      let long : length x ≡ size = e ∙ part-length m o size f in
       let back : putMid o (o + size - o) m x ≡ sets m (l * size) x = returned o (o + size) m x (omega arith) f (long ∙ sym c) ∙ ap (λ (i : ℕ). sets m i x) z in
       subst (λ (q : List Float). Stepped Step size lanes (l + 1) d q) (sym back) (stepped-next l m x h b k long (rw (c, z) at s))

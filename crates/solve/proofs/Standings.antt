@@ -70,8 +70,8 @@ module _ (p : Places) (n w t : ℕ) (m : List Float) {size : ℕ} (h : t < n) (s
         let long : length new ≡ w = build-length _ w in
         let next : t * w + length new ≡ (t + 1) * w = rw (add-one, suc-mul, long) in
         ap (regionAt p n w) read-so
-        ∙ values-stored p n w (sets m (p .factors + t * w) new) s t (p .values + t) (x ∷ []) refl (omega arith)
-        ∙ ap (λ (q : Region). replaced q (q .factors) (set (q .values) t x)) (factors-stored p n w m s (t * w) (p .factors + t * w) new refl (omega (arith, fit, long)) ∙ ap (λ (q : Region). replaced q (sets (q .factors) (t * w) new) (q .values)) k)
+        ∙ values-stored p n w (sets m (p .factors + t * w) new) s (p .values + t) (x ∷ []) t refl (omega arith)
+        ∙ ap (λ (q : Region). replaced q (q .factors) (set (q .values) t x)) (factors-stored p n w m s (p .factors + t * w) new (t * w) refl (omega (arith, fit, long)) ∙ ap (λ (q : Region). replaced q (sets (q .factors) (t * w) new) (q .values)) k)
         ∙ rw (
           sets-next F new (r .factors) (t * w) ((t + 1) * w) (factor-length w (r .matrix) t) next (omega (arith, fit, long)),
           fill-next Y (r .values) t x nan (forward-length w F (r .side) t) (omega arith),
@@ -83,7 +83,7 @@ module _ (p : Places) (n w t : ℕ) (m : List Float) {size : ℕ} (h : t < n) (s
   -- it is r with the values behind t put backward
   pub backed-next : length (r .values) ≡ n → regionAt p n w m ≡ backedIn w (t + 1) r → regionAt p n w (valueBack p n w t m) ≡ backedIn w t r
   backed-next lv k =
-      values-stored p n w m s t (p .values + t) (_ ∷ []) refl (omega arith)
+      values-stored p n w m s (p .values + t) (_ ∷ []) t refl (omega arith)
       ∙ ap (λ (q : Region). replaced q (q .factors) (set (q .values) t (backwardAt w (q .factors) (elem (q .values) t) (drop (t + 1) (q .values)) t))) k
       ∙ ap (replaced r (r .factors)) (backward-next w (r .factors) (r .values) _ t (omega arith) refl)
 

@@ -1,18 +1,18 @@
 -- What only the contracts of the global variance's private functions say.
 use mathlib.Core.Path.{_≡_}
 use mathlib.Core.Bool.{Bool, true, false, cond}
-use mathlib.Core.List.{List, [], _∷_}
+use mathlib.Core.List.{List, [], _∷_, _++_}
 use Prim.Native.Nat.{ℕ, suc, _+_, _-_, _*_, _<_, _≤_, _^_}
 use lib.Dec.{eqb}
-use lib.ListN.{length, getD}
+use lib.ListN.{length, getD, drop}
 use lib.Seq.{sets}
 use lib.Ieee.{Float, nan, binary64, add, sub, mul, div, neg}
 use Rattle.lists.specs.Build.{build, over}
 use Rattle.lists.specs.Frames.{count}
-use Rattle.lists.specs.Parts.{part}
 use Rattle.floats.specs.Numbers.{nought, number}
 use Rattle.region.specs.Rows.{elem}
-use Rattle.region.specs.Inner.Passes.{Spaced}
+use Rattle.region.specs.Region.{Region, regionAt}
+use Rattle.region.specs.Inner.Passes.{Spaced, replaced}
 use Rattle.region.specs.declared.Layout.{Layout}
 use Rattle.region.specs.declared.Places.{Places}
 use Rattle.gv.specs.Gv.{W1, W2, two, stepInit, convGv, gradientAt, gradient, weightOf, hmmTerm, dvOf, nextG}
@@ -60,8 +60,8 @@ pub record Suited (g : MlpgGlobalVariance) (p : Places) (size : ℕ) : Type 0 wh
 
 -- a region m is d with the gradient's first t rows where the factors were, and h is the sum of their terms
 pub record Graded (p : Places) (n w : ℕ) (weight : Float) (d m : List Float) (t : ℕ) (h : Float) : Type 0 where
-  pub rows : m ≡ sets d (p .factors) (build (gradientAt w (part (p .rows) (n * w) d) (part (p .values) n d)) t)
-  pub sum : h ≡ over (λ i y. add binary64 y (hmmTerm weight (elem (part (p .right) n d) i) (gradientAt w (part (p .rows) (n * w) d) (part (p .values) n d) i) (elem (part (p .values) n d) i))) t nought
+  pub rows : let r = regionAt p n w d in m ≡ sets d (p .factors) (build (gradientAt w (r .matrix) (r .values)) t)
+  pub sum : let r = regionAt p n w d in h ≡ over (λ i y. add binary64 y (hmmTerm weight (elem (r .side) i) (gradientAt w (r .matrix) (r .values) i) (elem (r .values) i))) t nought
 
 -- the numbers of a step that are the same for every frame
 pub record Pulls (s : Pull) (windows n : ℕ) (gvMean gvVari average vari size : Float) : Type 0 where
@@ -80,45 +80,37 @@ pulled s diagonal b g m x =
     let h = sub binary64 (mul binary64 (mul binary64 (neg W1) (s .weight)) diagonal) (mul binary64 (s .scale) (add binary64 (s .spread) (mul binary64 (mul binary64 (s .twice) d) d))) in
     add binary64 x (mul binary64 (s .step) (nextG (s .weight) (s .dv) h b g m d))
 
--- ---- a region m whose equations are g's
-
-module _ (g : MlpgGlobalVariance) (p : Places) (m : List Float) where
-  -- its rows, its right side, its values, and their gradient
-  abbrev pub rowsIn : List Float
-  rowsIn = part (p .rows) (g .length * g .width) m
-
-  abbrev pub sideIn : List Float
-  sideIn = part (p .right) (g .length) m
-
-  abbrev pub valuesIn : List Float
-  valuesIn = part (p .values) (g .length) m
-
-  abbrev pub gradientIn : List Float
-  gradientIn = gradient (g .width) rowsIn valuesIn
-
 -- frame t's value after the step, where the region has the gradient
 abbrev pub movedIn : MlpgGlobalVariance → Places → List Bool → Pull → List Float → ℕ → Float
 movedIn g p on s m t = pulled s (elem m (p .rows + t * g .width)) (getD on t false) (elem m (p .factors + t)) (elem m (p .right + t)) (elem m (p .values + t))
 
--- it has a gradient in front of its factors, and other values
-abbrev pub put : Places → List Float → List Float → List Float → List Float
-put p gradient values m = sets (sets m (p .factors) gradient) (p .values) values
+-- ---- the six lists of a region whose equations are g's
 
-module _ (g : MlpgGlobalVariance) (p : Places) (on : List Bool) (gvMean gvVari : Float) (m : List Float) where
+abbrev pub listsIn : MlpgGlobalVariance → Places → List Float → Region
+listsIn g p m = regionAt p (g .length) (g .width) m
+
+-- the gradient of its values
+abbrev pub gradientOf : MlpgGlobalVariance → Region → List Float
+gradientOf g r = gradient (g .width) (r .matrix) (r .values)
+
+-- a gradient of n numbers in front of its factors, and other values
+abbrev pub put : ℕ → List Float → List Float → Region → Region
+put n gradient values r = replaced r (gradient ++ drop n (r .factors)) values
+
+module _ (g : MlpgGlobalVariance) (on : List Bool) (gvMean gvVari : Float) (r : Region) where
   -- one turn of its values
   abbrev pub turnIn : State → State
-  turnIn = turn (g .width) (rowsIn g p m) (sideIn g p m) on (g .windows) gvMean gvVari
+  turnIn = turn (g .width) (r .matrix) (r .side) on (g .windows) gvMean gvVari
 
-  -- it is m′ after one turn, and the size of the step and the objective are new
-  pub record Turned (step prev : Float) (m′ : List Float) (step′ prev′ : Float) : Type 0 where
-    pub region : m′ ≡ put p (gradientIn g p m) (valuesOf (turnIn (state (valuesIn g p m) step prev))) m
-    pub descent : state (valuesIn g p m′) step′ prev′ ≡ turnIn (state (valuesIn g p m) step prev)
+  -- it is r′ after one turn, and the size of the step and the objective are new
+  pub record Turned (step prev : Float) (r′ : Region) (step′ prev′ : Float) : Type 0 where
+    pub region : r′ ≡ put (g .length) (gradientOf g r) (valuesOf (turnIn (state (r .values) step prev))) r
+    pub descent : state (r′ .values) step′ prev′ ≡ turnIn (state (r .values) step prev)
 
   -- after five turns from these values on it has the gradient of those before the fifth
-  abbrev pub fiveTurns : List Float → List Float
-  fiveTurns par = let s = state par stepInit nan in
-      put p (gradient (g .width) (rowsIn g p m) (valuesOf (iterate turnIn 4 s))) (valuesOf (iterate turnIn 5 s)) m
+  abbrev pub fiveTurns : List Float → Region
+  fiveTurns par = let s = state par stepInit nan in put (g .length) (gradient (g .width) (r .matrix) (valuesOf (iterate turnIn 4 s))) (valuesOf (iterate turnIn 5 s)) r
 
-  -- the region after the global variance
-  abbrev pub parmgenIn : List Float
-  parmgenIn = cond (eqb (count on) 0) m (fiveTurns (convGv on gvMean (valuesIn g p m)))
+  -- it is so after the global variance
+  abbrev pub parmgenIn : Region
+  parmgenIn = cond (eqb (count on) 0) r (fiveTurns (convGv on gvMean (r .values)))

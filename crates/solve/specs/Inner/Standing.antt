@@ -15,11 +15,11 @@ use Rattle.solve.specs.Solve.{factorAt, factor, forwardAt, forward, back
 
 -- ---- the six lists, with rows of w numbers
 
--- the first t rows are factored, and as many values put forward
+-- the first t rows are factored, and as many values put forward; the rest is as it was
 abbrev pub stoodIn : ℕ → ℕ → Region → Region
 stoodIn w t r = let f = factor w (r .matrix) t in replaced r (f ++ drop (t * w) (r .factors)) (forward w f (r .side) t ++ drop t (r .values))
 
--- the values from t on are put backward
+-- the values from t on are put backward; those before it are as they were
 abbrev pub backedIn : ℕ → ℕ → Region → Region
 backedIn w t r = replaced r (r .factors) (take t (r .values) ++ backward w (r .factors) t (drop t (r .values)))
 

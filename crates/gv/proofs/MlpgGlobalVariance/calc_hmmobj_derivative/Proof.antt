@@ -31,7 +31,7 @@ returns c =
     let weight = b .before .weight-of in
     let first = rw (b .if1 .taken) at (f .rows-by-entries .ensures d (graded-none (s .args .p) (g .length) (g .width) (weight .result) d)) in
     let inner = i .inner-rows-of-three .ensures d first in
-    graded-all (s .args .p) (g .length) (g .width) (weight .result) _ d _ _ (s .pre .spaced .room) (weight .ensures) (c .before .before .rows-by-entries2 .ensures d (rw (b .if1 .taken) inner))
+    graded-all (s .args .p) (g .length) (g .width) d (s .pre .spaced .room) (weight .result) _ _ _ (weight .ensures) (c .before .before .rows-by-entries2 .ensures d (rw (b .if1 .taken) inner))
 
 returns-2 : tie.Need-returns-2
 returns-2 c =
@@ -39,7 +39,7 @@ returns-2 c =
     let g = s .args .self in
     let d = s .args .m .now in
     let weight = c .before .before .before .before .before .weight-of in
-    graded-all (s .args .p) (g .length) (g .width) (weight .result) _ d _ _ (s .pre .spaced .room) (weight .ensures) (c .before .before .rows-by-entries3 .ensures d (graded-none (s .args .p) (g .length) (g .width) (weight .result) d))
+    graded-all (s .args .p) (g .length) (g .width) d (s .pre .spaced .room) (weight .result) _ _ _ (weight .ensures) (c .before .before .rows-by-entries3 .ensures d (graded-none (s .args .p) (g .length) (g .width) (weight .result) d))
 
 pub calc-hmmobj-derivative-spec : {M : Type 1} → statement M
 calc-hmmobj-derivative-spec =

@@ -5,7 +5,7 @@ use native.Mathlib.Omega.{arith}
 use borrow.Author.Tests.{eq-eqb, ne-eqb}
 use Rattle.lists.specs.Frames.{count}
 use Rattle.lists.specs.Flags.{isOn}
-use Rattle.gv.proofs.Stored.{lent-length}
+use Rattle.lists.proofs.Expansions.{part-length}
 use Rattle.gv.proofs.Turns.{rescaled-long, five-turned}
 use borrow.Author.Needs.{needs}
 use Rattle.gv.proofs.MlpgGlobalVariance.parmgen.Statement.{statement}
@@ -26,7 +26,7 @@ part-conv-gv-end c = c .before .before .before .before .before .pre .0 .spaced .
 conv-gv-requires : tie.Need-conv-gv-requires
 conv-gv-requires c κs =
     let s = c .before .before .before .before .before .before in
-    record { counted = s .pre .1; all = lent-length (s .args .p .values) (s .args .self .length) (s .args .m .now) (s .pre .0 .spaced .room); few = s .pre .0 .few; some = omega (arith, c .before .before .if1 .left) }
+    record { counted = s .pre .1; all = part-length (s .args .m .now) (s .args .p .values) (s .args .self .length) (s .pre .0 .spaced .room); few = s .pre .0 .few; some = omega (arith, c .before .before .if1 .left) }
 
 five-turns-requires : tie.Need-five-turns-requires
 five-turns-requires c κs =

@@ -8,14 +8,14 @@ use lib.Ieee.{binary64, mul}
 use Rattle.lists.specs.Flags.{isOn}
 use Rattle.region.specs.Rows.{elem}
 use Rattle.region.proofs.Across.{Passing, passing-none, passing-fits, passing-long, passing-next, passing-done}
-use Rattle.gv.specs.Inner.Turns.{parmgenIn}
+use Rattle.gv.specs.Inner.Turns.{listsIn, parmgenIn}
 use borrow.Author.Needs.{needs}
 use Rattle.gv.proofs.MlpgGlobalVariance.parmgen_each.Statement.{statement}
 use Rattle.gv.proofs.MlpgGlobalVariance.parmgen_each.Tie as tie
 
 abbrev Inv-loop : tie.InvT-loop
 Inv-loop self p on means varis weight work₀ lanes size l₀ o₀ work l o =
-    Passing (λ j b e. e ≡ parmgenIn self p (map isOn on) (mul binary64 (elem means j) weight) (elem varis j) b) size lanes work₀ work l o
+    Passing (λ j b e. listsIn self p e ≡ parmgenIn self (map isOn on) (mul binary64 (elem means j) weight) (elem varis j) (listsIn self p b)) size lanes work₀ work l o
 
 abbrev μ-loop : tie.MeasureT-loop
 μ-loop self p on means varis weight work₀ lanes size l₀ o₀ work l o = lanes - l

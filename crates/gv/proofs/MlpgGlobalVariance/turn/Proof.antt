@@ -6,7 +6,7 @@ use native.Mathlib.Omega.{arith}
 use lib.Ieee.{Float, binary64, neg, add}
 use Rattle.lists.specs.Flags.{isOn}
 use Rattle.lists.proofs.Counts.{count-most}
-use Rattle.gv.proofs.Stored.{lent-length}
+use Rattle.lists.proofs.Expansions.{part-length}
 use Rattle.gv.proofs.Switched.{bools-length}
 use Rattle.gv.proofs.Turns.{turned}
 use borrow.Author.Needs.{needs}
@@ -16,7 +16,7 @@ use Rattle.gv.proofs.MlpgGlobalVariance.turn.Tie as tie
 calc-gv-requires : tie.Need-calc-gv-requires
 calc-gv-requires c κs =
     let s = c .before .before .before .before .before in
-    record { counted = s .pre .1; all = lent-length (s .args .p .values) (s .args .self .length) (s .args .m .now) (s .pre .0 .spaced .room); few = s .pre .0 .few; some = s .pre .2 }
+    record { counted = s .pre .1; all = part-length (s .args .m .now) (s .args .p .values) (s .args .self .length) (s .pre .0 .spaced .room); few = s .pre .0 .few; some = s .pre .2 }
 
 pull-requires : tie.Need-pull-requires
 pull-requires c κs =

@@ -2,7 +2,7 @@
 use Prim.Native.Nat.{_*_}
 use native.Mathlib.Nat.{le-refl, add-sub-cancel-left}
 use native.Mathlib.Omega.{arith}
-use Rattle.gv.proofs.Stored.{lent-length}
+use Rattle.lists.proofs.Expansions.{part-length}
 use borrow.Author.Needs.{needs}
 use Rattle.gv.proofs.gradient.gradient_at.Statement.{statement}
 use Rattle.gv.proofs.gradient.gradient_at.Tie as tie
@@ -11,7 +11,7 @@ gradient-by-entries-requires : tie.Need-gradient-by-entries-requires
 gradient-by-entries-requires c κs =
     let s = c .before .before .before .args in
     let q = c .before .before .before .pre in
-    rw (lent-length (s .p .values) (s .n) (s .m .now) (omega arith), lent-length (s .p .rows) (s .n * s .w) (s .m .now) (omega arith)) (q .0, q .2, le-refl (s .n * s .w), q .1)
+    rw (part-length (s .m .now) (s .p .values) (s .n) (omega arith), part-length (s .m .now) (s .p .rows) (s .n * s .w) (omega arith)) (q .0, q .2, le-refl (s .n * s .w), q .1)
 
 returns : tie.Need-returns
 returns c = let s = c .before .before .before .before .args in rw (add-sub-cancel-left (s .p .rows) (s .n * s .w), add-sub-cancel-left (s .p .values) (s .n)) at (c .gradient-by-entries .ensures)
