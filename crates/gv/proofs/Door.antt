@@ -64,5 +64,5 @@ module _ (g : Layout) (on : List ℕ) (means varis : List Float) (weight : Float
   all-varied work′ s p o k e q =
       let aim : ℕ → Region → Region = λ l. variedIn g (map isOn on) (mul binary64 (elem means l) weight) (elem varis l) in
       let q′ : Across (λ l b e. regionIn g e ≡ aim l (regionIn g b)) (sizeOf g) (length means) work work′ =
-      across-as (λ l h x. x ∙ varied-is g (map isOn on) (mul binary64 (elem means l) weight) (elem varis l) (regionIn g (regionOf (sizeOf g) l work))) (rw (e, k .windows, k .length, k .width) at q) in
+      across-as (rw (e, k .windows, k .length, k .width) at q) (λ l h x. x ∙ varied-is g (map isOn on) (mul binary64 (elem means l) weight) (elem varis l) (regionIn g (regionOf (sizeOf g) l work))) in
       record { space = rw o (lists-are g (length means) aim work (opened g (length on) (length means) (length varis) (length work) o .room) work′ q′) }

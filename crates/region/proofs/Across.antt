@@ -19,15 +19,14 @@ module _ {size lanes : ℕ} where
   pub across-none : {P : ℕ → List Float → List Float → Type 0} {a : List Float} → ((l : ℕ) → l < lanes → P l (regionOf size l a) (regionOf size l a)) → Across P size lanes a a
   across-none same = record { long = refl; each = same; behind = refl }
 
-  pub across-then : {P Q R : ℕ → List Float → List Float → Type 0} {a b c : List Float}
-      → ((l : ℕ) → l < lanes → P l (regionOf size l a) (regionOf size l b) → Q l (regionOf size l b) (regionOf size l c) → R l (regionOf size l a) (regionOf size l c))
-      → Across P size lanes a b → Across Q size lanes b c → Across R size lanes a c
-  across-then join p q = record { long = q .long ∙ p .long; each = λ l h. join l h (p .each l h) (q .each l h); behind = q .behind ∙ p .behind }
+  pub across-then : {P Q R : ℕ → List Float → List Float → Type 0} {a b c : List Float} → Across P size lanes a b → Across Q size lanes b c
+      → ((l : ℕ) → l < lanes → P l (regionOf size l a) (regionOf size l b) → Q l (regionOf size l b) (regionOf size l c) → R l (regionOf size l a) (regionOf size l c)) → Across R size lanes a c
+  across-then p q join = record { long = q .long ∙ p .long; each = λ l h. join l h (p .each l h) (q .each l h); behind = q .behind ∙ p .behind }
 
   -- the same pass, said otherwise
-  pub across-as : {P R : ℕ → List Float → List Float → Type 0} {a b : List Float} → ((l : ℕ) → l < lanes → P l (regionOf size l a) (regionOf size l b) → R l (regionOf size l a) (regionOf size l b))
-      → Across P size lanes a b → Across R size lanes a b
-  across-as say p = record { long = p .long; each = λ l h. say l h (p .each l h); behind = p .behind }
+  pub across-as : {P R : ℕ → List Float → List Float → Type 0} {a b : List Float} → Across P size lanes a b
+      → ((l : ℕ) → l < lanes → P l (regionOf size l a) (regionOf size l b) → R l (regionOf size l a) (regionOf size l b)) → Across R size lanes a b
+  across-as p say = record { long = p .long; each = λ l h. say l h (p .each l h); behind = p .behind }
 
 -- ---- a loop over the regions has passed the first l, and the next one begins at o
 

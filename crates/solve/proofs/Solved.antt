@@ -73,6 +73,6 @@ module _ (g : Layout) (lanes : ℕ) (work : List Float) where
       pub solve-all : (a b : List Float) → Across (λ l. Forth p n w n) (p .size) lanes work a → Across (λ l. Back p n w 0) (p .size) lanes a b → SolveSays g lanes work b
       solve-all a b forth back =
           let both : Across (λ l x y. regionIn g y ≡ solvedIn g (regionIn g x)) (sizeOf g) lanes work b =
-          across-then (λ l h x y. y ∙ ap (backedIn (g .w) 0) x ∙ solved g (regionIn g (regionOf (sizeOf g) l work)) (read-sized g _ (region-long (sizeOf g) lanes l work h fit)))
-          (rw (p-is, n-is, w-is) at forth) (rw (p-is, n-is, w-is) at back) in
+          across-then (rw (p-is, n-is, w-is) at forth) (rw (p-is, n-is, w-is) at back)
+          (λ l h x y. y ∙ ap (backedIn (g .w) 0) x ∙ solved g (regionIn g (regionOf (sizeOf g) l work)) (read-sized g _ (region-long (sizeOf g) lanes l work h fit))) in
           record { space = rw (lt-ltb 0 (g .w) pos, ← test, not-false t s) (lists-are g lanes (λ l. solvedIn g) work fit b both) }

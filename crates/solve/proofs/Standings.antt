@@ -104,7 +104,7 @@ module _ (p : Places) (n w size lanes : ℕ) (s : Spaced p n w size) (old : List
 
   module _ (t : ℕ) (work new : List Float) (h : t < n) where
     pub forth-next : Across (λ l. Forth p n w t) size lanes old work → Across (λ l b e. e ≡ rowDone p w t b) size lanes work new → Across (λ l. Forth p n w (t + 1)) size lanes old new
-    forth-next = across-then (λ l b x y. rw y (stood-next p n w t (regionOf size l work) h s (begun l) (factors-long l b) (values-long l b) x))
+    forth-next a b = across-then a b (λ l i x y. rw y (stood-next p n w t (regionOf size l work) h s (begun l) (factors-long l i) (values-long l i) x))
 
     pub back-next : Across (λ l. Back p n w (t + 1)) size lanes old work → Across (λ l b e. e ≡ valueBack p n w t b) size lanes work new → Across (λ l. Back p n w t) size lanes old new
-    back-next = across-then (λ l b x y. rw y (backed-next p n w t (regionOf size l work) h s (begun l) (values-long l b) x))
+    back-next a b = across-then a b (λ l i x y. rw y (backed-next p n w t (regionOf size l work) h s (begun l) (values-long l i) x))
