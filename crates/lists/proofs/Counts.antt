@@ -5,7 +5,7 @@ use mathlib.Core.List.{List, [], _∷_, _++_}
 use Prim.Native.Nat.{ℕ, zero, suc, _+_, _≤_}
 use native.Mathlib.Omega.{arith}
 use lib.ListN.{length, replicate}
-use Rattle.lists.specs.Frames.{count}
+use Rattle.lists.specs.Frames.{select, count}
 
 pub count-append : (cs bs : List Bool) → count (cs ++ bs) ≡ count cs + count bs
 unfolding count
@@ -28,3 +28,11 @@ unfolding count
 count-most [] = omega arith
 count-most (true ∷ bs) = omega (arith, count-most bs)
 count-most (false ∷ bs) = omega (arith, count-most bs)
+
+pub select-length : {A : Type 0} (bs : List Bool) (xs : List A) → length xs ≡ length bs → length (select bs xs) ≡ count bs
+unfolding select count
+select-length [] xs e = refl
+select-length (true ∷ bs) [] e = absurd (omega arith)
+select-length (false ∷ bs) [] e = absurd (omega arith)
+select-length (true ∷ bs) (x ∷ xs) e = ap suc (select-length bs xs (omega arith))
+select-length (false ∷ bs) (x ∷ xs) e = select-length bs xs (omega arith)

@@ -4,12 +4,14 @@ use mathlib.Core.List.{List, [], _∷_, _++_, append-assoc, append-nil}
 use Prim.Native.Nat.{ℕ, suc, _+_, _-_, _<_, _≤_}
 use native.Mathlib.Numerals.{add-one}
 use native.Mathlib.Omega.{arith}
-use borrow.Rule.Slice.PartMut.{putMid, post-is}
-use lib.ListN.{length, set, take, drop, length-drop, length-set}
-use lib.Seq.{sets, sets-eq, drop-set-add, drop-set-lt, take-set-le, take-set-lt, take-suc-set, length-take-le, append-snoc}
+use native.Mathlib.Nat.{add-sub-cancel-left}
+use borrow.Rule.Slice.PartMut.{midOf, putMid, post-is}
+use lib.ListN.{length, set, take, drop, getD, replicate, length-drop, length-set, length-replicate}
+use lib.Seq.{sets, sets-eq, drop-set-add, drop-set-lt, take-set-le, take-set-lt, take-suc-set, getD-take, getD-drop, length-take-le, append-snoc}
 use Rattle.lists.specs.Build.{build}
 use Rattle.lists.proofs.Fills.{build-length}
 use Rattle.lists.proofs.Stores.{sets-append}
+use Rattle.lists.proofs.Expansions.{part-filled}
 
 module _ {A : Type 0} where
   abbrev cut : ℕ → ℕ → List A → List A
@@ -62,6 +64,10 @@ module _ {A : Type 0} where
   pub stored-whole : (vs l : List A) (o k : ℕ) → length vs ≡ k → o + k ≤ length l → cut o k (sets l o vs) ≡ vs
   stored-whole vs l o k e h = stored-at vs l o 0 o k (omega arith) (omega arith) (omega arith)
 
+  -- number t of those that were stored
+  pub read-within : (vs l : List A) (i t : ℕ) (z : A) → t < length vs → i + length vs ≤ length l → getD (sets l i vs) (i + t) z ≡ getD vs t z
+  read-within vs l i t z h k = sym (getD-take (length vs) _ t z h ∙ getD-drop i (sets l i vs) t z) ∙ ap (λ (x : List A). getD x t z) (stored-whole vs l i (length vs) refl k)
+
   -- one more number by a rule
   pub stored-rule : (f : ℕ → A) (d g : List A) (e t : ℕ) (v : A) → v ≡ f t → g ≡ sets d e (build f t) → set g (e + t) v ≡ sets d e (build f (t + 1))
   unfolding build
@@ -72,3 +78,10 @@ module _ {A : Type 0} where
   returned a e l x h g k =
       let z : a + length x ≡ e = omega arith in
       sym (sets-eq x l a (omega arith) ∙ rw (z, post-is a e l h, append-assoc))
+
+  -- and so does one of which d places were filled with x
+  pub lent-filled : (out w : List A) (f e d : ℕ) (x : A) → e ≡ f + d → e ≤ length out → w ≡ sets (midOf f (e - f) out) 0 (replicate d x) → putMid f (e - f) out w ≡ sets out f (replicate d x)
+  lent-filled out w f e d x o h q =
+      let l : f + d ≤ length out = omega arith in
+      let r : w ≡ sets (midOf f (f + d - f) out) 0 (replicate d x) = rw o at q in
+      rw (o, part-filled out w f d x l r) (returned f (f + d) out (replicate d x) (omega arith) l (length-replicate d x ∙ sym (add-sub-cancel-left f d)))

@@ -50,7 +50,7 @@ on-said s weight e = rw e
 
 -- ---- a group's equations, solved
 
-module _ (p : Plan) (widths : List ℕ) (coefs records : List Float) (ds marks : List ℕ) (targets : List Float) (r : Ready p widths coefs records ds marks targets) where
+module _ (p : Plan) (widths : List ℕ) (coefs records : List Float) (ds marks : List ℕ) (r : Ready p widths coefs records ds marks) where
   abbrev s : Stream
   s = p .stream
 
@@ -94,9 +94,9 @@ module _ (p : Plan) (widths : List ℕ) (coefs records : List Float) (ds marks :
         (eachRegion (p .layout) (c .lanes) (λ l. pairedIn (p .size) records (c .v) widths (maskIn ds marks) ds (c .first + l)) work))
     group-solved work₁ work₂ work₃ a b k₁ k₂ k₃ =
         let o₁ : closes (p .size) records widths ds marks (p .layout) c (length work) ≡ true =
-        rw (layout-is, size-is) (closing-opens s widths coefs records ds targets (r .shaped) marks (r .marked) c e h (length work) room-is) in
-        let o₂ : band.opens widths coefs (p .layout) (c .lanes) (length work₁) ≡ true = rw layout-is (band-opens s widths coefs records ds targets (r .shaped) (c .lanes) (length work₁) (rw a room-is)) in
-        let o₃ : solve.opens (p .layout) (c .lanes) (length work₂) ≡ true = rw layout-is (solve-opens s widths coefs records ds targets (r .shaped) (c .lanes) (length work₂) (rw (b, a) room-is)) in
+        rw (layout-is, size-is) (closing-opens s widths coefs records ds (r .shaped) marks (r .marked) c e h (length work) room-is) in
+        let o₂ : band.opens widths coefs (p .layout) (c .lanes) (length work₁) ≡ true = rw layout-is (band-opens s widths coefs records ds (r .shaped) (c .lanes) (length work₁) (rw a room-is)) in
+        let o₃ : solve.opens (p .layout) (c .lanes) (length work₂) ≡ true = rw layout-is (solve-opens s widths coefs records ds (r .shaped) (c .lanes) (length work₂) (rw (b, a) room-is)) in
         let e₁ = opened _ _ _ _ o₁ (k₁ .space) in
         let e₂ = opened _ _ _ _ o₂ (k₂ .space) in
         opened _ _ _ _ o₃ (k₃ .space) ∙ rw (e₂, e₁)
@@ -134,7 +134,7 @@ module _ (p : Plan) (c : Group) (marks : List ℕ) (targets work work′ : List 
 
 -- ---- a group's columns
 
-module _ (p : Plan) (widths : List ℕ) (coefs records : List Float) (ds marks : List ℕ) (targets : List Float) (r : Ready p widths coefs records ds marks targets)
+module _ (p : Plan) (widths : List ℕ) (coefs records : List Float) (ds marks : List ℕ) (targets : List Float) (r : Ready p widths coefs records ds marks)
     (c : Group) (e : c .v ≡ p .stream .v) (h : c .first + c .lanes ≤ c .v) (work : List Float) (room : c .lanes * region.sizeOf (p .layout) ≤ length work) where
   abbrev t : Stream
   t = p .stream
@@ -158,7 +158,7 @@ module _ (p : Plan) (widths : List ℕ) (coefs records : List Float) (ds marks :
       → work₄ ≡ withGv (t .gv) (λ weight. eachRegion (p .layout) (c .lanes) (targetIn p c marks targets weight) work₃) work₃
       → work₄ ≡ over
   regions-are work₃ work₄ a b =
-      b ∙ rw (a, layout-is p widths coefs records ds marks targets r, ap (λ (q : Plan). q .size) (r .plan), ap (λ (q : Plan). q .frames) (r .plan), r .marked .flags, e)
+      b ∙ rw (a, layout-is p widths coefs records ds marks r, ap (λ (q : Plan). q .size) (r .plan), ap (λ (q : Plan). q .frames) (r .plan), r .marked .flags, e)
 
   pub group-columned : Keeps y (c .lanes) (closed t widths coefs records ds (c .first) (c .lanes)) → Keeps y (c .lanes) (rowed t widths coefs records ds (c .first) (c .lanes)) → Keeps y (c .lanes) (done t widths coefs records ds (c .first) (c .lanes))
       → ((o : List ℕ) (weight : Float) → Keeps y (c .lanes) (target t widths coefs records ds o targets (c .first) (c .lanes) weight))
@@ -170,12 +170,12 @@ module _ (p : Plan) (widths : List ℕ) (coefs records : List Float) (ds marks :
       → Columned (columnOf t widths coefs records ds marks targets) (c .v) (c .first) out → Columned (columnOf t widths coefs records ds marks targets) (c .v) (c .first + c .lanes) out′
   unfolding columnOf
   group-columned k₁ k₂ k₃ k₄ work₃ work₄ out out′ a b long numbers says col =
-      let i : c .lanes * region.sizeOf y ≤ length work = rw (layout-is p widths coefs records ds marks targets r) at room in
+      let i : c .lanes * region.sizeOf y ≤ length work = rw (layout-is p widths coefs records ds marks r) at room in
       let w : work₄ ≡ over = regions-are work₃ work₄ a b in
       let o : fills ds marks (p .layout) c (length work₄) (length out) ≡ true =
-      rw (layout-is p widths coefs records ds marks targets r) (filling-opens t widths coefs records ds targets (r .shaped) marks (r .marked) c e h (length work₄) (rw long i) (length out) numbers) in
+      rw (layout-is p widths coefs records ds marks r) (filling-opens t widths coefs records ds (r .shaped) marks (r .marked) c e h (length work₄) (rw long i) (length out) numbers) in
       let q : out′ ≡ build (filledAt (t .fill) (voicedIn t widths records ds) y c over out) (length out) =
-      opened _ _ _ _ o (says .numbers) ∙ rw (w, layout-is p widths coefs records ds marks targets r, r .marked .flags) in
+      opened _ _ _ _ o (says .numbers) ∙ rw (w, layout-is p widths coefs records ds marks r, r .marked .flags) in
       rw q
       (columned-next (columnOf t widths coefs records ds marks targets) (t .fill) (voicedIn t widths records ds) y c over out
       (λ l b. ap (fill (t .fill) (voicedIn t widths records ds))

@@ -25,7 +25,7 @@ use Rattle.mlpg_adjust.specs.declared.Stream.{Stream}
 pub opened : {A : Type 0} (b : Bool) (new old l : List A) → b ≡ true → l ≡ cond b new old → l ≡ new
 opened b new old l e h = h ∙ rw e
 
-module _ (s : Stream) (widths : List ℕ) (coefs records : List Float) (ds : List ℕ) (targets : List Float) (k : Shaped s widths coefs records ds targets) where
+module _ (s : Stream) (widths : List ℕ) (coefs records : List Float) (ds : List ℕ) (k : Shaped s widths coefs records ds) where
   abbrev g : Layout
   g = layoutOf s widths records ds
 

@@ -14,6 +14,7 @@ use Rattle.lists.specs.Totals.{total}
 use Rattle.lists.specs.Parts.{part}
 use Rattle.lists.specs.Flags.{flag}
 use Rattle.lists.specs.Frames.{expand, select, count}
+use Rattle.lists.proofs.Counts.{select-length}
 use Rattle.lists.proofs.Regions.{stored-behind, stored-whole}
 use Rattle.lists.proofs.Expansions.{expand-length}
 use Rattle.model.specs.Windows.{bandWidth}
@@ -22,7 +23,6 @@ use Rattle.voicing.specs.Mask.{weightsOf, maskIn}
 use Rattle.voicing.specs.Space.{marks, switches, MarkSays, SwitchesSay}
 use Rattle.voicing.specs.declared.Voicing.{Voicing}
 use Rattle.voicing.proofs.Theory.{mask-length, weights-length}
-use Rattle.voicing.proofs.Sizes.{select-length}
 use Rattle.voicing.proofs.Masks.{mask-voiced, stream-flagged}
 use Rattle.mlpg_adjust.specs.Trajectory.{stateSize, gvOn, withGv, numbersOf}
 use Rattle.mlpg_adjust.specs.Inner.Groups.{Shaped, Marked, Ready, voicedIn, planOf, columnOf, Columned}
@@ -39,7 +39,7 @@ mask-long s widths records ds = mask-length (s .threshold) (weightsOf (stateSize
 
 -- ---- the flags
 
-module _ (s : Stream) (widths : List ℕ) (coefs records : List Float) (ds : List ℕ) (gv : List Float) (k : Shaped s widths coefs records ds gv) where
+module _ (s : Stream) (widths : List ℕ) (coefs records : List Float) (ds : List ℕ) (k : Shaped s widths coefs records ds) where
   abbrev mask : List Bool
   mask = voicedIn s widths records ds
 
@@ -55,7 +55,7 @@ module _ (s : Stream) (widths : List ℕ) (coefs records : List Float) (ds : Lis
 
   module _ (u : Voicing) (size-is : u .size ≡ stateSize s widths) (threshold-is : u .threshold ≡ s .threshold) (n : ℕ) (flags flags′ : List ℕ) (room : total ds ≤ length flags) (says : MarkSays u records ds flags n flags′) where
     opens : marks u records ds (length flags) ≡ true
-    opens = rw (frames-flagged s widths coefs records ds gv k (length flags) room, size-is, le-leb (length ds * stateSize s widths) (length records) (le-of-eq (sym (k .recorded))))
+    opens = rw (frames-flagged s widths coefs records ds k (length flags) room, size-is, le-leb (length ds * stateSize s widths) (length records) (le-of-eq (sym (k .recorded))))
 
     pub counted : n ≡ count mask
     counted = says .answer ∙ rw (opens, size-is, threshold-is)
@@ -118,12 +118,12 @@ module _ (s : Stream) (widths : List ℕ) (coefs records : List Float) (ds : Lis
       pub room-before : total ds + count (maskIn ds m₁) ≤ length m₁
       room-before = rw e₁ switches-room
 
-      pub ready : Ready p widths coefs records ds m₂ gv
+      pub ready : Ready p widths coefs records ds m₂
       ready = rw (marks-are, p-is) (record { plan = refl; shaped = k; marked = marked })
 
-      pub all-rendered : (gvOn (s .gv) ≡ true → length on ≡ length ds) → (out : List Float) → length out ≡ total ds * s .v
+      pub all-rendered : (gvOn (s .gv) ≡ true → length on ≡ length ds) → (gv out : List Float) → length out ≡ total ds * s .v
           → Columned (columnOf (p .stream) widths coefs records ds m₂ gv) (p .stream .v) (p .stream .v) out → out ≡ numbersOf s widths coefs records ds gv on
-      all-rendered h out l col = rendered s widths coefs records ds gv on marks₂ (switches-are h) out (k .some-v) l (rw (marks-are, p-is) at col)
+      all-rendered h gv out l col = rendered s widths coefs records ds gv on marks₂ (switches-are h) out (k .some-v) l (rw (marks-are, p-is) at col)
 
 -- ---- the call that writes the switches
 

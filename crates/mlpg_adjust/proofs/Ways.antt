@@ -21,7 +21,7 @@ use Rattle.model.proofs.Windows.{fit-few}
 use Rattle.mlpg_adjust.specs.Trajectory.{recordSize, gvOn, stateSize, trajectory, numbersOf}
 use Rattle.lists.specs.Answers.{written}
 use Rattle.mlpg_adjust.specs.Promise.{lengthsOf, outOfRange, gvDisagrees, disagree, short, createRefusal, zeroFloats, zeroMarks, CreateSays}
-use Rattle.mlpg_adjust.specs.Inner.Groups.{Shaped, Room}
+use Rattle.mlpg_adjust.specs.Inner.Groups.{Shaped, GvFits, Room}
 use Rattle.mlpg_adjust.specs.declared.Stream.{Stream}
 use Rattle.mlpg_adjust.specs.declared.refusing.Lengths.{Lengths}
 use Rattle.mlpg_adjust.specs.declared.Created.the-variants.{Done, Refused}
@@ -135,8 +135,7 @@ module _ (s : Stream) (ws : List ℕ) (cs : List Float) (ds : List ℕ) (lengths
 record Agree (s : Stream) (ws : List ℕ) (cs states : ℕ) (n : Lengths) : Type 0 where
   pub whole : cs ≡ total ws
   pub recorded : n .records ≡ states * stateSize s ws
-  pub varied : gvOn (s .gv) ≡ true → n .gv ≡ s .v + s .v
-  pub switched : gvOn (s .gv) ≡ true → n .switches ≡ states
+  pub varied : GvFits s states (n .gv) (n .switches)
 
 both-agree : (on a b : Bool) → (on && (not a || not b)) ≡ false → on ≡ true → (a ≡ true) × (b ≡ true)
 both-agree false a b h e = let z : _≡_ {A = ℕ} 0 1 = cc in absurd (omega arith)
@@ -152,8 +151,7 @@ agree s ws cs states n h =
     record {
       whole = eqb-true cs (total ws) (not-false (eqb cs (total ws)) (t .0));
       recorded = eqb-true (n .records) (states * stateSize s ws) (not-false (eqb (n .records) (states * stateSize s ws)) (t .1));
-      varied = λ e. omega (arith, eqb-true (n .gv) (2 * s .v) (u e .0));
-      switched = λ e. eqb-true (n .switches) states (u e .1);
+      varied = record { targets = λ e. omega (arith, eqb-true (n .gv) (2 * s .v) (u e .0)); switched = λ e. eqb-true (n .switches) states (u e .1) };
     }
 
 six-tests : (f g t d n x : Bool) → _≡_ {A = ℕ} (orElse (cond f 0 1) (orElse (cond g 0 2) (orElse (cond t 3 0) (orElse (cond d 4 0) (orElse (cond n 5 0) (cond x 6 0)))))) 0
@@ -184,7 +182,7 @@ module _ (s : Stream) (ws : List ℕ) (cs rs : List Float) (ds : List ℕ) (gv :
   unfolding windowRefusal
   windows = rw (passed .0, passed .1, eq-eqb (length cs) (total ws) (agreed .whole))
 
-  pub accepted-shape : Shaped s ws cs rs ds gv
+  pub accepted-shape : Shaped s ws cs rs ds
   accepted-shape =
       let r = in-range (s .v) (length ds) (passed .2) in
       record {
@@ -197,11 +195,10 @@ module _ (s : Stream) (ws : List ℕ) (cs rs : List Float) (ds : List ℕ) (gv :
         recorded = agreed .recorded;
         few = r .few;
         frames = ltb-false 65536 (total ds) (passed .4);
-        varied = agreed .varied;
       }
 
-  pub accepted-switches : gvOn (s .gv) ≡ true → length switches ≡ length ds
-  accepted-switches = agreed .switched
+  pub accepted-gv : GvFits s (length ds) (length gv) (length switches)
+  accepted-gv = agreed .varied
 
   pub accepted-room : Room (s .v) (total ds) n
   accepted-room = has-room (s .v) (total ds) n (passed .5)

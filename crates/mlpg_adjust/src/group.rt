@@ -33,10 +33,9 @@ fn solve_group(
     records: &[f64],
     durations: &[u32],
     marks: &[u32],
-    gv: &[f64],
     work: &mut [f64],
 )
-    requires { ⌜ Ready p (now widths) (now coefficients) (now records) (now durations) (now marks) (now gv)
+    requires { ⌜ Ready p (now widths) (now coefficients) (now records) (now durations) (now marks)
         × (c .v ≡ p .stream .v) × (c .first + c .lanes ≤ c .v) × (c .lanes * sizeOf (p .layout) ≤ length (now work)) ⌝ }
     ensures { λ _. ⌜ now (work .exit) ≡ eachRegion (p .layout) (c .lanes) (λ l. solvedIn (p .layout))
         (eachRegion (p .layout) (c .lanes) (λ l. rowedIn (now (widths .entry)) (now (coefficients .entry)) (p .layout))
@@ -94,7 +93,7 @@ fn render_group(
     work: &mut [f64],
     out: &mut [f64],
 )
-    requires { ⌜ Ready p (now widths) (now coefficients) (now records) (now durations) (now marks) (now gv)
+    requires { ⌜ Ready p (now widths) (now coefficients) (now records) (now durations) (now marks) × (gvOn (p .stream .gv) ≡ true → length (now gv) ≡ c .v + c .v)
         × (c .v ≡ p .stream .v) × (c .first + c .lanes ≤ c .v) × (c .lanes * sizeOf (p .layout) ≤ length (now work)) × (length (now out) ≡ total (now durations) * c .v) ⌝ }
     ensures { λ _. ⌜ (Columned (columnOf (p .stream) (now (widths .entry)) (now (coefficients .entry)) (now (records .entry)) (now (durations .entry)) (now (marks .entry)) (now (gv .entry))) (c .v) (c .first) (now (out .entry))
         → Columned (columnOf (p .stream) (now (widths .entry)) (now (coefficients .entry)) (now (records .entry)) (now (durations .entry)) (now (marks .entry)) (now (gv .entry))) (c .v) (c .first + c .lanes) (now (out .exit))) ⌝ }
@@ -107,7 +106,6 @@ fn render_group(
         records,
         durations,
         marks,
-        gv,
         work,
     );
     let stream = p.stream;
@@ -129,7 +127,7 @@ pub(crate) fn render_groups(
     work: &mut [f64],
     out: &mut [f64],
 )
-    requires { ⌜ Ready p (now widths) (now coefficients) (now records) (now durations) (now marks) (now gv)
+    requires { ⌜ Ready p (now widths) (now coefficients) (now records) (now durations) (now marks) × (gvOn (p .stream .gv) ≡ true → length (now gv) ≡ p .stream .v + p .stream .v)
         × (length (now work) ≡ total (now durations) * 48) × (length (now out) ≡ total (now durations) * p .stream .v) ⌝ }
     ensures { λ _. ⌜ Columned (columnOf (p .stream) (now (widths .entry)) (now (coefficients .entry)) (now (records .entry)) (now (durations .entry)) (now (marks .entry)) (now (gv .entry))) (p .stream .v) (p .stream .v) (now (out .exit)) ⌝ }
 {

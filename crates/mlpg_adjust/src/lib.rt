@@ -1,13 +1,12 @@
 // Maximum likelihood parameter generation: the records of a stream become its trajectory.
 ghost use mathlib.Core.Path.{_≡_};
-ghost use mathlib.Core.Bool.{true};
 ghost use Prim.Native.Nat.{_≤_};
 ghost use lib.ListN.{length};
 ghost use Rattle.lists.specs.Totals.{total};
 ghost use Rattle.lists.specs.Answers.{written};
-ghost use Rattle.mlpg_adjust.specs.Trajectory.{recordSize, gvOn, numbersOf};
+ghost use Rattle.mlpg_adjust.specs.Trajectory.{recordSize, numbersOf};
 ghost use Rattle.mlpg_adjust.specs.Promise.{createdNumber, lengthsOf, zeroFloats, zeroMarks, CreateSays};
-ghost use Rattle.mlpg_adjust.specs.Inner.Groups.{Shaped, Room};
+ghost use Rattle.mlpg_adjust.specs.Inner.Groups.{Shaped, GvFits, Room};
 
 mod group;
 mod refusing;
@@ -118,7 +117,7 @@ fn write(
     work: &mut [f64],
     marks: &mut [u32],
 )
-    requires { ⌜ Shaped stream (now widths) (now coefficients) (now records) (now durations) (now gv) × (gvOn (stream .gv) ≡ true → length (now switches) ≡ length (now durations))
+    requires { ⌜ Shaped stream (now widths) (now coefficients) (now records) (now durations) × GvFits stream (length (now durations)) (length (now gv)) (length (now switches))
         × Room (stream .v) (total (now durations)) (lengthsOf (now records) (now gv) (now switches) (now out) (now work) (now marks)) ⌝ }
     ensures { λ _. ⌜ (now (out .exit) ≡ written 0 (numbersOf stream (now (widths .entry)) (now (coefficients .entry)) (now (records .entry)) (now (durations .entry)) (now (gv .entry)) (now (switches .entry))) (now (out .entry)))
         × (now (work .exit) ≡ written 0 (zeroFloats (total (now (durations .entry)))) (now (work .entry)))

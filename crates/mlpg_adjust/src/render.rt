@@ -10,7 +10,7 @@ ghost use Rattle.lists.specs.Flags.{flag};
 ghost use Rattle.lists.specs.Frames.{expand, select, count};
 ghost use Rattle.voicing.specs.Mask.{maskIn};
 ghost use Rattle.mlpg_adjust.specs.Trajectory.{numbersOf, gvOn, withGv};
-ghost use Rattle.mlpg_adjust.specs.Inner.Groups.{Shaped, voicedIn, planOf};
+ghost use Rattle.mlpg_adjust.specs.Inner.Groups.{Shaped, GvFits, voicedIn, planOf};
 use super::GlobalVariance;
 use super::Stream;
 use super::group::Plan;
@@ -26,10 +26,9 @@ fn plan_of(
     coefficients: &[f64],
     records: &[f64],
     durations: &[u32],
-    gv: &[f64],
     marks: &mut [u32],
 ) -> Plan
-    requires { ⌜ Shaped stream (now widths) (now coefficients) (now records) (now durations) (now gv) × (total (now durations) ≤ length (now marks)) ⌝ }
+    requires { ⌜ Shaped stream (now widths) (now coefficients) (now records) (now durations) × (total (now durations) ≤ length (now marks)) ⌝ }
     ensures { λ r. ⌜ (r ≡ planOf stream (now (widths .entry)) (now (records .entry)) (now (durations .entry)))
         × (now (marks .exit) ≡ map flag (voicedIn stream (now (widths .entry)) (now (records .entry)) (now (durations .entry))) ++ drop (total (now (durations .entry))) (now (marks .entry))) ⌝ }
 {
@@ -80,11 +79,11 @@ pub(crate) fn render(
     work: &mut [f64],
     marks: &mut [u32],
 )
-    requires { ⌜ Shaped stream (now widths) (now coefficients) (now records) (now durations) (now gv) × (gvOn (stream .gv) ≡ true → length (now switches) ≡ length (now durations))
+    requires { ⌜ Shaped stream (now widths) (now coefficients) (now records) (now durations) × GvFits stream (length (now durations)) (length (now gv)) (length (now switches))
         × (length (now out) ≡ total (now durations) * stream .v) × (length (now work) ≡ total (now durations) * 48) × (length (now marks) ≡ total (now durations) * 4) ⌝ }
     ensures { λ _. ⌜ now (out .exit) ≡ numbersOf stream (now (widths .entry)) (now (coefficients .entry)) (now (records .entry)) (now (durations .entry)) (now (gv .entry)) (now (switches .entry)) ⌝ }
 {
-    let plan = plan_of(stream, widths, coefficients, records, durations, gv, marks);
+    let plan = plan_of(stream, widths, coefficients, records, durations, marks);
     let switch = stream.gv;
     mark_switches(switch, durations, switches, marks);
     render_groups(

@@ -5,7 +5,6 @@ pub mod Ways
 pub mod Masks
 pub mod Passes
 pub mod Selections
-pub mod Loans
 pub mod Switches
 pub mod Fillings
 pub mod Columns

@@ -18,7 +18,7 @@ use Rattle.lists.proofs.Builds.{build-is}
 use Rattle.lists.proofs.Expansions.{part-length}
 use Rattle.lists.proofs.Fills.{build-length}
 use Rattle.lists.proofs.Numbers.{le-or-lt}
-use Rattle.lists.proofs.Regions.{returned}
+use Rattle.lists.proofs.Regions.{returned, lent-filled, read-within}
 use Rattle.lists.proofs.Stores.{filled}
 use Rattle.floats.specs.Numbers.{nought}
 use Rattle.region.specs.Rows.{elem}
@@ -30,7 +30,6 @@ use Rattle.voicing.specs.Inner.States.{shutEnds, putPair}
 use Rattle.voicing.specs.declared.closing.Ends.{Ends}
 use Rattle.voicing.proofs.Theory.{lefts-length, rights-length}
 use Rattle.voicing.proofs.Masks.{frame-next, frame-fits, Run, goes-some, mask-run, mask-end}
-use Rattle.voicing.proofs.Loans.{lent-filled, read-within}
 
 -- ---- the ends of a state's frames
 
@@ -72,14 +71,14 @@ module _ (e : Ends) (v : Float) where
       (λ (g : d - q ≤ j).
       let o : d - q + (j - (d - q)) ≡ j = omega arith in
       let k : j - (d - q) < q = omega arith in
-      rw o at (read-within (replicate q nought) b (d - q) (j - (d - q)) (rw y k) (rw (n, y) (omega arith)) ∙ getD-replicate q (j - (d - q)) nought nan k)
+      rw o at (read-within (replicate q nought) b (d - q) (j - (d - q)) nan (rw y k) (rw (n, y) (omega arith)) ∙ getD-replicate q (j - (d - q)) nought nan k)
       ∙ sym (shut-last (e .before) (e .after) j (d - 1 - j) v (omega arith)))
       (λ (g : j < d - q). read-under (replicate q nought) b (d - q) j g
       ∙ ⊎-elim
       (λ (i : p ≤ j). read-beyond (replicate p nought) (replicate d v) 0 j (rw x (omega arith)) ∙ getD-replicate d j v nan h ∙ sym (shut-none (e .before) (e .after) j (d - 1 - j) v (omega arith) (omega arith)))
       (λ (i : j < p).
       let o : 0 + j ≡ j = omega arith in
-      rw o at (read-within (replicate p nought) (replicate d v) 0 j (rw x i) (rw (x, length-replicate d v) (omega arith)) ∙ getD-replicate p j nought nan i)
+      rw o at (read-within (replicate p nought) (replicate d v) 0 j nan (rw x i) (rw (x, length-replicate d v) (omega arith)) ∙ getD-replicate p j nought nan i)
       ∙ sym (shut-first (e .before) (e .after) j (d - 1 - j) v (omega arith)))
       (le-or-lt p j))
       (le-or-lt (d - q) j))

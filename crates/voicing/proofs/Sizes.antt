@@ -1,13 +1,13 @@
 -- A region keeps its sizes when its pairs are closed up.
-use mathlib.Core.Path.{_≡_, refl, sym, ap, _∙_}
-use mathlib.Core.Bool.{Bool, true, false}
-use mathlib.Core.List.{List, [], _∷_}
-use Prim.Native.Nat.{ℕ, suc, _+_, _*_}
-use native.Mathlib.Omega.{arith}
+use mathlib.Core.Path.{_≡_, sym, _∙_}
+use mathlib.Core.Bool.{Bool}
+use mathlib.Core.List.{List}
+use Prim.Native.Nat.{ℕ, _+_, _*_}
 use lib.ListN.{length}
 use lib.Ieee.{Float}
 use Rattle.lists.specs.Totals.{total}
-use Rattle.lists.specs.Frames.{expand, select, count}
+use Rattle.lists.specs.Frames.{count}
+use Rattle.lists.proofs.Counts.{select-length}
 use Rattle.lists.proofs.Expansions.{expand-length}
 use Rattle.lists.proofs.Joins.{rows-length}
 use Rattle.model.specs.Record.{pairNumber}
@@ -19,14 +19,6 @@ use Rattle.voicing.specs.Space.{pairedIn}
 use Rattle.voicing.proofs.Theory.{lefts-length, rights-length}
 use Rattle.voicing.proofs.Records.{column-length, inverses-length}
 use Rattle.voicing.proofs.Runs.{shut-length}
-
-pub select-length : {A : Type 0} (bs : List Bool) (xs : List A) → length xs ≡ length bs → length (select bs xs) ≡ count bs
-unfolding select count
-select-length [] xs e = refl
-select-length (true ∷ bs) [] e = absurd (omega arith)
-select-length (false ∷ bs) [] e = absurd (omega arith)
-select-length (true ∷ bs) (x ∷ xs) e = ap suc (select-length bs xs (omega arith))
-select-length (false ∷ bs) (x ∷ xs) e = select-length bs xs (omega arith)
 
 module _ (size : ℕ) (records : List Float) (v component : ℕ) (widths : List ℕ) (mask : List Bool) (ds : List ℕ) (long : length mask ≡ total ds) where
   -- a window has a pair for each voiced frame

@@ -11,14 +11,13 @@ use lib.Seq.{sets, length-sets, getD-take}
 use Rattle.lists.specs.Totals.{total}
 use Rattle.lists.specs.Frames.{expand, select, count}
 use Rattle.lists.proofs.Expansions.{expand-length}
-use Rattle.lists.proofs.Regions.{stored-behind}
+use Rattle.lists.proofs.Regions.{stored-behind, lent-filled}
 use Rattle.lists.proofs.Stores.{sets-append}
 use Rattle.voicing.specs.Mask.{maskIn}
 use Rattle.voicing.specs.Inner.Fits.{goesOn, Switched}
 use Rattle.voicing.proofs.Masks.{mask-end}
 use Rattle.voicing.proofs.Passes.{Passed, passed-none, passed-fits, passed-run, passed-room, passed-next}
 use Rattle.voicing.proofs.Selections.{expand-run, select-next, run-items}
-use Rattle.voicing.proofs.Loans.{lent-filled}
 
 -- the switches from state s on are still to be stored behind the k that are
 pub record Switching (ds on old flags : List ℕ) (s f k : ℕ) : Type 0 where

@@ -7,9 +7,6 @@ use borrow.Author.Needs.{needs}
 use Rattle.band.proofs.frames_of.Statement.{statement}
 use Rattle.band.proofs.frames_of.Tie as tie
 
-refusal-requires : tie.Need-refusal-requires
-refusal-requires c κs = search needs
-
 returns : tie.Need-returns
 returns c = let s = c .before .before .before .before .args in frames-windows (s .widths .now) (s .coefficients .now) (s .means) (s .ivars) _ (c .before .refusal .ensures) (c .if1 .taken)
 
@@ -28,9 +25,6 @@ div-n c = let s = c .before .before .before .before .before .before .args in ome
 returns-4 : tie.Need-returns-4
 returns-4 c = let s = c .before .before .before .before .before .before .before .args in frames-many (s .widths .now) (s .coefficients .now) (s .means) (s .ivars) (sym (c .before .before .before .before .refusal .ensures) ∙ c .before .before .before .if1 .left) (c .before .before .if2 .left) (c .before .if3 .left) (c .if4 .taken)
 
-cast-t10 : tie.Need-cast-t10
-cast-t10 c = search needs
-
 returns-5 : tie.Need-returns-5
 returns-5 c = let s = c .before .before .before .before .before .before .before .args in frames-few (s .widths .now) (s .coefficients .now) (s .means) (s .ivars) (sym (c .before .before .before .before .refusal .ensures) ∙ c .before .before .before .if1 .left) (c .before .before .if2 .left) (c .before .if3 .left) (c .if4 .left)
 
@@ -38,12 +32,12 @@ pub frames-of-spec : {M : Type 1} → statement M
 frames-of-spec =
     tie.close
     (tie.spec
-    refusal-requires
+    (λ c κs. search needs)
     returns
     rem-if2
     returns-2
     returns-3
     div-n
     returns-4
-    cast-t10
+    (λ c. search needs)
     returns-5)

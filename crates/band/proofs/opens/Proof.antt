@@ -17,15 +17,15 @@ returns-3 c = let s = c .before .before .before .before .before .before .before 
     _ (c .before .small .ensures) (c .if3 .taken)
 
 returns-4 : tie.Need-returns-4
-returns-4 c = let s = c .before .before .before .before .before .before .before .before .before .before .before .args in
-    let u = c .before .before .before .before .before .before .before in
+returns-4 c = let u = c .before .before .before .before .before .before .before in
+    let s = u .before .before .before .before .args in
     shut-narrow (s .widths .now) (s .coefficients .now) (s .g) (s .lanes) (s .floats) _ (u .before .widths-fit .ensures) (u .if1 .left) _ (c .before .before .before .before .before .before .total-u32 .ensures) (c .before .before .before .before .before .if2 .left)
     _ (c .before .before .before .before .small .ensures) (c .before .before .before .if3 .left) _ _ (c .before .before .band-width .ensures) (c .before .small2 .ensures) (c .if4 .taken)
 
 returns-5 : tie.Need-returns-5
-returns-5 c = let s = c .before .before .before .before .before .before .before .before .before .before .before .before .args in
-    let q = c .before in
-    open-last (s .widths .now) (s .coefficients .now) (s .g) (s .lanes) (s .floats) _ (q .before .before .before .before .before .before .before .before .widths-fit .ensures) (q .before .before .before .before .before .before .before .if1 .left) _ (q .before .before .before .before .before .before .total-u32 .ensures) (q .before .before .before .before .before .if2 .left)
+returns-5 c = let q = c .before in let u = q .before .before .before .before .before .before .before in
+    let s = u .before .before .before .before .args in
+    open-last (s .widths .now) (s .coefficients .now) (s .g) (s .lanes) (s .floats) _ (u .before .widths-fit .ensures) (u .if1 .left) _ (q .before .before .before .before .before .before .total-u32 .ensures) (q .before .before .before .before .before .if2 .left)
     _ (q .before .before .before .before .small .ensures) (q .before .before .before .if3 .left) _ _ (q .before .before .band-width .ensures) (q .before .small2 .ensures) (q .if4 .left) _ (c .fits2 .ensures)
 
 pub opens-spec : {M : Type 1} → statement M

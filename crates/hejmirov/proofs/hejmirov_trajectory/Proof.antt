@@ -4,7 +4,7 @@ use Rattle.hejmirov.proofs.hejmirov_trajectory.Statement.{statement}
 use Rattle.hejmirov.proofs.hejmirov_trajectory.Tie as tie
 
 returns : tie.Need-returns
-returns c = record { answer = c .before .before .before .before .before .before .before .create .result; says = rw (← (c .before .before .before .before .before .before .before .before .before .before .before .variance-of .ensures)) (c .before .before .before .before .before .before .before .create .ensures); gives = c .number .ensures }
+returns c = let k = c .before .before .before .before .before .before .before in record { answer = k .create .result; says = rw (← (k .before .before .before .before .variance-of .ensures)) (k .create .ensures); gives = c .number .ensures }
 
 pub hejmirov-trajectory-spec : {M : Type 1} → statement M
 hejmirov-trajectory-spec =

@@ -26,7 +26,7 @@ use Rattle.mlpg_adjust.specs.declared.refusing.Lengths.{Lengths}
 use Rattle.mlpg_adjust.specs.declared.group.Plan.{Plan}
 
 -- lists that are accepted: what refusals 1, 3, 4 and 5 leave
-pub record Shaped (s : Stream) (widths : List ℕ) (coefs records : List Float) (ds : List ℕ) (gv : List Float) : Type 0 where
+pub record Shaped (s : Stream) (widths : List ℕ) (coefs records : List Float) (ds : List ℕ) : Type 0 where
   pub some-v : 0 < s .v
   pub most-v : s .v ≤ mostComponents
   pub fit : widthsFit widths ≡ true
@@ -36,7 +36,11 @@ pub record Shaped (s : Stream) (widths : List ℕ) (coefs records : List Float) 
   pub recorded : length records ≡ length ds * stateSize s widths
   pub few : length ds ≤ mostStates
   pub frames : total ds ≤ mostFrames
-  pub varied : gvOn (s .gv) ≡ true → length gv ≡ s .v + s .v
+
+-- and what 4 leaves of GV's lists, which are no input with GV off
+pub record GvFits (s : Stream) (states gv switches : ℕ) : Type 0 where
+  pub targets : gvOn (s .gv) ≡ true → gv ≡ s .v + s .v
+  pub switched : gvOn (s .gv) ≡ true → switches ≡ states
 
 -- an output and a work space that are long enough: what refusal 6 leaves
 pub record Room (v frames : ℕ) (n : Lengths) : Type 0 where
@@ -62,9 +66,9 @@ pub record Marked (s : Stream) (widths : List ℕ) (records : List Float) (ds ma
   pub room : total ds + count (voicedIn s widths records ds) ≤ length marks
 
 -- what is asked of the lists for each group of components
-pub record Ready (p : Plan) (widths : List ℕ) (coefs records : List Float) (ds marks : List ℕ) (gv : List Float) : Type 0 where
+pub record Ready (p : Plan) (widths : List ℕ) (coefs records : List Float) (ds marks : List ℕ) : Type 0 where
   pub plan : p ≡ planOf (p .stream) widths records ds
-  pub shaped : Shaped (p .stream) widths coefs records ds gv
+  pub shaped : Shaped (p .stream) widths coefs records ds
   pub marked : Marked (p .stream) widths records ds marks
 
 -- what the global variance needs of a plan and a group, of so many marks and floats

@@ -29,9 +29,6 @@ returns-2 c =
     (excerpt-refused _ _ _ (a .state) 2
     (width-3 (length (a .trajectory .now)) (a .durations .now) (a .v) (c .before .before .if1 .left) (sym (c .before .out-of-range .ensures) ∙ c .if2 .taken)))
 
-slice-aggregate-frames-of : tie.Need-slice-aggregate-frames-of
-slice-aggregate-frames-of c = sym (length-take-le _ _ (omega (arith, c .before .least .ensures)))
-
 frames-of-requires : tie.Need-frames-of-requires
 frames-of-requires c κs =
     let l = length-take-le (c .before .least .result) (c .before .before .before .before .before .before .before .args .durations .now) (omega (arith, c .before .least .ensures)) in
@@ -39,17 +36,20 @@ frames-of-requires c κs =
 
 -- what is known once the durations are summed
 module _ (c : tie.After-long) where
+  abbrev entry : tie.Start
+  entry = c .before .before .before .before .before .before .before .before .before .before .before
+
   abbrev ds : List ℕ
-  ds = c .before .before .before .before .before .before .before .before .before .before .before .args .durations .now
+  ds = entry .args .durations .now
 
   abbrev v : ℕ
-  v = c .before .before .before .before .before .before .before .before .before .before .before .args .v
+  v = entry .args .v
 
   abbrev state : ℕ
-  state = c .before .before .before .before .before .before .before .before .before .before .before .args .state
+  state = entry .args .state
 
   abbrev count : ℕ
-  count = length (c .before .before .before .before .before .before .before .before .before .before .before .args .trajectory .now)
+  count = length (entry .args .trajectory .now)
 
   width : outside v ≡ false
   width = sym (c .before .before .before .before .before .before .before .out-of-range .ensures) ∙ c .before .before .before .before .before .before .if2 .left
@@ -130,7 +130,7 @@ excerpt-span-spec =
     (λ c κs. search needs)
     returns-2
     (λ c κs. search needs)
-    slice-aggregate-frames-of
+    (λ c. sym (length-take-le _ _ (omega (arith, c .before .least .ensures))))
     frames-of-requires
     (λ c. search needs)
     (λ c. search needs)

@@ -13,26 +13,25 @@ use borrow.Author.Needs.{needs}
 use Rattle.voicing.proofs.mark.Statement.{statement}
 use Rattle.voicing.proofs.mark.Tie as tie
 
--- the door stands open
-opened : (c : tie.Else1) → let a = c .before .before .before .before .before .before .args in marks (a .u) (a .records .now) (a .durations .now) (length (a .flags .now)) ≡ true
-opened c = rw (sym (c .before .flagged .ensures), sym (c .before .before .has-room .ensures)) (not-false _ (c .if1 .left))
+module _ (c : tie.Else1) where
+  abbrev entry : tie.Start
+  entry = c .before .before .before .before .before .before
 
-fits : (c : tie.Else1) → let a = c .before .before .before .before .before .before .args in Flagged (a .durations .now) (length (a .flags .now)) × (length (a .durations .now) * a .u .size ≤ length (a .records .now))
-fits c = let a = c .before .before .before .before .before .before .args in marks-is (a .u) (a .records .now) (a .durations .now) (a .flags .now) (opened c)
+  -- the door stands open
+  opened : marks (entry .args .u) (entry .args .records .now) (entry .args .durations .now) (length (entry .args .flags .now)) ≡ true
+  opened = rw (sym (c .before .flagged .ensures), sym (c .before .before .has-room .ensures)) (not-false _ (c .if1 .left))
 
-room : (c : tie.After-frames-in) → c .frames-in .result ≤ length (c .before .before .before .before .before .before .before .args .flags .now)
+  fits : Flagged (entry .args .durations .now) (length (entry .args .flags .now)) × (length (entry .args .durations .now) * entry .args .u .size ≤ length (entry .args .records .now))
+  fits = marks-is (entry .args .u) (entry .args .records .now) (entry .args .durations .now) (entry .args .flags .now) opened
+
+room : (c : tie.After-frames-in) → c .frames-in .result ≤ length (entry (c .before) .args .flags .now)
 room c = omega (arith, c .frames-in .ensures, fits (c .before) .0 .room)
 
 returns : tie.Need-returns
 returns c = let a = c .before .before .before .before .before .before .args in mark-refuses (a .u) (a .records .now) (a .durations .now) (a .flags .now) (rw (sym (c .before .flagged .ensures), sym (c .before .before .has-room .ensures)) (not-true _ (c .if1 .taken)))
 
-count-voiced-requires : tie.Need-count-voiced-requires
-count-voiced-requires c κs = let f = fits (c .before .before .before .before .before .before) .0 in record { few = f .few; frames = f .frames; room = rw (length-front _ _ _ (c .before .before .before .mark-states .kept .1 .1 .1 .0)) (f .room) }
-
 returns-2 : tie.Need-returns-2
-returns-2 c =
-    let a = c .before .before .before .before .before .before .before .before .before .before .before .before .before .args in
-    mark-done (a .u) (a .records .now) (a .durations .now) (a .flags .now) (opened (c .before .before .before .before .before .before .before)) _ _ _ (c .before .before .before .before .before .before .frames-in .ensures) (c .before .before .before .before .mark-states .ensures) (c .count-voiced .ensures)
+returns-2 c = let e = c .before .before .before .before .before .before .before in let a = entry e .args in mark-done (a .u) (a .records .now) (a .durations .now) (a .flags .now) (opened e) _ _ _ (c .before .before .before .before .before .before .frames-in .ensures) (c .before .before .before .before .mark-states .ensures) (c .count-voiced .ensures)
 
 pub mark-spec : {M : Type 1} → statement M
 mark-spec =
@@ -45,6 +44,6 @@ mark-spec =
     room
     (λ c. sym (length-take-le _ _ (room (c .before))))
     (λ c κs. (fits (c .before .before) .1, sym (c .before .frames-in .ensures) ∙ sym (length-take-le _ _ (room (c .before)))))
-    count-voiced-requires
+    (λ c κs. let f = fits (c .before .before .before .before .before .before) .0 in record { few = f .few; frames = f .frames; room = rw (length-front _ _ _ (c .before .before .before .mark-states .kept .1 .1 .1 .0)) (f .room) })
     (λ c. search needs)
     returns-2)

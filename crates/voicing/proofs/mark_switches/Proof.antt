@@ -13,23 +13,23 @@ use Rattle.voicing.proofs.mark_switches.Statement.{statement}
 use Rattle.voicing.proofs.mark_switches.Tie as tie
 
 module _ (c : tie.Else1) where
-  opened : flagged (c .before .before .before .before .before .args .durations .now) (length (c .before .before .before .before .before .args .flags .now)) ≡ true
+  abbrev entry : tie.Start
+  entry = c .before .before .before .before .before
+
+  opened : flagged (entry .args .durations .now) (length (entry .args .flags .now)) ≡ true
   opened = sym (c .before .flagged .ensures) ∙ not-false _ (c .if1 .left)
 
-  fits : Flagged (c .before .before .before .before .before .args .durations .now) (length (c .before .before .before .before .before .args .flags .now))
+  fits : Flagged (entry .args .durations .now) (length (entry .args .flags .now))
   fits = flagged-is _ _ opened
 
-add-end : tie.Need-add-end
-add-end c = omega (arith, c .count-voiced .ensures, c .before .before .frames-in .ensures, fits (c .before .before .before) .frames, mask-voiced (c .before .before .before .before .before .before .before .before .args .durations .now) (c .before .before .before .before .before .before .before .before .args .flags .now))
-
 returns-2 : tie.Need-returns-2
-returns-2 c = switches-uneven _ (c .before .before .before .before .before .before .before .before .before .args .switches .now) _ (opened (c .before .before .before .before)) _ _ (c .before .before .before .frames-in .ensures) (c .before .count-voiced .ensures) (not-true _ (c .if2 .taken))
+returns-2 c = let e = c .before .before .before .before in switches-uneven _ (entry e .args .switches .now) _ (opened e) _ _ (c .before .before .before .frames-in .ensures) (c .before .count-voiced .ensures) (not-true _ (c .if2 .taken))
 
 put-switches-requires : tie.Need-put-switches-requires
-put-switches-requires c κs = (switches-fit _ (c .before .before .before .before .before .before .before .before .before .before .args .switches .now) _ (opened (c .before .before .before .before .before)) _ _ (c .before .before .before .before .frames-in .ensures) (c .before .before .count-voiced .ensures) (not-false _ (c .before .if2 .left)), c .before .before .before .before .frames-in .ensures)
+put-switches-requires c κs = let e = c .before .before .before .before .before in (switches-fit _ (entry e .args .switches .now) _ (opened e) _ _ (c .before .before .before .before .frames-in .ensures) (c .before .before .count-voiced .ensures) (not-false _ (c .before .if2 .left)), c .before .before .before .before .frames-in .ensures)
 
 returns-3 : tie.Need-returns-3
-returns-3 c = switches-done _ (c .before .before .before .before .before .before .before .before .before .before .before .before .before .args .switches .now) _ (opened (c .before .before .before .before .before .before .before .before)) _ _ (c .before .before .before .before .before .before .before .frames-in .ensures) (c .before .before .before .before .before .count-voiced .ensures) (not-false _ (c .before .before .before .before .if2 .left)) _ (c .before .before .put-switches .ensures)
+returns-3 c = let e = c .before .before .before .before .before .before .before .before in switches-done _ (entry e .args .switches .now) _ (opened e) _ _ (c .before .before .before .before .before .before .before .frames-in .ensures) (c .before .before .before .before .before .count-voiced .ensures) (not-false _ (c .before .before .before .before .if2 .left)) _ (c .before .before .put-switches .ensures)
 
 pub mark-switches-spec : {M : Type 1} → statement M
 mark-switches-spec =
@@ -39,7 +39,7 @@ mark-switches-spec =
     (λ c. switches-shut _ (c .before .before .before .before .before .args .switches .now) _ (sym (c .before .flagged .ensures) ∙ not-true _ (c .if1 .taken)))
     (λ c κs. fits c .few)
     (λ c κs. fits (c .before .before))
-    add-end
+    (λ c. let a = entry (c .before .before .before) .args in omega (arith, c .count-voiced .ensures, c .before .before .frames-in .ensures, fits (c .before .before .before) .frames, mask-voiced (a .durations .now) (a .flags .now)))
     (λ c. search needs)
     returns-2
     put-switches-requires

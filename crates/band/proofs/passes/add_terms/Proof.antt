@@ -51,8 +51,8 @@ add-columns-requires c κs =
 
 returns : tie.Need-returns Inv-loop μ-loop
 returns c =
-    let s = c .before .before .before .before .before .before .before .before .before .before .before in
-    let l = c .before .before .before .before .before .loop in
+    let t = c .before .before .before .before .before in let l = t .loop in
+    let s = t .before .before .before .before .before .before in
     let e : l .t ≡ s .args .b .to - s .args .b .from = omega (arith, c .before .before .before .before .loop-test .left, l .inv .0) in
     terms-done (s .args .taps .now) (s .args .u) (s .args .mean) (s .args .b) (s .args .m .now) (s .pre .2) (s .pre .1) (l .m) _
     (side-done (s .args .taps .now) (s .args .u) (s .args .mean) (s .args .b) (s .args .m .now) (s .pre .2) (s .pre .1) (l .m) (rw e at (l .inv .2))) (c .before .before .add-columns .ensures)

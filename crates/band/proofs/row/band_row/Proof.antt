@@ -19,70 +19,48 @@ Inv-loop widths coefficients ivars means n t row₀ w right₀ i₀ o₀ b₀ ro
 abbrev μ-loop : tie.MeasureT-loop
 μ-loop widths coefficients ivars means n t row₀ w right₀ i₀ o₀ b₀ row right i o b = length widths - i
 
-fill-f64-requires : tie.Need-fill-f64-requires Inv-loop μ-loop
-fill-f64-requires c κs = search needs
-
 loop-holds : tie.Need-loop-holds Inv-loop μ-loop
 unfolding total
 loop-holds c = let s = c .before .before .before .before .before .before .before .before .before .args in (search needs, refl, sym (zero-mul _), search needs, rw (c .before .before .fill-f64 .ensures) (windowed-none (s .widths .now) (s .coefficients .now) (s .n) (s .ivars .now) (s .means .now) (s .t) (length (s .row .now)) (s .row .now) refl))
 
-mul-wide : tie.Need-mul-wide Inv-loop μ-loop
-mul-wide c = search needs
+abbrev entry : tie.At-loop Inv-loop μ-loop → tie.Start Inv-loop μ-loop
+entry c = c .before .before .before .before .before .before .before .before .before .before
 
-shared-slice-read-wide : tie.Need-shared-slice-read-wide Inv-loop μ-loop
-shared-slice-read-wide c = search needs
+module _ (c : tie.After-wide Inv-loop μ-loop) where
+  abbrev turn : tie.At-loop Inv-loop μ-loop
+  turn = c .before .before .before
 
-wide-requires : tie.Need-wide-requires Inv-loop μ-loop
-wide-requires c κs = search needs
+  -- window i's taps and pairs lie within the lists
+  taps : turn .loop .o + c .wide .result ≤ length (entry turn .args .coefficients .now)
+  taps = omega (arith, c .wide .ensures, turn .loop .inv .1, taps-in (entry turn .args .widths .now) (entry turn .args .coefficients .now) _ (entry turn .pre .1 .set) (turn .loop .i) (omega arith))
 
-part-at-requires : tie.Need-part-at-requires Inv-loop μ-loop
-part-at-requires c κs = let s = c .before .before .before .before .before .before .before .before .before .before .before .before .before .args in
-    omega (arith, taps-in (s .widths .now) (s .coefficients .now) _ (c .before .before .before .before .before .before .before .before .before .before .before .before .before .pre .1 .set) (c .before .before .before .loop .i) (omega arith))
+  ivars : turn .loop .b + entry turn .args .n ≤ length (entry turn .args .ivars .now)
+  ivars = omega (arith, turn .loop .inv .2, ivars-fit (entry turn .args .widths .now) (entry turn .args .coefficients .now) (entry turn .args .n) (entry turn .args .ivars .now) (entry turn .args .means .now) _ (entry turn .pre .1) (turn .loop .i) (omega arith))
 
-part-at-requires-2 : tie.Need-part-at-requires-2 Inv-loop μ-loop
-part-at-requires-2 c κs = let s = c .before .before .before .before .before .before .before .before .before .before .before .before .before .before .args in
-    omega (arith, ivars-fit (s .widths .now) (s .coefficients .now) (s .n) (s .ivars .now) (s .means .now) _ (c .before .before .before .before .before .before .before .before .before .before .before .before .before .before .pre .1) (c .before .before .before .before .loop .i) (omega arith))
-
-part-at-requires-3 : tie.Need-part-at-requires-3 Inv-loop μ-loop
-part-at-requires-3 c κs = let s = c .before .before .before .before .before .before .before .before .before .before .before .before .before .before .before .args in
-    omega (arith, means-fit (s .widths .now) (s .coefficients .now) (s .n) (s .ivars .now) (s .means .now) _ (c .before .before .before .before .before .before .before .before .before .before .before .before .before .before .before .pre .1) (c .before .before .before .before .before .loop .i) (omega arith))
+  means : turn .loop .b + entry turn .args .n ≤ length (entry turn .args .means .now)
+  means = omega (arith, turn .loop .inv .2, means-fit (entry turn .args .widths .now) (entry turn .args .coefficients .now) (entry turn .args .n) (entry turn .args .ivars .now) (entry turn .args .means .now) _ (entry turn .pre .1) (turn .loop .i) (omega arith))
 
 add-window-requires : tie.Need-add-window-requires Inv-loop μ-loop
-add-window-requires c κs = let k = c .before .before .before .before .before .before .before .before .before .before .before .before .before .before .before .before .before .pre .1 in
-    let i = c .before .before .before .before .before .before .before .loop .i in omega (arith, c .before .before .before .before .before .before .before .before .before .before .before .before .before .before .before .before .before .pre .0, k .set .narrow i (omega arith))
-
-add-o : tie.Need-add-o Inv-loop μ-loop
-add-o c = let s = c .before .before .before .before .before .before .before .before .before .before .before .before .before .before .before .before .before .before .before .before .args in
-    omega (arith, c .before .before .before .before .before .before .before .before .before .before .before .before .before .before .before .before .before .before .before .before .good, c .before .before .before .before .before .before .before .before .before .before .loop .inv, c .before .before .before .before .before .before .before .wide .ensures, taps-in (s .widths .now) (s .coefficients .now) _ (c .before .before .before .before .before .before .before .before .before .before .before .before .before .before .before .before .before .before .before .before .pre .1 .set) (c .before .before .before .before .before .before .before .before .before .before .loop .i) (omega arith))
-
-add-b : tie.Need-add-b Inv-loop μ-loop
-add-b c = let s = c .before .before .before .before .before .before .before .before .before .before .before .before .before .before .before .before .before .before .before .before .args in
-    omega (arith, c .before .before .before .before .before .before .before .before .before .before .before .before .before .before .before .before .before .before .before .before .good, c .before .before .before .before .before .before .before .before .before .before .loop .inv, ivars-fit (s .widths .now) (s .coefficients .now) (s .n) (s .ivars .now) (s .means .now) _ (c .before .before .before .before .before .before .before .before .before .before .before .before .before .before .before .before .before .before .before .before .pre .1) (c .before .before .before .before .before .before .before .before .before .before .loop .i) (omega arith))
-
-add-i : tie.Need-add-i Inv-loop μ-loop
-add-i c = search needs
-
-loop-less : tie.Need-loop-less Inv-loop μ-loop
-loop-less c = search needs
+add-window-requires c κs = let q = c .before .before .before .before in omega (arith, entry (turn q) .pre .0, entry (turn q) .pre .1 .set .narrow (turn q .loop .i) (omega arith))
 
 loop-again : tie.Need-loop-again Inv-loop μ-loop
-loop-again c = let s = c .before .before .before .before .before .before .before .before .before .before .before .before .before .before .before .before .before .before .before .before .args in
-    let l = c .before .before .before .before .before .before .before .before .before .before .loop in
+loop-again c =
+    let q = c .before .before .before .before .before .before .before in
+    let s = entry (turn q) .args in
+    let l = turn q .loop in
     let e = c .before .before .add-window .ensures in (
       search needs,
       omega (arith, total-more (s .widths .now) (l .i) (omega arith)),
       rw add-one (rw suc-mul (cc)),
       search needs,
       windowed-next (s .widths .now) (s .coefficients .now) (s .n) (s .ivars .now) (s .means .now) (s .t) (length (s .row .now)) (l .i) _ (l .o) (l .b) _ _ _ (l .row) _ (l .right) _ (l .inv .4) (l .inv .1) (l .inv .2)
-          (c .before .before .before .before .before .before .before .wide .ensures) (c .before .before .before .before .before .before .part-at .ensures .0) (c .before .before .before .before .before .part-at2 .ensures .0) (c .before .before .before .before .part-at3 .ensures .0) (c .before .before .before .before .before .part-at2 .ensures .1) (e .0) (e .1),
+          (q .wide .ensures) (c .before .before .before .before .before .before .part-at .ensures .0) (c .before .before .before .before .before .part-at2 .ensures .0) (c .before .before .before .before .part-at3 .ensures .0) (c .before .before .before .before .before .part-at2 .ensures .1) (e .0) (e .1),
     )
 
-same-length : tie.Need-same-length Inv-loop μ-loop
-same-length c = search needs
-
 returns : tie.Need-returns Inv-loop μ-loop
-returns c = let s = c .before .before .before .before .before .before .before .before .before .before .before .args in
+returns c =
     let l = c .before .loop in
+    let s = entry (c .before) .args in
     let e : l .i ≡ length (s .widths .now) = omega arith in windowed-all (s .widths .now) (s .coefficients .now) (s .n) (s .ivars .now) (s .means .now) (s .t) (length (s .row .now)) (l .row) (l .right) (rw e at (l .inv .4))
 
 pub band-row-spec : {M : Type 1} → statement M
@@ -91,19 +69,19 @@ band-row-spec =
     (tie.spec
     Inv-loop
     μ-loop
-    fill-f64-requires
+    (λ c κs. search needs)
     loop-holds
-    mul-wide
-    shared-slice-read-wide
-    wide-requires
-    part-at-requires
-    part-at-requires-2
-    part-at-requires-3
+    (λ c. search needs)
+    (λ c. search needs)
+    (λ c κs. search needs)
+    (λ c κs. taps c)
+    (λ c κs. ivars (c .before))
+    (λ c κs. means (c .before .before))
     add-window-requires
-    add-o
-    add-b
-    add-i
-    loop-less
+    (λ c. omega (arith, entry (turn (c .before .before .before .before .before .before .before)) .good, taps (c .before .before .before .before .before .before .before)))
+    (λ c. omega (arith, entry (turn (c .before .before .before .before .before .before .before)) .good, ivars (c .before .before .before .before .before .before .before)))
+    (λ c. search needs)
+    (λ c. search needs)
     loop-again
-    same-length
+    (λ c. search needs)
     returns)

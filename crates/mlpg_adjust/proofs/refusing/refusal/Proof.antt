@@ -8,20 +8,11 @@ use borrow.Author.Needs.{needs}
 use Rattle.mlpg_adjust.proofs.refusing.refusal.Statement.{statement}
 use Rattle.mlpg_adjust.proofs.refusing.refusal.Tie as tie
 
-widths-fit-requires : tie.Need-widths-fit-requires
-widths-fit-requires c κs = search needs
-
 returns : tie.Need-returns
 returns c = refused-1 _ _ _ _ _ _ (c .before .widths-fit .ensures) (c .if1 .taken)
 
-all-finite-requires : tie.Need-all-finite-requires
-all-finite-requires c κs = search needs
-
 returns-2 : tie.Need-returns-2
 returns-2 c = refused-2 _ _ _ _ _ _ (c .before .before .before .widths-fit .ensures) (c .before .before .if1 .left) _ (c .before .all-finite .ensures) (c .if2 .taken)
-
-is-out-of-range-requires : tie.Need-is-out-of-range-requires
-is-out-of-range-requires c κs = search needs
 
 returns-3 : tie.Need-returns-3
 returns-3 c = refused-3 _ _ _ _ _ _ (c .before .before .before .before .before .widths-fit .ensures) (c .before .before .before .before .if1 .left) _ (c .before .before .before .all-finite .ensures) (c .before .before .if2 .left) _ (c .before .is-out-of-range .ensures) (c .if3 .taken)
@@ -33,9 +24,6 @@ lists-disagree-requires c κs =
 
 returns-4 : tie.Need-returns-4
 returns-4 c = refused-4 _ _ _ _ _ _ (c .before .before .before .before .before .before .before .widths-fit .ensures) (c .before .before .before .before .before .before .if1 .left) _ (c .before .before .before .before .before .all-finite .ensures) (c .before .before .before .before .if2 .left) _ (c .before .before .before .is-out-of-range .ensures) (c .before .before .if3 .left) _ (c .before .lists-disagree .ensures) (c .if4 .taken)
-
-total-u32-requires : tie.Need-total-u32-requires
-total-u32-requires c κs = search needs
 
 returns-5 : tie.Need-returns-5
 returns-5 c = refused-5 _ _ _ _ _ _ (c .before .before .before .before .before .before .before .before .before .widths-fit .ensures) (c .before .before .before .before .before .before .before .before .if1 .left) _ (c .before .before .before .before .before .before .before .all-finite .ensures) (c .before .before .before .before .before .before .if2 .left) _ (c .before .before .before .before .before .is-out-of-range .ensures) (c .before .before .before .before .if3 .left) _ (c .before .before .before .lists-disagree .ensures) (c .before .before .if4 .left) _ (c .before .total-u32 .ensures) (c .if5 .taken)
@@ -53,15 +41,15 @@ pub refusal-spec : {M : Type 1} → statement M
 refusal-spec =
     tie.close
     (tie.spec
-    widths-fit-requires
+    (λ c κs. search needs)
     returns
-    all-finite-requires
+    (λ c κs. search needs)
     returns-2
-    is-out-of-range-requires
+    (λ c κs. search needs)
     returns-3
     lists-disagree-requires
     returns-4
-    total-u32-requires
+    (λ c κs. search needs)
     returns-5
     is-short-requires
     returns-6

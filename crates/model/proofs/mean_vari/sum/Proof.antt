@@ -22,10 +22,10 @@ loop-holds c = (omega arith, rw (c .zero .ensures))
 
 loop-again : tie.Need-loop-again Inv-loop μ-loop
 loop-again c =
-    let l = c .before .before .before .before .before .loop in
-    let a = c .before .before .before .before .before .before .before .before .before .before .args in
-    let n = c .before .before .before .before .before .before .before .least .ensures in
-    (omega arith, rw (c .add .ensures, c .before .new .ensures) (sum-next (a .means .now) (a .varis .now) _ (l .i) n (l .total) (c .before .before .before .before .loop-test .taken) (l .inv .1)))
+    let t = c .before .before .before .before .before in
+    let l = t .loop in
+    let a = t .before .before .before .before .before .args in
+    (omega arith, rw (c .add .ensures, c .before .new .ensures) (sum-next (a .means .now) (a .varis .now) _ (l .i) (t .before .before .least .ensures) (l .total) (c .before .before .before .before .loop-test .taken) (l .inv .1)))
 
 returns : tie.Need-returns Inv-loop μ-loop
 returns c =

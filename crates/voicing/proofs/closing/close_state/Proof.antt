@@ -22,26 +22,27 @@ abbrev μ-loop : tie.MeasureT-loop
 
 -- window i's numbers are in the state's record, and there is room for them
 module _ (c : tie.In-loop Inv-loop μ-loop) where
-  reads : c .before .loop .from + c .before .before .before .before .before .args .p .half + c .before .before .before .before .before .args .p .lanes ≤ length (c .before .before .before .before .before .args .records .now)
-  reads = omega (arith, c .before .loop .inv .1, window-read (c .before .before .before .before .before .pre) (c .before .loop .i) (c .loop-test .taken))
+  abbrev entry : tie.Start Inv-loop μ-loop
+  entry = c .before .before .before .before .before
 
-  next : c .before .loop .at + c .before .before .before .before .before .args .p .n ≤ c .before .before .before .before .before .args .p .size
-  next = omega (arith, c .before .loop .inv .2, means-room (c .before .before .before .before .before .pre) (c .before .loop .i) (c .loop-test .taken))
+  reads : c .before .loop .from + entry .args .p .half + entry .args .p .lanes ≤ length (entry .args .records .now)
+  reads = omega (arith, c .before .loop .inv .1, window-read (entry .pre) (c .before .loop .i) (c .loop-test .taken))
 
-  ivars : c .before .before .before .before .before .args .p .ivars + c .before .loop .at + c .before .before .before .before .before .args .t .d ≤ c .before .before .before .before .before .args .p .size
-  ivars = omega (arith, c .before .loop .inv .2, ivars-room (c .before .before .before .before .before .pre) (c .before .loop .i) (c .loop-test .taken))
+  next : c .before .loop .at + entry .args .p .n ≤ entry .args .p .size
+  next = omega (arith, c .before .loop .inv .2, means-room (entry .pre) (c .before .loop .i) (c .loop-test .taken))
 
 loop-holds : tie.Need-loop-holds Inv-loop μ-loop
 unfolding putPairs
 loop-holds c = (search needs, rw zero-mul (omega arith), rw zero-mul (omega arith), stepped-same _ _ (λ l h. refl))
 
 close-window-requires : tie.Need-close-window-requires Inv-loop μ-loop
-close-window-requires c κs = let s = c .before .before .before .before .before .before .before .before .before .pre in (reads (c .before .before .before .before), omega (arith, next (c .before .before .before .before), s .voiced), ivars (c .before .before .before .before), omega (arith, c .before .before .before .before .before .loop .inv .3 .long, s .room))
+close-window-requires c κs =
+    let i = c .before .before .before .before in let s = entry i .pre in let l = i .before .loop in
+    (reads i, omega (arith, next i, s .voiced), omega (arith, l .inv .2, ivars-room s (l .i) (i .loop-test .taken)), omega (arith, l .inv .3 .long, s .room))
 
 loop-again : tie.Need-loop-again Inv-loop μ-loop
 loop-again c =
-    let s = c .before .before .before .before .before .before .before .before .before .before .before .before .before .before .args in
-    let o = c .before .before .before .before .before .before .before .before .before .before .loop in
+    let n = c .before .before .before .before .before .before .before .before .before in let s = entry n .args in let o = n .before .loop in
     let r = c .before .before .before .before .before .before .before .before .reach-of .ensures in (
       search needs,
       rw (add-one, suc-mul) (omega (arith, o .inv .1)),
@@ -49,9 +50,6 @@ loop-again c =
       stepped-then (λ l old new. new ≡ putPairs (s .records .now) (s .p) (s .mean) (s .widths .now) (s .t) l (o .i + 1) old) (o .inv .3) (c .before .before .before .before .close-window .ensures)
           (λ l h a b. b ∙ rw a (put-next (s .records .now) (s .p) (s .mean) (s .widths .now) (s .t) l (o .i) _ (o .inv .1) (o .inv .2) (c .before .before .before .before .before .before .before .overreach .ensures ∙ rw (r .0)) (c .before .before .before .before .before .before .overreach2 .ensures ∙ rw (r .1)))),
     )
-
-returns : tie.Need-returns Inv-loop μ-loop
-returns c = let e : c .before .loop .i ≡ length (c .before .before .before .before .before .args .widths .now) = omega (arith, c .before .loop .inv .0, c .loop-test .left) in rw e at (c .before .loop .inv .3)
 
 pub close-state-spec : {M : Type 1} → statement M
 close-state-spec =
@@ -64,10 +62,10 @@ close-state-spec =
     (λ c κs. search needs)
     (λ c κs. search needs)
     close-window-requires
-    (λ c. omega (arith, reads (c .before .before .before .before .before .before .before .before), c .before .before .before .before .before .before .before .before .before .before .before .before .before .pre .most-v, c .before .before .before .before .before .before .before .before .before .before .before .before .before .good))
-    (λ c. omega (arith, next (c .before .before .before .before .before .before .before .before .before), c .before .before .before .before .before .before .before .before .before .before .before .before .before .before .good))
-    (λ c. omega (arith, c .before .before .before .before .before .before .before .before .before .loop-test .taken, c .before .before .before .before .before .before .before .before .before .before .before .before .before .before .good))
+    (λ c. let i = c .before .before .before .before .before .before .before .before in omega (arith, reads i, entry i .pre .most-v, entry i .good))
+    (λ c. omega (arith, next (c .before .before .before .before .before .before .before .before .before), entry (c .before .before .before .before .before .before .before .before .before) .good))
+    (λ c. omega (arith, c .before .before .before .before .before .before .before .before .before .loop-test .taken, entry (c .before .before .before .before .before .before .before .before .before) .good))
     (λ c. search needs)
     loop-again
     (λ c. c .before .loop .inv .3 .long)
-    returns)
+    (λ c. let e : c .before .loop .i ≡ length (c .before .before .before .before .before .args .widths .now) = omega (arith, c .before .loop .inv .0, c .loop-test .left) in rw e at (c .before .loop .inv .3)))

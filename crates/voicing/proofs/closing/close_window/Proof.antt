@@ -24,33 +24,33 @@ abbrev μ-loop : tie.MeasureT-loop
 μ-loop records mean place e work₀ size lanes vari ivars l₀ from₀ work l from = lanes - l
 
 module _ (c : tie.In-loop Inv-loop μ-loop) where
-  room : c .before .before .before .before .before .before .args .p .lanes * c .before .before .before .before .before .before .args .p .size ≤ length (c .before .loop .work)
-  room = omega (arith, c .before .before .before .before .before .before .pre .3, c .before .loop .inv .2 .long)
+  abbrev entry : tie.Start Inv-loop μ-loop
+  entry = c .before .before .before .before .before .before
+
+  room : entry .args .p .lanes * entry .args .p .size ≤ length (c .before .loop .work)
+  room = omega (arith, entry .pre .3, c .before .loop .inv .2 .long)
 
   -- the region lies within the list
-  fits : c .before .loop .from + c .before .before .before .before .before .before .args .p .size ≤ length (c .before .loop .work)
-  fits = let p = c .before .before .before .before .before .before .args .p in omega (arith, c .before .loop .inv .1, region-fits (p .size) (p .lanes) (c .before .loop .l) (c .before .loop .work) (c .loop-test .taken) room)
+  fits : c .before .loop .from + entry .args .p .size ≤ length (c .before .loop .work)
+  fits = omega (arith, c .before .loop .inv .1, region-fits (entry .args .p .size) (entry .args .p .lanes) (c .before .loop .l) (c .before .loop .work) (c .loop-test .taken) room)
 
 put-pair-requires : tie.Need-put-pair-requires Inv-loop μ-loop
 put-pair-requires c κs =
-    let s = c .before .before .before .before .before .before .before .before .before .before in
+    let s = entry (c .before .before .before .before) in
     let l = c .before .before .before .before .before .loop in
     let n : length (midOf (l .from) (l .from + s .args .p .size - l .from) (l .work)) ≡ s .args .p .size = part-length (l .work) (l .from) (s .args .p .size) (fits (c .before .before .before .before)) in
     (rw n (s .pre .1), rw n (s .pre .2))
 
 loop-again : tie.Need-loop-again Inv-loop μ-loop
 loop-again c =
-    let s = c .before .before .before .before .before .before .before .before .before .before .before .before .before .args in
-    let l = c .before .before .before .before .before .before .before .before .loop in (
+    let i = c .before .before .before .before .before .before .before in
+    let s = entry i .args in
+    let l = i .before .loop in (
       search needs,
       rw (add-one, suc-mul) (omega (arith, l .inv .1)),
-      stepped-lent _ (s .p .size) (s .p .lanes) (s .work .now) (l .l) (l .from) (l .work) (c .before .before .put-pair .last .1 .1 .1 .1 .0) (c .before .before .before .before .before .before .before .loop-test .taken) (room (c .before .before .before .before .before .before .before)) (l .inv .2) (l .inv .1) (c .before .before .put-pair .kept .1 .1 .1 .1 .0)
-          (c .before .before .put-pair .ensures
-          ∙ ap (λ (x : MeanVari). putPair (s .e) (s .at) (s .p .ivars + s .at) (x .0) (x .1) (midOf (l .from) (l .from + s .p .size - l .from) (l .work))) (c .before .before .before .before .with-ivar .ensures)),
+      stepped-lent _ (s .p .size) (s .p .lanes) (s .work .now) (l .l) (l .from) (l .work) (c .before .before .put-pair .last .1 .1 .1 .1 .0) (i .loop-test .taken) (room i) (l .inv .2) (l .inv .1) (c .before .before .put-pair .kept .1 .1 .1 .1 .0)
+          (c .before .before .put-pair .ensures ∙ ap (λ (x : MeanVari). putPair (s .e) (s .at) (s .p .ivars + s .at) (x .0) (x .1) (midOf (l .from) (l .from + s .p .size - l .from) (l .work))) (c .before .before .before .before .with-ivar .ensures)),
     )
-
-returns : tie.Need-returns Inv-loop μ-loop
-returns c = let e : c .before .loop .l ≡ c .before .before .before .before .before .before .args .p .lanes = omega (arith, c .before .loop .inv .0, c .loop-test .left) in rw e at (c .before .loop .inv .2)
 
 pub close-window-spec : {M : Type 1} → statement M
 close-window-spec =
@@ -78,4 +78,4 @@ close-window-spec =
     (λ c. search needs)
     loop-again
     (λ c. c .before .loop .inv .2 .long)
-    returns)
+    (λ c. let e : c .before .loop .l ≡ c .before .before .before .before .before .before .args .p .lanes = omega (arith, c .before .loop .inv .0, c .loop-test .left) in rw e at (c .before .loop .inv .2)))

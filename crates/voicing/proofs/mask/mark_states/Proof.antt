@@ -18,33 +18,28 @@ Inv-loop records u durations out₀ s₀ f₀ out s f = Expanding durations (sta
 abbrev μ-loop : tie.MeasureT-loop
 μ-loop records u durations out₀ s₀ f₀ out s f = length durations - s
 
-loop-holds : tie.Need-loop-holds Inv-loop μ-loop
-loop-holds c = expanding _ _ _ (c .before .before .before .pre .1)
-
 add-e : tie.Need-add-e Inv-loop μ-loop
 add-e c = omega (arith, c .wide .ensures, expanding-room _ _ _ _ _ _ (c .before .before .before .loop .inv) (c .before .before .loop-test .taken))
 
 voiced-at-requires : tie.Need-voiced-at-requires Inv-loop μ-loop
-voiced-at-requires c κs = omega (arith, c .before .before .before .before .before .before .before .pre .0, row-fits (c .before .before .before .before .before .before .before .args .u .size) (c .before .before .before .loop .s) (length (c .before .before .before .before .before .before .before .args .durations .now)) (c .before .before .loop-test .taken))
+voiced-at-requires c κs = let s = c .before .before .before .before .before .before .before in omega (arith, s .pre .0, row-fits (s .args .u .size) (c .before .before .before .loop .s) (length (s .args .durations .now)) (c .before .before .loop-test .taken))
 
 part-fill-u32-end : tie.Need-part-fill-u32-end Inv-loop μ-loop
 part-fill-u32-end c = omega (arith, c .before .before .wide .ensures, expanding-room _ _ _ _ _ _ (c .before .before .before .before .before .loop .inv) (c .before .before .before .before .loop-test .taken))
 
 loop-again : tie.Need-loop-again Inv-loop μ-loop
 loop-again c =
-    let s = c .before .before .before .before .before .before .before .before .before .before .before .before .before .args in
+    let l = c .before .before .before .before .before .before .before .before .before in
+    let s = l .before .before .before .before .args in
     let t = c .before .before .before .before .before .before .before .before .loop-test .taken in
     let ws = weightsOf (s .u .size) (s .records .now) (length (s .durations .now)) in
     let n = weights-length (s .u .size) (s .records .now) (length (s .durations .now)) in
-    let w = weights-at (s .u .size) (s .records .now) (length (s .durations .now)) (c .before .before .before .before .before .before .before .before .before .loop .s) t in
-    expanding-next _ _ _ _ _ _ (c .before .before .before .before .before .before .before .before .before .loop .inv) _ _ _ _ t
+    let w = weights-at (s .u .size) (s .records .now) (length (s .durations .now)) (l .loop .s) t in
+    expanding-next _ _ _ _ _ _ (l .loop .inv) _ _ _ _ t
     (flags-long (s .u .threshold) ws ∙ n)
     (c .before .before .before .before .before .before .wide .ensures)
-    (c .before .before .before .before .flag-of .ensures ∙ ap flag (c .before .before .before .before .before .voiced-at .ensures) ∙ sym (flag-at (s .u .threshold) ws (c .before .before .before .before .before .before .before .before .before .loop .s) ∙ rw w))
+    (c .before .before .before .before .flag-of .ensures ∙ ap flag (c .before .before .before .before .before .voiced-at .ensures) ∙ sym (flag-at (s .u .threshold) ws (l .loop .s) ∙ rw w))
     (c .before .before .fill-u32 .ensures)
-
-same-length : tie.Need-same-length Inv-loop μ-loop
-same-length c = c .before .loop .inv .long
 
 returns : tie.Need-returns Inv-loop μ-loop
 returns c = expanded _ _ _ _ _ _ (c .before .loop .inv) (c .loop-test .left) ∙ mask-flags _ _ _
@@ -55,7 +50,7 @@ mark-states-spec =
     (tie.spec
     Inv-loop
     μ-loop
-    loop-holds
+    (λ c. expanding _ _ _ (c .before .before .before .pre .1))
     (λ c. search needs)
     (λ c. search needs)
     (λ c κs. search needs)
@@ -70,5 +65,5 @@ mark-states-spec =
     (λ c. search needs)
     (λ c. search needs)
     loop-again
-    same-length
+    (λ c. c .before .loop .inv .long)
     returns)

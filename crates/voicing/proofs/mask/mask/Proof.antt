@@ -11,25 +11,21 @@ use borrow.Author.Needs.{needs}
 use Rattle.voicing.proofs.mask.mask.Statement.{statement}
 use Rattle.voicing.proofs.mask.mask.Tie as tie
 
--- nothing of 3, 4 and 5 is given
-ok : (c : tie.After-known-told) → (framesRefusal (length (c .before .before .before .before .before .before .before .args .weights .now)) (c .before .before .before .before .before .before .before .args .durations .now) ≡ 0)
-    × (total (c .before .before .before .before .before .before .before .args .durations .now) ≡ c .before .framed .given .0 .0)
-ok c = passed _ _ _ (sym (c .before .before .before .frames-of .ensures) ∙ c .before .framed .given .1)
+abbrev entry : tie.After-known-told → tie.Start
+entry c = c .before .before .before .before .before .before .before
 
-enum-told : tie.Need-enum-told
-enum-told c = search needs
+-- nothing of 3, 4 and 5 is given
+ok : (c : tie.After-known-told) → let a = entry c .args in (framesRefusal (length (a .weights .now)) (a .durations .now) ≡ 0) × (total (a .durations .now) ≡ c .before .framed .given .0 .0)
+ok c = passed _ _ _ (sym (c .before .before .before .frames-of .ensures) ∙ c .before .framed .given .1)
 
 returns : tie.Need-returns
 returns c = let s = c .before .before .before .before .before .before .args in mask-stops (s .weights .now) (s .threshold) (s .durations .now) (s .voiced .now) _ _ (c .before .before .frames-of .ensures) (c .enum-told .given .1)
 
 returns-2 : tie.Need-returns-2
 returns-2 c =
-    let s = c .before .before .before .before .before .before .before .before .before .args in
+    let s = entry (c .before .before) .args in
     let k = ok (c .before .before) in
     mask-6 (s .weights .now) (s .threshold) (s .durations .now) (s .voiced .now) (k .0) (omega (arith, k .1, c .before .wide .ensures, c .if1 .taken))
-
-slice-aggregate-mark-frames : tie.Need-slice-aggregate-mark-frames
-slice-aggregate-mark-frames c = sym (length-take-le _ _ (c .before .if1 .left))
 
 mark-frames-requires : tie.Need-mark-frames-requires
 mark-frames-requires c κs =
@@ -38,7 +34,7 @@ mark-frames-requires c κs =
 
 returns-3 : tie.Need-returns-3
 returns-3 c =
-    let s = c .before .before .before .before .before .before .before .before .before .before .before .before .before .args in
+    let s = entry (c .before .before .before .before .before .before) .args in
     let k = ok (c .before .before .before .before .before .before) in
     mask-done (s .weights .now) (s .threshold) (s .durations .now) (s .voiced .now) (k .0) _ _ _ (k .1) (c .before .before .before .before .before .wide .ensures) (c .before .before .before .before .if1 .left) (c .before .before .mark-frames .ensures)
 
@@ -48,12 +44,12 @@ mask-spec =
     (tie.spec
     (λ c κs. search needs)
     (λ c. search needs)
-    enum-told
+    (λ c. search needs)
     returns
     (λ c κs. search needs)
     returns-2
     (λ c. search needs)
-    slice-aggregate-mark-frames
+    (λ c. sym (length-take-le _ _ (c .before .if1 .left)))
     mark-frames-requires
     (λ c. search needs)
     returns-3)

@@ -14,7 +14,7 @@ slice-aggregate-add-scaled-2 : tie.Need-slice-aggregate-add-scaled-2
 slice-aggregate-add-scaled-2 c = let rhs = c .before .before .before .before .args .rhs .now in sym (length-take-le _ rhs (omega arith))
 
 returns : tie.Need-returns
-returns c = mul-add-done _ _ _ _ _ _ (c .before .before .before .before .before .before .before .before .before .before .before .before .add-scaled .ensures) (c .before .before .before .before .before .before .before .add-scaled2 .ensures) (c .before .before .add-scaled3 .ensures)
+returns c = let a = c .before .before .before .before .before .before .before in mul-add-done _ _ _ _ _ _ (a .before .before .before .before .before .add-scaled .ensures) (a .add-scaled2 .ensures) (c .before .before .add-scaled3 .ensures)
 
 pub mul-add-assign-spec : {M : Type 1} → statement M
 mul-add-assign-spec =
