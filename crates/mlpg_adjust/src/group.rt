@@ -98,16 +98,7 @@ fn render_group(
     ensures { λ _. ⌜ (Columned (columnOf (p .stream) (now (widths .entry)) (now (coefficients .entry)) (now (records .entry)) (now (durations .entry)) (now (marks .entry)) (now (gv .entry))) (c .v) (c .first) (now (out .entry))
         → Columned (columnOf (p .stream) (now (widths .entry)) (now (coefficients .entry)) (now (records .entry)) (now (durations .entry)) (now (marks .entry)) (now (gv .entry))) (c .v) (c .first + c .lanes) (now (out .exit))) ⌝ }
 {
-    solve_group(
-        p,
-        c,
-        widths,
-        coefficients,
-        records,
-        durations,
-        marks,
-        work,
-    );
+    solve_group(p, c, widths, coefficients, records, durations, marks, work);
     let stream = p.stream;
     let switch = stream.gv;
     vary(switch, p, c, marks, gv, work);
