@@ -32,7 +32,7 @@ use Rattle.voicing.specs.Inner.States.{planOf, putPairs, StateFits}
 use Rattle.voicing.specs.declared.closing.Plan.{Plan}
 use Rattle.voicing.specs.declared.closing.Span.{Span}
 use Rattle.voicing.proofs.Theory.{lefts-length, rights-length}
-use Rattle.voicing.proofs.Masks.{mask-long, mask-end, Run, goes-none, goes-some}
+use Rattle.voicing.proofs.Masks.{mask-long, mask-end, Run, goes-some}
 use Rattle.voicing.proofs.Passes.{Passed, passed-none, passed-all, passed-fits, passed-run, passed-room, passed-next}
 use Rattle.voicing.proofs.Records.{column-length, column-at, inverses-length, inverses-at}
 use Rattle.voicing.proofs.Selections.{expand-run, select-next, run-items}
@@ -117,31 +117,22 @@ module _ (size : ℕ) (records : List Float) (widths ds flags : List ℕ) (p : P
     within : {A : Type 0} (ys : List A) → length ys ≡ total ds → f + d ≤ length ys
     within ys e = omega (arith, passed-fits (a .passed) t o)
 
-    -- none of the state's frames is voiced
-    gathering-idle : {b : Bool} → b ≡ goesOn flags f d → 0 ≡ count (replicate d b) → {begin′ end′ : ℕ} → InRun (maskIn ds flags) (f + d) begin′ end′ → Gathering old work (s + 1) (f + d) k begin′ end′
-    gathering-idle {b} g z r =
+    -- an unvoiced state
+    pub gathering-unvoiced : false ≡ goesOn flags f d → Gathering old work (s + 1) (f + d) k (f + d) end
+    gathering-unvoiced g =
+        let r = passed-run (a .passed) t o g in
+        let z = sym (count-none d) in
         let next : (ys : List Float) → length ys ≡ total ds → select (drop (f + d) (maskIn ds flags)) (drop (f + d) ys) ≡ select (drop f (maskIn ds flags)) (drop f ys) =
-        λ ys e. sym (select-next (maskIn ds flags) ys f d 0 b (passed-run (a .passed) t o g) (within ys e) z) in
+        λ ys e. sym (select-next (maskIn ds flags) ys f d 0 false r (within ys e) z) in
         record {
           passed = rw add-zero at (passed-next (a .passed) t o g z);
-          run = r;
+          run = in-unvoiced (a .run) d r (goes-some flags f d g);
           regions = stepped-as _ (a .regions) (λ l h q. record {
             means-done = λ i j. rw (next (meansAll l i) (means-long l i)) (q .means-done i j);
             ivars-done = λ i j. rw (next (ivarsAll l i) (ivars-long l i)) (q .ivars-done i j);
             behind = q .behind;
           });
         }
-
-    -- a state of no frames, and an unvoiced one
-    pub gathering-none : d ≡ 0 → Gathering old work (s + 1) f k begin end
-    unfolding count
-    gathering-none z =
-        let y : f + d ≡ f = omega arith in
-        let r : InRun (maskIn ds flags) (f + d) begin end = rw y (a .run) in
-        rw y at (gathering-idle (goes-none flags f d z) (rw z) r)
-
-    pub gathering-unvoiced : false ≡ goesOn flags f d → Gathering old work (s + 1) (f + d) k (f + d) end
-    gathering-unvoiced g = gathering-idle g (sym (count-none d)) (in-unvoiced (a .run) d (passed-run (a .passed) t o g) (goes-some flags f d g))
 
     -- a voiced one, whose run ends at `last`
     module _ (fit : Planned size (length records) widths ds flags p first (length old)) (g : true ≡ goesOn flags f d) {last : ℕ} (e : last ≡ ahead (drop f (maskIn ds flags)) + f) where

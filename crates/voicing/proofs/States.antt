@@ -15,7 +15,6 @@ use Rattle.lists.proofs.Numbers.{le-or-lt}
 use Rattle.lists.proofs.Rows.{row-fits}
 use Rattle.lists.proofs.Regions.{stored-at, stored-behind, stored-before, dropped-before}
 use Rattle.model.specs.Pair.{ivarOf}
-use Rattle.voicing.specs.Windows.{reachBefore, reachAfter}
 use Rattle.voicing.specs.Inner.States.{shutEnds, putPair, endsOf, putPairs, StateFits}
 use Rattle.voicing.specs.declared.closing.Plan.{Plan}
 use Rattle.voicing.specs.declared.closing.Span.{Span}
@@ -56,10 +55,10 @@ module _ (records : List Float) (p : Plan) (mean : ℕ) (widths : List ℕ) (t :
   put i m = putPairs records p mean widths t l i m
 
   -- one window more
-  pub put-next : (i : ℕ) (m : List Float) {from place before after : ℕ} → from ≡ mean + i * p .v → place ≡ i * p .n + t .k → before ≡ reachBefore widths i - t .left → after ≡ reachAfter widths i - t .right
-      → putPair (record { d = t .d; before = before; after = after }) place (p .ivars + place) (getD records (from + l) nan) (ivarOf (getD records (from + p .half + l) nan)) (put i m) ≡ put (i + 1) m
+  pub put-next : (i : ℕ) (m : List Float) {from place : ℕ} → from ≡ mean + i * p .v → place ≡ i * p .n + t .k
+      → putPair (endsOf widths t i) place (p .ivars + place) (getD records (from + l) nan) (ivarOf (getD records (from + p .half + l) nan)) (put i m) ≡ put (i + 1) m
   unfolding putPairs
-  put-next i m a b c d = rw (a, b, c, d, add-one)
+  put-next i m a b = rw (a, b, add-one)
 
   put-long : (w : ℕ) (m : List Float) → length (put w m) ≡ length m
   unfolding putPairs

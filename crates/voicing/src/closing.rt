@@ -1,7 +1,8 @@
 // Closing up, state by state: a state's frames are voiced or unvoiced together, so that its numbers are read, and its variances inverted, once.
 ghost use mathlib.Core.Path.{_≡_};
 ghost use Prim.Native.Nat.{_+_, _-_, _*_, _<_, _≤_};
-ghost use lib.ListN.{length, drop, getD};
+ghost use lib.ListN.{length, drop, getD, replicate};
+ghost use lib.Seq.{sets};
 ghost use lib.Ieee.{nan};
 ghost use Rattle.lists.specs.Totals.{total};
 ghost use Rattle.model.specs.Pair.{ivarOf};
@@ -12,7 +13,7 @@ ghost use Rattle.voicing.specs.Boundaries.{ahead};
 ghost use Rattle.voicing.specs.Windows.{reachBefore, reachAfter};
 ghost use Rattle.voicing.specs.Space.{pairedIn};
 ghost use Rattle.voicing.specs.Inner.Fits.{frame, Flagged, Paired};
-ghost use Rattle.voicing.specs.Inner.States.{planOf, shutEnds, putPair, putPairs, StateFits};
+ghost use Rattle.voicing.specs.Inner.States.{planOf, shutEnds, endsOf, putPair, putPairs, StateFits};
 use super::flags::goes_on;
 use model::mean_vari::MeanVari;
 use model::voice::window::left_width;
@@ -58,21 +59,29 @@ struct Ends {
     after: usize,
 }
 
-// A state's inverse variance at each of its frames, but 0 near the ends.
-fn fill_ivars(ivar: f64, e: Ends, out: &mut [f64])
-    requires { ⌜ length (now out) ≡ e .d ⌝ }
-    ensures { λ _. ⌜ now (out .exit) ≡ shutEnds e ivar ⌝ }
+// d numbers from place `at` on, all x.
+fn fill_part(x: f64, d: usize, at: usize, region: &mut [f64])
+    requires { ⌜ at + d ≤ length (now region) ⌝ }
+    ensures { λ _. ⌜ now (region .exit) ≡ sets (now (region .entry)) at (replicate d x) ⌝ }
+{
+    let end = at + d;
+    lists::fill_f64(&mut region[at..end], d, x);
+}
+
+// A state's inverse variance at each of its frames, from place `at` on, but 0 near the ends.
+fn fill_ivars(ivar: f64, e: Ends, at: usize, region: &mut [f64])
+    requires { ⌜ at + e .d ≤ length (now region) ⌝ }
+    ensures { λ _. ⌜ now (region .exit) ≡ sets (now (region .entry)) at (shutEnds e ivar) ⌝ }
 {
     let d = e.d;
-    lists::fill_f64(out, d, ivar);
+    fill_part(ivar, d, at, region);
     let first = lists::least(e.before, d);
     let last = lists::least(e.after, d);
     if first + last == 0 {
         return;
     }
-    lists::fill_f64(out, first, 0.0);
-    let from = d - last;
-    lists::fill_f64(&mut out[from..d], last, 0.0);
+    fill_part(0.0, first, at, region);
+    fill_part(0.0, last, at + (d - last), region);
 }
 
 // A component's pair of a state and a window at the state's frames: the mean from place `at` of the region on, and from place `ivars` on the inverse variance.
@@ -80,11 +89,16 @@ fn put_pair(pair: MeanVari, e: Ends, at: usize, ivars: usize, region: &mut [f64]
     requires { ⌜ (at + e .d ≤ length (now region)) × (ivars + e .d ≤ length (now region)) ⌝ }
     ensures { λ _. ⌜ now (region .exit) ≡ putPair e at ivars (pair .0) (pair .1) (now (region .entry)) ⌝ }
 {
-    let d = e.d;
-    let means_end = at + d;
-    lists::fill_f64(&mut region[at..means_end], d, pair.0);
-    let ivars_end = ivars + d;
-    fill_ivars(pair.1, e, &mut region[ivars..ivars_end]);
+    fill_part(pair.0, e.d, at, region);
+    fill_ivars(pair.1, e, ivars, region);
+}
+
+// The pair whose mean and variance stand at two places of the records, with the variance inverted.
+fn pair_at(records: &[f64], mean: usize, vari: usize) -> MeanVari
+    requires { ⌜ (mean < length (now records)) × (vari < length (now records)) ⌝ }
+    ensures { λ r. ⌜ (r .0 ≡ getD (now (records .entry)) mean nan) × (r .1 ≡ ivarOf (getD (now (records .entry)) vari nan)) ⌝ }
+{
+    MeanVari(records[mean], records[vari]).with_ivar()
 }
 
 // What the pairs of all states have in common: components side by side, some of v; a variance stands `half` numbers behind its mean in a record; a region
@@ -112,7 +126,7 @@ fn close_window(records: &[f64], p: Plan, mean: usize, at: usize, e: Ends, work:
     let mut from = 0;
     while l < lanes {
         let to = from + size;
-        let pair = MeanVari(records[mean + l], records[vari + l]).with_ivar();
+        let pair = pair_at(records, mean + l, vari + l);
         put_pair(pair, e, at, ivars, &mut work[from..to]);
         from = to;
         l += 1;
@@ -127,6 +141,19 @@ struct Span {
     right: usize,
 }
 
+// What is left of window i's reach at the ends of a state's frames.
+fn ends_of(widths: &[u32], i: usize, t: Span) -> Ends
+    requires { ⌜ i < length (now widths) ⌝ }
+    ensures { λ r. ⌜ r ≡ endsOf (now (widths .entry)) t i ⌝ }
+{
+    let reach = reach_of(widths, i);
+    Ends {
+        d: t.d,
+        before: overreach(reach.before, t.left),
+        after: overreach(reach.after, t.right),
+    }
+}
+
 // A state's pairs of all windows: the means stand in the records from `mean` on.
 fn close_state(records: &[f64], p: Plan, mean: usize, widths: &[u32], t: Span, work: &mut [f64])
     requires { ⌜ StateFits p (length (now widths)) (length (now records)) (length (now work)) mean t ⌝ }
@@ -137,12 +164,7 @@ fn close_state(records: &[f64], p: Plan, mean: usize, widths: &[u32], t: Span, w
     let mut from = mean;
     let mut at = t.k;
     while i < widths.len() {
-        let reach = reach_of(widths, i);
-        let e = Ends {
-            d: t.d,
-            before: overreach(reach.before, t.left),
-            after: overreach(reach.after, t.right),
-        };
+        let e = ends_of(widths, i, t);
         close_window(records, p, from, at, e, work);
         from += p.v;
         at += p.n;
@@ -211,15 +233,9 @@ pub(crate) fn close_group(
     let mut end = 0;
     while s < durations.len() {
         let d = lists::wide(durations[s]);
-        if d == 0 {
-            s += 1;
-        } else if flags[f] == 0 {
-            f += d;
-            begin = f;
-            s += 1;
-        } else {
+        let next = f + d;
+        if goes_on(flags, f, d) {
             end = run_end(end, durations, flags, s, f);
-            let next = f + d;
             let t = Span {
                 d,
                 k,
@@ -228,6 +244,10 @@ pub(crate) fn close_group(
             };
             close_state(records, p, s * size + first, widths, t, work);
             k += d;
+            f = next;
+            s += 1;
+        } else {
+            begin = next;
             f = next;
             s += 1;
         }

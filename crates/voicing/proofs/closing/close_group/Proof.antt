@@ -1,6 +1,6 @@
 -- `voicing::closing::close_group` meets its contract: the pairs of s states are closed up.
-use mathlib.Core.Path.{_≡_, sym}
-use mathlib.Core.Bool.{true, false}
+use mathlib.Core.Path.{_≡_, sym, _∙_}
+use mathlib.Core.Bool.{true}
 use Prim.Native.Nat.{_+_, _-_, _*_, _<_, _≤_}
 use native.Mathlib.Omega.{arith}
 use lib.ListN.{length}
@@ -8,9 +8,8 @@ use Rattle.lists.specs.Totals.{total}
 use Rattle.lists.proofs.Counts.{count-all}
 use Rattle.lists.proofs.Rows.{row-fits}
 use Rattle.voicing.specs.Inner.Fits.{goesOn}
-use Rattle.voicing.proofs.Masks.{goes-off, goes-true}
 use Rattle.voicing.proofs.Passes.{passed-fits, passed-few}
-use Rattle.voicing.proofs.Groups.{Planned, planned, Gathering, gathering, gathering-none, gathering-unvoiced, gathering-ends, gathering-state, gathering-next, gathered}
+use Rattle.voicing.proofs.Groups.{Planned, planned, Gathering, gathering, gathering-unvoiced, gathering-ends, gathering-state, gathering-next, gathered}
 use borrow.Author.Needs.{needs}
 use Rattle.voicing.proofs.closing.close_group.Statement.{statement}
 use Rattle.voicing.proofs.closing.close_group.Tie as tie
@@ -21,42 +20,55 @@ Inv-loop size records widths durations flags work₀ p first s₀ f₀ k₀ begi
 abbrev μ-loop : tie.MeasureT-loop
 μ-loop size records widths durations flags work₀ p first s₀ f₀ k₀ begin₀ end₀ work s f k begin end = length durations - s
 
-fit : (c : tie.After-plan-of Inv-loop μ-loop) → let a = c .before .before .before .before .before .before .args in Planned (a .size) (length (a .records .now)) (a .widths .now) (a .durations .now) (a .flags .now) (c .plan-of .result) (a .c .first) (length (a .work .now))
-fit c = planned (c .before .before .before .before .before .before .pre) (c .plan-of .ensures)
+module _ (c : tie.After-wide Inv-loop μ-loop) where
+  abbrev turn : tie.At-loop Inv-loop μ-loop
+  turn = c .before .before .before
 
--- the state's frames are frames of the stream
-fits : (c : tie.After-wide Inv-loop μ-loop) → c .before .before .before .loop .f + c .wide .result ≤ total (c .before .before .before .before .before .before .before .before .before .before .args .durations .now)
-fits c = passed-fits (c .before .before .before .loop .inv .passed) (c .before .before .loop-test .taken) (c .wide .ensures)
+  abbrev entry : tie.Start Inv-loop μ-loop
+  entry = turn .before .before .before .before .before .before .before
+
+  -- the state's frames are frames of the stream
+  fits : turn .loop .f + c .wide .result ≤ total (entry .args .durations .now)
+  fits = passed-fits (turn .loop .inv .passed) (c .before .before .loop-test .taken) (c .wide .ensures)
 
 module _ (c : tie.After-run-end Inv-loop μ-loop) where
-  voiced : true ≡ goesOn (c .before .before .before .before .before .before .before .before .before .before .before .before .before .before .args .flags .now) (c .before .before .before .before .before .before .before .loop .f) (c .before .before .before .before .wide .result)
-  voiced = goes-true (c .before .before .before .before .before .before .before .before .before .before .before .before .before .before .args .flags .now) _ _ (c .before .before .before .if1 .left) (c .before .if2 .left)
+  abbrev state : tie.After-wide Inv-loop μ-loop
+  state = c .before .before .before
+
+  abbrev start : tie.Start Inv-loop μ-loop
+  start = entry state
+
+  fit : Planned (start .args .size) (length (start .args .records .now)) (start .args .widths .now) (start .args .durations .now) (start .args .flags .now) (turn state .before .plan-of .result) (start .args .c .first) (length (start .args .work .now))
+  fit = planned (start .pre) (turn state .before .plan-of .ensures)
+
+  voiced : true ≡ goesOn (start .args .flags .now) (turn state .loop .f) (state .wide .result)
+  voiced = sym (c .before .if1 .taken) ∙ c .before .before .goes-on .ensures
 
   -- the run ends behind them
-  ends : c .before .before .before .before .before .before .before .loop .f + c .before .before .before .before .wide .result ≤ c .run-end .result
-  ends = gathering-ends _ _ _ _ _ _ _ (c .before .before .before .before .before .before .before .loop .inv) (c .before .before .before .before .before .before .loop-test .taken) (c .before .before .before .before .wide .ensures) (fit (c .before .before .before .before .before .before .before .before)) voiced (c .run-end .ensures)
+  ends : turn state .loop .f + state .wide .result ≤ c .run-end .result
+  ends = gathering-ends _ _ _ _ _ _ _ (turn state .loop .inv) (state .before .before .loop-test .taken) (state .wide .ensures) fit voiced (c .run-end .ensures)
 
   -- and the state has its record
-  recorded : c .before .before .before .before .before .before .before .loop .s * c .before .before .before .before .before .before .before .before .before .before .before .before .before .before .args .size + c .before .before .before .before .before .before .before .before .before .before .before .before .before .before .args .size ≤ length (c .before .before .before .before .before .before .before .before .before .before .before .before .before .before .args .records .now)
-  recorded = omega (arith, c .before .before .before .before .before .before .before .before .before .before .before .before .before .before .pre .recorded, row-fits (c .before .before .before .before .before .before .before .before .before .before .before .before .before .before .args .size) (c .before .before .before .before .before .before .before .loop .s) (length (c .before .before .before .before .before .before .before .before .before .before .before .before .before .before .args .durations .now)) (c .before .before .before .before .before .before .loop-test .taken))
+  recorded : turn state .loop .s * start .args .size + start .args .size ≤ length (start .args .records .now)
+  recorded = omega (arith, start .pre .recorded, row-fits (start .args .size) (turn state .loop .s) (length (start .args .durations .now)) (state .before .before .loop-test .taken))
 
 run-end-requires : tie.Need-run-end-requires Inv-loop μ-loop
-run-end-requires c κs = let i = c .before .before .before .before .before .before .loop .inv in (c .before .before .before .before .before .before .before .before .before .before .before .before .before .pre .lies .framed, i .passed .within, i .passed .frames, i .run .after)
+run-end-requires c κs = let i = turn (c .before .before) .loop .inv in (entry (c .before .before) .pre .lies .framed, i .passed .within, i .passed .frames, i .run .after)
 
 close-state-requires : tie.Need-close-state-requires Inv-loop μ-loop
-close-state-requires c κs = gathering-state _ _ _ _ _ _ _ (c .before .before .before .before .before .before .before .before .loop .inv) (c .before .before .before .before .before .before .before .loop-test .taken) (c .before .before .before .before .before .wide .ensures) (fit (c .before .before .before .before .before .before .before .before .before)) (voiced (c .before)) (c .before .run-end .ensures)
+close-state-requires c κs = let r = c .before in let q = state r in gathering-state _ _ _ _ _ _ _ (turn q .loop .inv) (q .before .before .loop-test .taken) (q .wide .ensures) (fit r) (voiced r) (r .run-end .ensures)
+
+loop-again : tie.Need-loop-again Inv-loop μ-loop
+loop-again c = let r = c .before .before .before .before in let q = state r in gathering-next _ _ _ _ _ _ _ (turn q .loop .inv) (q .before .before .loop-test .taken) (q .wide .ensures) (fit r) (voiced r) (r .run-end .ensures) _ (c .before .before .close-state .ensures)
 
 loop-again-2 : tie.Need-loop-again-2 Inv-loop μ-loop
-loop-again-2 c = gathering-unvoiced _ _ _ _ _ _ _ (c .before .before .before .before .before .before .loop .inv) (c .before .before .before .before .before .loop-test .taken) (c .before .before .before .wide .ensures) (goes-off (c .before .before .before .before .before .before .before .before .before .before .before .before .before .args .flags .now) _ _ (c .before .before .if1 .left) (c .if2 .taken))
-
-loop-again-3 : tie.Need-loop-again-3 Inv-loop μ-loop
-loop-again-3 c = gathering-next _ _ _ _ _ _ _ (c .before .before .before .before .before .before .before .before .before .before .before .loop .inv) (c .before .before .before .before .before .before .before .before .before .before .loop-test .taken) (c .before .before .before .before .before .before .before .before .wide .ensures) (fit (c .before .before .before .before .before .before .before .before .before .before .before .before)) (voiced (c .before .before .before .before)) (c .before .before .before .before .run-end .ensures) _ (c .before .before .close-state .ensures)
+loop-again-2 c = let q = c .before .before in gathering-unvoiced _ _ _ _ _ _ _ (turn q .loop .inv) (q .before .before .loop-test .taken) (q .wide .ensures) (sym (c .if1 .left) ∙ c .before .goes-on .ensures)
 
 add-k : tie.Need-add-k Inv-loop μ-loop
-add-k c = omega (arith, passed-few (c .before .before .before .before .before .before .before .before .before .before .before .loop .inv .passed) (c .before .before .before .before .before .before .before .before .before .before .loop-test .taken) (c .before .before .before .before .before .before .before .before .wide .ensures) (voiced (c .before .before .before .before)) (sym (count-all (c .before .before .before .before .before .before .before .before .wide .result))), c .before .before .before .before .before .before .before .before .before .before .before .before .before .before .before .before .before .before .pre .lies .framed .frames)
+add-k c = let r = c .before .before .before .before in let q = state r in omega (arith, passed-few (turn q .loop .inv .passed) (q .before .before .loop-test .taken) (q .wide .ensures) (voiced r) (sym (count-all (q .wide .result))), start r .pre .lies .framed .frames)
 
 returns : tie.Need-returns Inv-loop μ-loop
-returns c = let a = c .before .before .before .before .before .before .before .before .args in gathered (a .size) (a .records .now) (a .widths .now) (a .durations .now) (a .flags .now) (a .g) (a .c) (a .work .now) _ (c .before .before .before .before .before .before .before .before .pre) (rw (c .before .before .plan-of .ensures) at (c .before .loop .inv)) (c .loop-test .left)
+returns c = let s = c .before .before .before .before .before .before .before .before in let a = s .args in gathered (a .size) (a .records .now) (a .widths .now) (a .durations .now) (a .flags .now) (a .g) (a .c) (a .work .now) _ (s .pre) (rw (c .before .before .plan-of .ensures) at (c .before .loop .inv)) (c .loop-test .left)
 
 pub close-group-spec : {M : Type 1} → statement M
 close-group-spec =
@@ -69,25 +81,20 @@ close-group-spec =
     (λ c. search needs)
     (λ c. search needs)
     (λ c κs. search needs)
-    (λ c. search needs)
-    (λ c. search needs)
-    (λ c. gathering-none _ _ _ _ _ _ _ (c .before .before .before .before .loop .inv) (c .before .before .before .loop-test .taken) (c .before .wide .ensures) (c .if1 .taken))
-    (λ c. record { fits = omega (arith, fits (c .before), c .before .before .before .before .before .before .before .before .before .before .before .pre .lies .framed .frames) })
-    (λ c. omega (arith, c .before .if1 .left, fits (c .before .before), c .before .before .before .before .before .before .before .before .before .before .before .before .pre .lies .framed .room))
-    (λ c. omega (arith, fits (c .before .before .before), c .before .before .before .before .before .before .before .before .before .before .before .before .before .pre .lies .framed .frames))
-    (λ c. search needs)
-    (λ c. search needs)
-    loop-again-2
+    (λ c. omega (arith, fits c, entry c .pre .lies .framed .frames))
+    (λ c κs. omega (arith, fits c, entry c .pre .lies .framed .room))
     run-end-requires
-    (λ c. omega (arith, fits (c .before .before .before .before), c .before .before .before .before .before .before .before .before .before .before .before .before .before .before .pre .lies .framed .frames))
-    (λ c. c .before .before .before .before .before .before .before .loop .inv .run .begun)
+    (λ c. turn (state c) .loop .inv .run .begun)
     ends
-    (λ c. record { fits = omega (arith, recorded c, c .before .before .before .before .before .before .before .before .before .before .before .before .before .before .good) })
-    (λ c. omega (arith, recorded c, c .before .before .before .before .before .before .before .before .before .before .before .before .before .before .good, c .before .before .before .before .before .before .before .before .before .before .before .before .before .before .pre .lies .some, c .before .before .before .before .before .before .before .before .before .before .before .before .before .before .pre .lies .most-v))
+    (λ c. record { fits = omega (arith, recorded c, start c .good) })
+    (λ c. omega (arith, recorded c, start c .good, start c .pre .lies .some, start c .pre .lies .most-v))
     close-state-requires
     add-k
     (λ c. search needs)
     (λ c. search needs)
-    loop-again-3
+    loop-again
+    (λ c. search needs)
+    (λ c. search needs)
+    loop-again-2
     (λ c. c .before .loop .inv .regions .long)
     returns)

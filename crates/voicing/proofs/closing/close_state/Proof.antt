@@ -37,18 +37,21 @@ loop-holds c = (search needs, rw zero-mul (omega arith), rw zero-mul (omega arit
 
 close-window-requires : tie.Need-close-window-requires Inv-loop μ-loop
 close-window-requires c κs =
-    let i = c .before .before .before .before in let s = entry i .pre in let l = i .before .loop in
-    (reads i, omega (arith, next i, s .voiced), omega (arith, l .inv .2, ivars-room s (l .i) (i .loop-test .taken)), omega (arith, l .inv .3 .long, s .room))
+    let i = c .before .before in
+    let s = entry i .pre in
+    let l = i .before .loop in
+    rw (c .before .ends-of .ensures) (reads i, omega (arith, next i, s .voiced), omega (arith, l .inv .2, ivars-room s (l .i) (i .loop-test .taken)), omega (arith, l .inv .3 .long, s .room))
 
 loop-again : tie.Need-loop-again Inv-loop μ-loop
 loop-again c =
-    let n = c .before .before .before .before .before .before .before .before .before in let s = entry n .args in let o = n .before .loop in
-    let r = c .before .before .before .before .before .before .before .before .reach-of .ensures in (
+    let n = c .before .before .before .before .before .before .before in
+    let s = entry n .args in
+    let o = n .before .loop in (
       search needs,
       rw (add-one, suc-mul) (omega (arith, o .inv .1)),
       rw (add-one, suc-mul) (omega (arith, o .inv .2)),
       stepped-then (λ l old new. new ≡ putPairs (s .records .now) (s .p) (s .mean) (s .widths .now) (s .t) l (o .i + 1) old) (o .inv .3) (c .before .before .before .before .close-window .ensures)
-          (λ l h a b. b ∙ rw a (put-next (s .records .now) (s .p) (s .mean) (s .widths .now) (s .t) l (o .i) _ (o .inv .1) (o .inv .2) (c .before .before .before .before .before .before .before .overreach .ensures ∙ rw (r .0)) (c .before .before .before .before .before .before .overreach2 .ensures ∙ rw (r .1)))),
+          (λ l h a b. b ∙ rw (a, c .before .before .before .before .before .before .ends-of .ensures) (put-next (s .records .now) (s .p) (s .mean) (s .widths .now) (s .t) l (o .i) _ (o .inv .1) (o .inv .2))),
     )
 
 pub close-state-spec : {M : Type 1} → statement M
@@ -59,12 +62,10 @@ close-state-spec =
     μ-loop
     loop-holds
     (λ c κs. search needs)
-    (λ c κs. search needs)
-    (λ c κs. search needs)
     close-window-requires
-    (λ c. let i = c .before .before .before .before .before .before .before .before in omega (arith, reads i, entry i .pre .most-v, entry i .good))
-    (λ c. omega (arith, next (c .before .before .before .before .before .before .before .before .before), entry (c .before .before .before .before .before .before .before .before .before) .good))
-    (λ c. omega (arith, c .before .before .before .before .before .before .before .before .before .loop-test .taken, entry (c .before .before .before .before .before .before .before .before .before) .good))
+    (λ c. let i = c .before .before .before .before .before .before in omega (arith, reads i, entry i .pre .most-v, entry i .good))
+    (λ c. omega (arith, next (c .before .before .before .before .before .before .before), entry (c .before .before .before .before .before .before .before) .good))
+    (λ c. omega (arith, c .before .before .before .before .before .before .before .loop-test .taken, entry (c .before .before .before .before .before .before .before) .good))
     (λ c. search needs)
     loop-again
     (λ c. c .before .loop .inv .3 .long)

@@ -1,5 +1,5 @@
 -- `voicing::closing::close_window` meets its contract: l components have their pairs.
-use mathlib.Core.Path.{_≡_, sym, ap, _∙_}
+use mathlib.Core.Path.{_≡_, sym, _∙_}
 use Prim.Native.Nat.{_+_, _-_, _*_, _≤_}
 use native.Mathlib.Nat.{suc-mul, zero-mul}
 use native.Mathlib.Numerals.{add-one}
@@ -8,7 +8,6 @@ use borrow.Rule.Slice.PartMut.{midOf}
 use lib.ListN.{length, getD}
 use lib.Ieee.{nan}
 use Rattle.model.specs.Pair.{ivarOf}
-use Rattle.model.specs.declared.mean_vari.MeanVari.{MeanVari}
 use Rattle.voicing.specs.Inner.States.{putPair}
 use Rattle.lists.proofs.Expansions.{part-length}
 use Rattle.region.proofs.Lanes.{Stepped, stepped-none, stepped-lent, region-fits}
@@ -36,20 +35,21 @@ module _ (c : tie.In-loop Inv-loop μ-loop) where
 
 put-pair-requires : tie.Need-put-pair-requires Inv-loop μ-loop
 put-pair-requires c κs =
-    let s = entry (c .before .before .before .before) in
-    let l = c .before .before .before .before .before .loop in
-    let n : length (midOf (l .from) (l .from + s .args .p .size - l .from) (l .work)) ≡ s .args .p .size = part-length (l .work) (l .from) (s .args .p .size) (fits (c .before .before .before .before)) in
+    let s = entry (c .before .before) in
+    let l = c .before .before .before .loop in
+    let n : length (midOf (l .from) (l .from + s .args .p .size - l .from) (l .work)) ≡ s .args .p .size = part-length (l .work) (l .from) (s .args .p .size) (fits (c .before .before)) in
     (rw n (s .pre .1), rw n (s .pre .2))
 
 loop-again : tie.Need-loop-again Inv-loop μ-loop
 loop-again c =
-    let i = c .before .before .before .before .before .before .before in
+    let i = c .before .before .before .before .before in
     let s = entry i .args in
-    let l = i .before .loop in (
+    let l = i .before .loop in
+    let p = c .before .before .before .before .pair-at .ensures in (
       search needs,
       rw (add-one, suc-mul) (omega (arith, l .inv .1)),
       stepped-lent _ (s .p .size) (s .p .lanes) (s .work .now) (l .l) (l .from) (l .work) (c .before .before .put-pair .last .1 .1 .1 .1 .0) (i .loop-test .taken) (room i) (l .inv .2) (l .inv .1) (c .before .before .put-pair .kept .1 .1 .1 .1 .0)
-          (c .before .before .put-pair .ensures ∙ ap (λ (x : MeanVari). putPair (s .e) (s .at) (s .p .ivars + s .at) (x .0) (x .1) (midOf (l .from) (l .from + s .p .size - l .from) (l .work))) (c .before .before .before .before .with-ivar .ensures)),
+          (c .before .before .put-pair .ensures ∙ rw (p .0, p .1)),
     )
 
 pub close-window-spec : {M : Type 1} → statement M
@@ -61,18 +61,14 @@ close-window-spec =
     (λ c. search needs)
     (λ c. search needs)
     (λ c. (search needs, sym (zero-mul _), stepped-none _ _ _ _))
-    (λ c. omega (arith, c .before .before .before .before .before .before .good, c .before .loop .inv .2 .long, fits c))
-    (λ c. search needs)
-    (λ c. search needs)
-    (λ c. search needs)
-    (λ c. search needs)
+    (λ c. omega (arith, entry c .good, c .before .loop .inv .2 .long, fits c))
     (λ c. search needs)
     (λ c. search needs)
     (λ c κs. search needs)
-    (λ c. omega (arith, c .before .before .before .before .before .before .before .before .before .good, c .before .before .before .before .loop .inv .2 .long, fits (c .before .before .before)))
+    (λ c. omega (arith, entry (c .before) .good, c .before .before .loop .inv .2 .long, fits (c .before)))
     (λ c. search needs)
     (λ c. search needs)
-    (λ c. fits (c .before .before .before))
+    (λ c. fits (c .before))
     put-pair-requires
     (λ c. search needs)
     (λ c. search needs)
