@@ -18,7 +18,7 @@ use Rattle.duration.specs.declared.align.End.the-variants.{At, Open}
 use Rattle.duration.specs.declared.align.Label.{Label}
 use Rattle.duration.specs.declared.align.Closed.{Closed}
 use Rattle.duration.specs.declared.align.Closed.the-variants.{Grown, Barred}
-use Rattle.duration.specs.Steps.{Outcome, unchanged}
+use Rattle.steps.specs.Steps.{Outcome, unchanged}
 use Rattle.duration.specs.Fit.{refusalTo}
 use Rattle.lists.specs.Refusals.{orElse}
 use Rattle.duration.specs.Align.{labelOf, Group, closing, groups, within, targetOf, fitOf, fitAlong, refusalOf, refusalAlong}

@@ -4,11 +4,11 @@ use mathlib.Core.Bool.{Bool, true, false, cond}
 use mathlib.Core.List.{List, [], _∷_, _++_}
 use Prim.Native.Nat.{ℕ, zero, suc, _+_, _^_, _≤_, _<_, zero-le}
 use native.Mathlib.Omega.{arith}
-use lib.Dec.{ltb, eqb}
+use lib.Dec.{ltb}
 use lib.ListN.{length, take, drop}
 use lib.Seq.{take-at, drop-at, length-take-le}
 use lib.Ieee.{Float}
-use borrow.Author.Tests.{lt-ltb, le-ltb, eqb-true, eqb-false}
+use borrow.Author.Tests.{lt-ltb, le-ltb}
 use Rattle.lists.specs.Sizes.{mostFrames}
 use Rattle.lists.specs.Totals.{total}
 use Rattle.lists.proofs.Sums.{total-whole}
@@ -16,14 +16,14 @@ use Rattle.lists.proofs.Refusals.{or-first}
 use Rattle.duration.specs.declared.Fitted.{Fitted}
 use Rattle.duration.specs.declared.Fitted.the-variants.{Done, Refused}
 use Rattle.duration.specs.declared.align.Closed.the-variants.{Grown, Barred}
-use Rattle.duration.specs.Steps.{Outcome, unchanged, step, settle}
+use Rattle.steps.specs.Steps.{Outcome, unchanged}
 use Rattle.duration.specs.Fit.{plain, fitTo, refusalTo}
 use Rattle.lists.specs.Refusals.{orElse}
 use Rattle.duration.specs.Align.{Group, within, targetOf, fitOf, refusalOf, refusalAlong}
 use Rattle.duration.specs.Promise.{fitted, clears}
 use Rattle.duration.specs.Inner.Asked.{InPlace, Closes}
 use Rattle.lists.proofs.Answers.{refusing, refused, refused-is, accepted-is}
-use Rattle.duration.proofs.Stepping.{settle-there, settle-turn}
+use Rattle.steps.proofs.Stepping.{settle-few}
 use Rattle.duration.proofs.Fits.{fit-clears}
 
 -- ---- closing a group, whose fit left w in its place
@@ -74,22 +74,13 @@ counted r l w e f h = e ∙ rw f (total-whole w h)
 
 -- ---- how much a group adds
 
-settle-few : (k : ℕ) (rho : Float) (ms vs : List Float) (t : ℕ) (ds : List ℕ) → settle k rho ms vs t ds .changes ≤ k
-settle-few zero rho ms vs t ds = unfold settle in zero-le
-settle-few (suc k) rho ms vs t ds =
-    (elim (eqb (total ds) t) as (λ s. eqb (total ds) t ≡ s → settle (suc k) rho ms vs t ds .changes ≤ suc k) [
-      | true ↦ λ e. rw (settle-there rho ms vs t (suc k) ds (eqb-true (total ds) t e)) zero-le
-      | false ↦ λ e. rw (settle-turn rho ms vs t k ds (ltb (total ds) t) (eqb-false (total ds) t e) refl) (omega (arith, settle-few k rho ms vs t (step (ltb (total ds) t) rho ms vs ds)))
-    ])
-    refl
-
 cond-few : (b : Bool) (p q : Outcome) (m : ℕ) → p .changes ≤ m → q .changes ≤ m → cond b p q .changes ≤ m
 cond-few true p q m h k = h
 cond-few false p q m h k = k
 
 pub fit-few : (ms vs : List Float) (t : ℕ) → fitTo ms vs t .changes ≤ mostFrames
 unfolding fitTo
-fit-few ms vs t = cond-few (plain (length ms) t) (unchanged _) _ mostFrames zero-le (settle-few mostFrames _ ms vs t _)
+fit-few ms vs t = cond-few (plain (length ms) t) (unchanged _) _ mostFrames zero-le (settle-few _ ms vs t mostFrames _)
 
 -- ---- a group's refusals, and a run's, clear the work space
 

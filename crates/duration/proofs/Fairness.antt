@@ -21,8 +21,8 @@ use Rattle.duration.specs.declared.Fitted.{Fitted}
 use Rattle.duration.specs.declared.Fitted.the-variants.{Done, Refused}
 use Rattle.duration.specs.declared.Aligned.{Aligned}
 use Rattle.duration.specs.declared.Aligned.the-variants.{Written, Denied}
-use Rattle.duration.specs.Estimate.{shortest, estimates}
-use Rattle.duration.specs.Steps.{Outcome, unchanged, settle}
+use Rattle.duration.specs.Estimate.{estimates}
+use Rattle.steps.specs.Steps.{shortest, Outcome, unchanged, settle}
 use Rattle.duration.specs.Fit.{rhoOf, startOf, fitTo, refusalTo}
 use Rattle.duration.specs.Speed.{naturals, targetAt, fitAt, refusalAt}
 use Rattle.duration.specs.Align.{endIf, Group, closing, groups, within, targetOf, fitOf, fitAlong, refusalOf, refusalAlong}
@@ -32,9 +32,9 @@ use Rattle.duration.specs.Fitting.{distance, Under, Fair, FairGroup, Fai
 use Rattle.duration.specs.Fitting.FairAlong.{ended, next}
 use Rattle.duration.proofs.Refusals.{lists-fit, cond-none, labelled}
 use Rattle.duration.proofs.Estimates.{length-estimates}
-use Rattle.duration.proofs.Settling.{Pointwise, Positive, settles-total, settles-length, settles-gap, settles-up, settles-down, settles-positive, settle-settles}
-use Rattle.duration.proofs.Settling.Pointwise.{nil, cons}
-use Rattle.duration.proofs.Settling.Positive.{none, more}
+use Rattle.steps.proofs.Settling.{Pointwise, Positive, settles-total, settles-length, settles-gap, settles-up, settles-down, settles-positive, settle-settles}
+use Rattle.steps.proofs.Settling.Pointwise.{nil, cons}
+use Rattle.steps.proofs.Settling.Positive.{none, more}
 use Rattle.lists.proofs.Answers.{accepted-is}
 use Rattle.lists.proofs.Refusals.{or-none}
 

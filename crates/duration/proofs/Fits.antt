@@ -9,14 +9,18 @@ use lib.ListN.{length, replicate, drop-of-length-le}
 use lib.Seq.{sets}
 use lib.Ieee.{Float, eq}
 use borrow.Author.Tests.{lt-ltb, le-ltb, le-leb, lt-leb, ne-eqb}
-use Rattle.lists.specs.Sizes.{mostFrames}
+use Rattle.lists.specs.Sizes.{mostStates, mostFrames}
 use Rattle.lists.specs.Totals.{total}
 use Rattle.lists.proofs.Stores.{filled}
 use Rattle.floats.specs.Numbers.{one}
 use Rattle.duration.specs.declared.Fitted.{Fitted}
 use Rattle.duration.specs.declared.Fitted.the-variants.{Done, Refused}
-use Rattle.duration.specs.Estimate.{shortest, estimates}
-use Rattle.duration.specs.Steps.{Outcome, settle}
+use Rattle.duration.specs.Estimate.{estimates}
+use Rattle.steps.specs.Steps.{shortest, Outcome, settle}
+use Rattle.steps.specs.Promise.{opens, SettleSays}
+use Rattle.steps.specs.declared.Settled.{Settled}
+use Rattle.steps.specs.declared.Settled.the-variants as rule
+use Rattle.steps.proofs.Door.{stands-open, was-over, was-settled}
 use Rattle.duration.specs.Fit.{rhoOf, startOf, fitTo, refusalTo}
 use Rattle.duration.specs.Speed.{naturals, targetAt, fitAt, refusalAt}
 use Rattle.duration.specs.Promise.{clears}
@@ -49,25 +53,31 @@ module _ (ms vs : List Float) (t : ℕ) (some : 0 < length ms) where
         let b : leb t (length ms) ≡ true = le-leb t (length ms) h in
         record { answer = rw (states, le-ltb mostFrames t within, b); output = λ q. rw (states, b) e }
 
-    module _ (above : length ms < t) where
-      pub fit-long : (work : List ℕ) → mostFrames < total (startOf ms vs t) → InPlace (refusalTo ms vs t) (fitTo ms vs t) (Refused 8) work
+    -- from the start, the estimate with rho, the step rule answers r and leaves `work`
+    module _ (above : length ms < t) (rho : Float) (start work : List ℕ) (r : Settled) (few : length ms ≤ mostStates) (agree : length vs ≡ length ms) (long : length start ≡ length ms)
+        (p : rho ≡ rhoOf ms vs t) (q : start ≡ estimates rho ms vs) (s : SettleSays rho t ms vs start r work) where
+      start-is : start ≡ startOf ms vs t
+      unfolding startOf
+      start-is = q ∙ rw p
+
+      -- its door stands open
+      pub fit-opens : opens (length ms) (length vs) (length start) t ≡ true
+      fit-opens = stands-open (length ms) (length vs) (length start) t (record { some = some; few = few; varis = agree; work = long; above = above; within = within })
+
+      pub fit-long : r ≡ rule.Over → InPlace (refusalTo ms vs t) (fitTo ms vs t) (Refused 8) work
       unfolding refusalTo
-      fit-long work h = in-refused 7 (refusalTo ms vs t) (fitTo ms vs t) work (rw (states, le-ltb mostFrames t within, lt-leb t (length ms) above, lt-ltb mostFrames (total (startOf ms vs t)) h))
+      fit-long e =
+          let h : mostFrames < total (startOf ms vs t) = rw (← start-is) (was-over rho t ms vs start fit-opens r work s e) in
+          in-refused 7 (refusalTo ms vs t) (fitTo ms vs t) work (rw (states, le-ltb mostFrames t within, lt-leb t (length ms) above, lt-ltb mostFrames (total (startOf ms vs t)) h))
 
-      pub fit-settled : (c : ℕ) (work : List ℕ) → total (startOf ms vs t) ≤ mostFrames → settle mostFrames (rhoOf ms vs t) ms vs t (startOf ms vs t) ≡ record { durations = work; changes = c } → InPlace (refusalTo ms vs t) (fitTo ms vs t) (Done c) work
+      pub fit-settled : (c : ℕ) → r ≡ rule.Done c → InPlace (refusalTo ms vs t) (fitTo ms vs t) (Done c) work
       unfolding refusalTo fitTo
-      fit-settled c work h e =
+      fit-settled c e =
+          let o = was-settled rho t ms vs start fit-opens r work s c e in
+          let h : total (startOf ms vs t) ≤ mostFrames = rw (← start-is) (o .0) in
+          let g : settle mostFrames (rhoOf ms vs t) ms vs t (startOf ms vs t) ≡ record { durations = work; changes = c } = rw (← p, ← start-is) (o .1) in
           let b : leb t (length ms) ≡ false = lt-leb t (length ms) above in
-          record { answer = rw (states, le-ltb mostFrames t within, b, le-ltb mostFrames (total (startOf ms vs t)) h, e); output = λ q. rw (states, b, e) }
-
--- what the start's numbers are, and what the rule makes of them
-module _ (ms vs : List Float) (t : ℕ) where
-  pub start-is : (rho : Float) (w : List ℕ) → rho ≡ rhoOf ms vs t → w ≡ estimates rho ms vs → w ≡ startOf ms vs t
-  unfolding startOf
-  start-is rho w e f = f ∙ rw e
-
-  pub settled-is : (rho : Float) (w : List ℕ) (o : Outcome) → rho ≡ rhoOf ms vs t → w ≡ startOf ms vs t → settle mostFrames rho ms vs t w ≡ o → settle mostFrames (rhoOf ms vs t) ms vs t (startOf ms vs t) ≡ o
-  settled-is rho w o e f g = rw (← e, ← f) g
+          record { answer = rw (states, le-ltb mostFrames t within, b, le-ltb mostFrames (total (startOf ms vs t)) h, g); output = λ q. rw (states, b, g) }
 
 -- a list that is filled whole
 pub all-filled : (n v : ℕ) (l : List ℕ) → length l ≡ n → sets l 0 (replicate n v) ≡ replicate n v

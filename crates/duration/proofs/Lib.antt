@@ -1,20 +1,10 @@
 -- Laws, and the theorems on what the promises say.
 pub mod Refusals
-pub mod Order
-pub mod Least
-pub mod Keys
-pub mod Scans
-pub mod Nodes
-pub mod Packs
-pub mod Stepping
-pub mod Playing
 pub mod Estimates
 pub mod Fits
 pub mod Calls
 pub mod Closing
 pub mod Along
-pub mod Settling
-pub mod Alone
 pub mod Fairness
 pub mod Speeds
 pub mod Roundings

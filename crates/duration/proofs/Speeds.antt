@@ -18,13 +18,12 @@ use Rattle.lists.specs.Sizes.{mostFrames}
 use Rattle.lists.specs.Totals.{total}
 use Rattle.floats.specs.Rounding.{whole, nearestHalf, toIntegral, framesOf, roundedOf}
 use Rattle.floats.specs.Numbers.{nought, one, number}
-use Rattle.duration.specs.Estimate.{shortest}
-use Rattle.duration.specs.Steps.{unchanged}
+use Rattle.steps.specs.Steps.{shortest, unchanged}
 use Rattle.duration.specs.Fit.{fitTo, refusalTo}
 use Rattle.duration.specs.Speed.{naturals, targetAt, fitAt, refusalAt}
 use Rattle.duration.proofs.Estimates.{length-estimates}
-use Rattle.duration.proofs.Settling.{Positive}
-use Rattle.duration.proofs.Settling.Positive.{none, more}
+use Rattle.steps.proofs.Settling.{Positive}
+use Rattle.steps.proofs.Settling.Positive.{none, more}
 use Rattle.duration.proofs.Fairness.{estimates-positive}
 
 -- ---- below zero all counts of frames are 1

@@ -20,8 +20,8 @@ use Rattle.floats.specs.Rounding.{Integral, undefined, endless, whole, toIntegr
 use Rattle.floats.specs.Numbers.{nought, one, number}
 use Rattle.duration.specs.declared.Fitted.{Fitted}
 use Rattle.duration.specs.declared.Aligned.{Aligned}
-use Rattle.duration.specs.Estimate.{shortest, estimates}
-use Rattle.duration.specs.Steps.{Outcome, unchanged, settle}
+use Rattle.duration.specs.Estimate.{estimates}
+use Rattle.steps.specs.Steps.{shortest, Outcome, unchanged, settle}
 use Rattle.duration.specs.Fit.{rhoOf, startOf, fitTo, refusalTo}
 use Rattle.duration.specs.Speed.{naturals, targetAt, fitAt, refusalAt}
 use Rattle.duration.specs.Align.{Group, groups, within, targetOf, fitOf, fitAlong, refusalOf, refusalAlong}

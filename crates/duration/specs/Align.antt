@@ -12,7 +12,7 @@ use Rattle.floats.specs.Numbers.{nought, number}
 use Rattle.duration.specs.declared.align.End.{End}
 use Rattle.duration.specs.declared.align.End.the-variants.{At, Open}
 use Rattle.duration.specs.declared.align.Label.{Label}
-use Rattle.duration.specs.Steps.{Outcome, unchanged}
+use Rattle.steps.specs.Steps.{Outcome, unchanged}
 use Rattle.duration.specs.Fit.{fitTo, refusalTo}
 use Rattle.lists.specs.Refusals.{orElse}
 

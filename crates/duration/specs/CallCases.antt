@@ -16,7 +16,7 @@ use Rattle.duration.specs.declared.Fitted.the-variants.{Refused}
 use Rattle.duration.specs.declared.Aligned.the-variants.{Written, Denied}
 use Rattle.duration.specs.declared.align.End.the-variants.{At, Open}
 use Rattle.duration.specs.Estimate.{estimates}
-use Rattle.duration.specs.Steps.{keyOf, keys, leastOf, step, settle}
+use Rattle.steps.specs.Steps.{keyOf, keys, leastOf, step, settle}
 use Rattle.duration.specs.Fit.{startOf, fitTo, refusalTo}
 use Rattle.duration.specs.Speed.{naturals, targetAt, fitAt, refusalAt}
 use Rattle.duration.specs.Align.{endOf, groups, fitAlong, refusalOf, refusalAlong}

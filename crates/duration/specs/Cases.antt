@@ -11,7 +11,7 @@ use Rattle.duration.specs.declared.Fitted.the-variants.{Done, Refused}
 use Rattle.duration.specs.declared.Aligned.the-variants.{Written, Denied}
 use Rattle.floats.specs.Numbers.{number}
 use Rattle.duration.specs.Estimate.{estimates}
-use Rattle.duration.specs.Steps.{keyOf, keys, leastOf, step, settle}
+use Rattle.steps.specs.Steps.{keyOf, keys, leastOf, step, settle}
 use Rattle.duration.specs.Fit.{startOf, fitTo, refusalTo}
 use Rattle.duration.specs.Speed.{naturals, targetAt, fitAt, refusalAt}
 use Rattle.duration.specs.Align.{groups, fitAlong, refusalOf, refusalAlong}

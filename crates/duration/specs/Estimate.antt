@@ -4,10 +4,6 @@ use Prim.Native.Nat.{ℕ}
 use lib.Ieee.{Float, binary64, add, mul}
 use Rattle.floats.specs.Rounding.{roundedOf}
 
--- RULES, Durations: no state is estimated below one frame; `roundedOf` gives no less
-abbrev pub shortest : ℕ
-shortest = 1
-
 -- RULES, Durations: the mean plus rho times the variance, each operation rounded, then the nearest whole number, a half away from zero, and at least 1
 abbrev pub estimateOf : Float → Float → Float → ℕ
 estimateOf rho mean vari = roundedOf (add binary64 mean (mul binary64 rho vari))

@@ -9,8 +9,8 @@ use Rattle.lists.specs.Sizes.{mostFrames}
 use Rattle.lists.specs.Totals.{total}
 use Rattle.model.specs.Pair.{sumOf}
 use Rattle.floats.specs.Numbers.{number}
-use Rattle.duration.specs.Estimate.{shortest, estimates}
-use Rattle.duration.specs.Steps.{Outcome, unchanged, settle}
+use Rattle.duration.specs.Estimate.{estimates}
+use Rattle.steps.specs.Steps.{shortest, Outcome, unchanged, settle}
 
 -- RULES, Durations: rho is the target less the sum of the means, over the sum of the variances; each sum runs from zero, left to right
 abbrev pub rhoOf : List Float → List Float → ℕ → Float

@@ -11,8 +11,7 @@ use Rattle.duration.specs.declared.Fitted.{Fitted}
 use Rattle.duration.specs.declared.Fitted.the-variants.{Done}
 use Rattle.duration.specs.declared.Aligned.{Aligned}
 use Rattle.duration.specs.declared.Aligned.the-variants.{Written}
-use Rattle.duration.specs.Estimate.{shortest}
-use Rattle.duration.specs.Steps.{Outcome, unchanged, Settles}
+use Rattle.steps.specs.Steps.{shortest, Outcome, unchanged, Settles}
 use Rattle.duration.specs.Fit.{rhoOf, startOf}
 use Rattle.duration.specs.Align.{Group, within, targetOf}
 

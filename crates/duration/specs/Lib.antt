@@ -1,6 +1,5 @@
 -- What the contracts of src/ cite, in reading order. What only private contracts and proofs need is in Inner.
 pub mod Estimate  -- a state's estimate
-pub mod Steps  -- the cost of a duration, and the rule of steps
 pub mod Fit  -- the fit to a length
 pub mod Speed  -- the fit at a speed
 pub mod Align  -- the fit to given ends

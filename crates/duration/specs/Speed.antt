@@ -9,7 +9,7 @@ use Rattle.lists.specs.Totals.{total}
 use Rattle.floats.specs.Rounding.{roundedOf}
 use Rattle.floats.specs.Numbers.{nought, one, number}
 use Rattle.duration.specs.Estimate.{estimates}
-use Rattle.duration.specs.Steps.{Outcome, unchanged}
+use Rattle.steps.specs.Steps.{Outcome, unchanged}
 use Rattle.duration.specs.Fit.{fitTo, refusalTo}
 
 -- RULES, Durations: a speed's first estimate has rho 0

@@ -4,6 +4,7 @@ ghost use Rattle.duration.specs.Estimate.{estimateOf, estimates};
 ghost use Rattle.duration.specs.Fit.{rhoOf, fitTo, refusalTo};
 ghost use Rattle.duration.specs.Inner.Asked.{Agree, InPlace};
 use crate::Fitted;
+use steps::Settled;
 
 fn estimate(rho: f64, mean: f64, vari: f64) -> u32
     ensures { λ r. ⌜ r ≡ estimateOf rho mean vari ⌝ }
@@ -48,9 +49,8 @@ pub(crate) fn fit(means: &[f64], varis: &[f64], target: u32, work: &mut [u32]) -
     }
     let rho = rho_of(means, varis, target);
     estimate_duration(means, varis, rho, work);
-    let sum = lists::total_u32(work);
-    if sum > 65_536 {
+    let Settled::Done(changes) = steps::settle(rho, target, means, varis, work) else {
         return Fitted::Refused(8);
-    }
-    Fitted::Done(crate::steps::settle(sum as u32, target, rho, means, varis, work))
+    };
+    Fitted::Done(changes)
 }

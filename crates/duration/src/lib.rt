@@ -4,13 +4,8 @@ ghost use Rattle.duration.specs.Inner.Asked.{HandsOut};
 ghost use Rattle.duration.specs.Promise.{refusalOfLists, refusalOfLabels, FitSays, SpeedSays, AlignSays};
 
 mod align;
-mod costs;
 mod fit;
-mod pack;
-mod scan;
 mod speed;
-mod steps;
-mod tree;
 
 pub enum Fitted {
     Done(u32),

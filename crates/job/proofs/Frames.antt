@@ -11,8 +11,7 @@ use borrow.Author.Tests.{eqb-false, leb-false, ltb-false}
 use Rattle.lists.specs.Sizes.{mostFrames}
 use Rattle.lists.specs.Totals.{total}
 use Rattle.floats.specs.Numbers.{nought, one}
-use Rattle.duration.specs.Estimate.{shortest}
-use Rattle.duration.specs.Steps.{Outcome, unchanged}
+use Rattle.steps.specs.Steps.{shortest, Outcome, unchanged}
 use Rattle.duration.specs.Fit.{startOf, plain, fitTo, refusalTo}
 use Rattle.duration.specs.Speed.{naturals, targetAt, fitAt, refusalAt}
 use Rattle.duration.proofs.Refusals.{cond-none}

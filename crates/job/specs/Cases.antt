@@ -12,7 +12,7 @@ use Rattle.floats.specs.Order.{absOf, costBelow}
 use Rattle.model.specs.Pair.{pairsOf, sumOf}
 use Rattle.floats.specs.Numbers.{number}
 use Rattle.duration.specs.Estimate.{estimates}
-use Rattle.duration.specs.Steps.{keyOf, keys, leastOf, step, settle}
+use Rattle.steps.specs.Steps.{keyOf, keys, leastOf, step, settle}
 use Rattle.duration.specs.Fit.{startOf, fitTo, refusalTo}
 use Rattle.duration.specs.Speed.{naturals, targetAt, fitAt, refusalAt}
 use Rattle.duration.specs.Promise.{workOf, refusalOfLists}

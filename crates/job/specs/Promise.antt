@@ -4,7 +4,7 @@ use Prim.Native.Nat.{ℕ}
 use lib.ListN.{length}
 use Rattle.lists.specs.Refusals.{orElse}
 use Rattle.lists.specs.Totals.{total}
-use Rattle.duration.specs.Steps.{Outcome}
+use Rattle.steps.specs.Steps.{Outcome}
 use Rattle.duration.specs.Speed.{fitAt, refusalAt}
 use Rattle.lists.specs.Answers.{Answer}
 use Rattle.duration.specs.Promise.{refusalOfLists, Says}

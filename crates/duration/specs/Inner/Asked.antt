@@ -1,9 +1,8 @@
 -- What the crate's own functions ask of each other and give. No public call's promise names any of it.
 use mathlib.Core.Path.{_≡_}
-use mathlib.Core.Bool.{Bool, true, false}
 use mathlib.Core.List.{List, [], _∷_, _++_}
 use Prim.Native.Nat.{ℕ, _*_, _≤_, _<_}
-use lib.ListN.{length, getD, set, take, drop, replicate}
+use lib.ListN.{length, take, drop, replicate}
 use lib.Seq.{sets}
 use lib.Ieee.{Float}
 use Rattle.lists.specs.Sizes.{mostFrames, mostStates}
@@ -13,10 +12,7 @@ use Rattle.duration.specs.declared.Fitted.the-variants.{Done, Refused}
 use Rattle.duration.specs.declared.Aligned.{Aligned}
 use Rattle.duration.specs.declared.align.Closed.{Closed}
 use Rattle.duration.specs.declared.align.Closed.the-variants.{Grown, Barred}
-use Rattle.duration.specs.Steps.{Outcome, step}
-use Rattle.duration.specs.Inner.Scores.{keyAt, scores}
-use Rattle.duration.specs.Inner.Tree.{Kept}
-use Rattle.duration.specs.Inner.Pack.{lows, highs}
+use Rattle.steps.specs.Steps.{Outcome}
 use Rattle.duration.specs.Align.{Group, fitOf, refusalOf}
 use Rattle.lists.specs.Answers.{Answer, answerOf}
 use Rattle.duration.specs.Promise.{fitted, aligned}
@@ -26,56 +22,6 @@ pub record Agree (ms vs : List Float) (work : List ℕ) : Type 0 where
   pub few : length ms ≤ mostStates
   pub varis : length vs ≡ length ms
   pub workspace : length work ≡ length ms
-
--- durations that a step is taken from
-pub record Ready (ms vs : List Float) (ds : List ℕ) : Type 0 where
-  pub some : 0 < length ms
-  pub few : length ms ≤ mostStates
-  pub varis : length vs ≡ length ms
-  pub work : length ds ≡ length ms
-  pub small : total ds ≤ mostFrames
-
--- there is room for a step up (true) or down (false), of n states with this total
-abbrev pub RoomFor : Bool → ℕ → ℕ → Type 0
-RoomFor true n sum = sum < mostFrames
-RoomFor false n sum = n < sum
-
--- a number that a step up or down may change
-abbrev pub MayMove : Bool → ℕ → Type 0
-MayMove true d = d ≤ mostFrames
-MayMove false d = 1 ≤ d
-
--- what the rule is asked for: a target above the count, from a start whose total is known
-pub record Aim (ms : List Float) (ds : List ℕ) (sum target : ℕ) : Type 0 where
-  pub known : sum ≡ total ds
-  pub above : length ms < target
-  pub within : target ≤ mostFrames
-
--- no other state is above 1
-abbrev pub Lone : List ℕ → ℕ → Type 0
-Lone ds p = (j : ℕ) → (j ≡ p → ⊥) → getD ds j 0 ≤ 1
-
--- a duration or a node's place stored in a packed list, with all else as it was
-pub record PutsDuration (w : List ℕ) (p d : ℕ) (w′ : List ℕ) : Type 0 where
-  pub durations : lows w′ ≡ set (lows w) p d
-  pub tree : highs w′ ≡ highs w
-
-pub record PutsPlace (w : List ℕ) (i p : ℕ) (w′ : List ℕ) : Type 0 where
-  pub durations : lows w′ ≡ lows w
-  pub tree : highs w′ ≡ set (highs w) i p
-
--- the tree of a packed list is played out over its durations
-abbrev pub Standing : Bool → Float → List Float → List Float → List ℕ → Type 0
-Standing up rho ms vs w = Kept (scores (keyAt up rho ms vs (lows w))) (highs w) 1
-
-pub record Plays (up : Bool) (rho : Float) (ms vs : List Float) (w w′ : List ℕ) : Type 0 where
-  pub durations : lows w′ ≡ lows w
-  pub tree : Standing up rho ms vs w′
-
--- and one step is taken
-pub record Stepped (up : Bool) (rho : Float) (ms vs : List Float) (w w′ : List ℕ) : Type 0 where
-  pub durations : lows w′ ≡ step up rho ms vs (lows w)
-  pub tree : Standing up rho ms vs w′
 
 -- an outcome in place, or its refusal
 pub record InPlace (k : ℕ) (o : Outcome) (r : Fitted) (work′ : List ℕ) : Type 0 where

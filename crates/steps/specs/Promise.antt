@@ -1,0 +1,27 @@
+-- What the call promises.
+use mathlib.Core.Path.{_≡_}
+use mathlib.Core.Bool.{Bool, cond, _&&_}
+use mathlib.Core.List.{List}
+use Prim.Native.Nat.{ℕ}
+use lib.Dec.{ltb, leb, eqb}
+use lib.ListN.{length}
+use lib.Ieee.{Float}
+use Rattle.lists.specs.Sizes.{mostStates, mostFrames}
+use Rattle.lists.specs.Totals.{total}
+use Rattle.steps.specs.declared.Settled.{Settled}
+use Rattle.steps.specs.declared.Settled.the-variants.{Done, Over}
+use Rattle.steps.specs.Steps.{settle}
+
+-- whether there is anything to settle: 1 to 4,096 states, of which v have a variance and d a duration, and a target above their number and within 65,536 frames
+abbrev pub opens : ℕ → ℕ → ℕ → ℕ → Bool
+opens n v d t = ltb 0 n && leb n mostStates && eqb v n && eqb d n && ltb n t && leb t mostFrames
+
+-- RULES, Refusals: a start above 65,536 frames is too long
+abbrev pub tooLong : List ℕ → Bool
+tooLong ds = ltb mostFrames (total ds)
+
+-- `settle`: the steps that the rule takes, and where it ends; with a start that is too long, or where the lists don't fit, no step is taken. The rule starts
+-- and ends within 65,536 frames, so it takes no more steps.
+pub record SettleSays (rho : Float) (t : ℕ) (ms vs : List Float) (ds : List ℕ) (r : Settled) (ds′ : List ℕ) : Type 0 where
+  pub answer : r ≡ cond (opens (length ms) (length vs) (length ds) t) (cond (tooLong ds) Over (Done (settle mostFrames rho ms vs t ds .changes))) (Done 0)
+  pub durations : ds′ ≡ cond (opens (length ms) (length vs) (length ds) t) (cond (tooLong ds) ds (settle mostFrames rho ms vs t ds .durations)) ds

@@ -1,0 +1,70 @@
+// The step rule by scans of all states: the way for few steps or few states.
+ghost use mathlib.Core.Path.{_≡_};
+ghost use Prim.Native.Nat.{_<_};
+ghost use lib.ListN.{length};
+ghost use Rattle.lists.specs.Sizes.{mostFrames};
+ghost use Rattle.lists.specs.Totals.{total};
+ghost use Rattle.steps.specs.Steps.{keys, leastOf, step, settle};
+ghost use Rattle.steps.specs.Inner.Scores.{keyAt, entryOf};
+ghost use Rattle.steps.specs.Inner.Asked.{Ready, RoomFor, Aim};
+use crate::costs::Entry;
+
+// The state at a place, with its key.
+fn entry_of(up: bool, rho: f64, means: &[f64], varis: &[f64], work: &[u32], p: usize) -> Entry
+    requires { ⌜ Ready (now means) (now varis) (now work) ⌝ }
+    requires { ⌜ p < length (now means) ⌝ }
+    ensures { λ r. ⌜ r ≡ entryOf (keyAt up rho (now (means .entry)) (now (varis .entry)) (now (work .entry))) p ⌝ }
+{
+    Entry {
+        place: p,
+        key: crate::costs::key_of(up, rho, means[p], varis[p], work[p]),
+    }
+}
+
+// The place of the state that a step changes.
+fn least_of(up: bool, rho: f64, means: &[f64], varis: &[f64], work: &[u32]) -> usize
+    requires { ⌜ Ready (now means) (now varis) (now work) ⌝ }
+    ensures { λ r. ⌜ r ≡ leastOf (keys up rho (now (means .entry)) (now (varis .entry)) (now (work .entry))) ⌝ }
+{
+    let mut best = entry_of(up, rho, means, varis, work, 0);
+    let mut i = 1;
+    while i < means.len() {
+        let next = entry_of(up, rho, means, varis, work, i);
+        best = crate::costs::better_of(best, next);
+        i += 1;
+    }
+    best.place
+}
+
+fn step_once(up: bool, rho: f64, means: &[f64], varis: &[f64], work: &mut [u32])
+    requires { ⌜ Ready (now means) (now varis) (now work) ⌝ }
+    requires { ⌜ RoomFor up (length (now means)) (total (now work)) ⌝ }
+    ensures { λ _. ⌜ now (work .exit) ≡ step up rho (now (means .entry)) (now (varis .entry)) (now (work .entry)) ⌝ }
+{
+    let i = least_of(up, rho, means, varis, work);
+    work[i] = crate::moved_one(up, work[i]);
+}
+
+// Steps until the total is the target, and how many.
+pub(crate) fn settle(
+    sum: u32,
+    target: u32,
+    rho: f64,
+    means: &[f64],
+    varis: &[f64],
+    work: &mut [u32],
+) -> u32
+    requires { ⌜ Ready (now means) (now varis) (now work) ⌝ }
+    requires { ⌜ Aim (now means) (now work) sum target ⌝ }
+    ensures { λ r. ⌜ settle mostFrames rho (now (means .entry)) (now (varis .entry)) target (now (work .entry)) ≡ record { durations = now (work .exit); changes = r } ⌝ }
+{
+    let up = sum < target;
+    let mut now_at = sum;
+    let mut changes = 0;
+    while now_at != target {
+        step_once(up, rho, means, varis, work);
+        now_at = crate::moved_one(up, now_at);
+        changes += 1;
+    }
+    changes
+}
