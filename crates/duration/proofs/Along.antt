@@ -12,12 +12,12 @@ use lib.Ieee.{Float, nan}
 use borrow.Author.Tests.{ltb-false}
 use Rattle.lists.specs.Sizes.{mostFrames}
 use Rattle.lists.specs.Totals.{total}
-use Rattle.duration.specs.declared.Aligned.the-variants.{Written, Denied}
+use Rattle.duration.specs.declared.Aligned.the-variants as align
 use Rattle.duration.specs.declared.align.End.{End}
 use Rattle.duration.specs.declared.align.End.the-variants.{At, Open}
 use Rattle.duration.specs.declared.align.Label.{Label}
 use Rattle.duration.specs.declared.align.Closed.{Closed}
-use Rattle.duration.specs.declared.align.Closed.the-variants.{Grown, Barred}
+use Rattle.duration.specs.declared.align.Closed.the-variants as close
 use Rattle.steps.specs.Steps.{Outcome, unchanged}
 use Rattle.duration.specs.Fit.{refusalTo}
 use Rattle.lists.specs.Refusals.{orElse}
@@ -75,7 +75,7 @@ module _ (ms vs : List Float) (k : ℕ) (ends : List Float) where
       }
 
   module _ (start work : List ℕ) (done first frames changes i : ℕ) (l : Labelled ms vs k ends start) (a : Along start work done first frames changes i) where
-    pub along-done : length ends ≤ i → AtFront (refusalAlong ms vs (groups k 0 0 ends) 0) (fitAlong ms vs (groups k 0 0 ends) 0) (Written done changes) work
+    pub along-done : length ends ≤ i → AtFront (refusalAlong ms vs (groups k 0 0 ends) 0) (fitAlong ms vs (groups k 0 0 ends) 0) (align.Done done changes) work
     unfolding groups fitAlong refusalAlong
     along-done h =
         let d : drop i ends ≡ [] = drop-of-length-le ends h in
@@ -132,18 +132,18 @@ module _ (ms vs : List Float) (k : ℕ) (ends : List Float) where
           abbrev later : List Group
           later = left (label .first + k) (label .first + k) (i + 1)
 
-          along-barred : (m n : ℕ) → r ≡ Barred m → n ≡ closed r .number → (w : List ℕ) → AtFront (refusalAlong ms vs (groups k 0 0 ends) 0) (fitAlong ms vs (groups k 0 0 ends) 0) (Denied n) w
+          along-refused : (m n : ℕ) → r ≡ close.Refused m → n ≡ closed r .number → (w : List ℕ) → AtFront (refusalAlong ms vs (groups k 0 0 ends) 0) (fitAlong ms vs (groups k 0 0 ends) 0) (align.Refused n) w
           unfolding refusalAlong
-          along-barred m n b p w =
+          along-refused m n b p w =
               let s = refused-is m (refusalOf ms vs group frames) _ _ (ap closed (sym b) ∙ f .answer) in
               let y : refusalAlong ms vs (groups k 0 0 ends) 0 ≡ n =
               sym (a .refusal) ∙ ap (λ (gs : List Group). refusalAlong ms vs gs frames) (here (At end) q) ∙ or-first (refusalOf ms vs group frames) _ (s .1) ∙ s .0 ∙ sym (p ∙ ap (λ (x : Closed). closed x .number) b) in
               let z : refusalAlong ms vs (groups k 0 0 ends) 0 ≡ 0 → ⊥ = λ v. s .1 (s .0 ∙ sym (p ∙ ap (λ (x : Closed). closed x .number) b) ∙ sym y ∙ v) in
               record { answer = ap refusing (sym y) ∙ refused (refusalAlong ms vs (groups k 0 0 ends) 0) _ z; output = λ v. absurd (z v) }
 
-          module _ (c s : ℕ) (b : r ≡ Grown c s) where
-            grown : (refusalOf ms vs group frames ≡ 0) × (closed (Grown c s) .values ≡ fitOf ms vs group frames .changes ∷ total (fitOf ms vs group frames .durations) ∷ [])
-            grown = accepted-is (closed (Grown c s)) (refusalOf ms vs group frames) _ (ap closed (sym b) ∙ f .answer) refl
+          module _ (c s : ℕ) (b : r ≡ close.Grown c s) where
+            grown : (refusalOf ms vs group frames ≡ 0) × (closed (close.Grown c s) .values ≡ fitOf ms vs group frames .changes ∷ total (fitOf ms vs group frames .durations) ∷ [])
+            grown = accepted-is (closed (close.Grown c s)) (refusalOf ms vs group frames) _ (ap closed (sym b) ∙ f .answer) refl
 
             changes-is : c ≡ fitOf ms vs group frames .changes
             changes-is = let v = grown .1 in cc
@@ -194,10 +194,10 @@ module _ (ms vs : List Float) (k : ℕ) (ends : List Float) where
     pub closes : Closes ms vs (record { from = done; to = label .first + k; end = end }) frames work r work′
 
   module _ {start work : List ℕ} {done first frames changes i : ℕ} {label : Label} {end : Float} {r : Closed} {work′ : List ℕ} (t : Turn start work done first frames changes i label end r work′) where
-    pub turn-barred : (m n : ℕ) → r ≡ Barred m → n ≡ closed r .number → (w : List ℕ) → AtFront (refusalAlong ms vs (groups k 0 0 ends) 0) (fitAlong ms vs (groups k 0 0 ends) 0) (Denied n) w
-    turn-barred = along-barred start work done first frames changes i (t .labels) (t .before) (t .here) label (t .made) end (t .given) r work′ (t .closes)
+    pub turn-refused : (m n : ℕ) → r ≡ close.Refused m → n ≡ closed r .number → (w : List ℕ) → AtFront (refusalAlong ms vs (groups k 0 0 ends) 0) (fitAlong ms vs (groups k 0 0 ends) 0) (align.Refused n) w
+    turn-refused = along-refused start work done first frames changes i (t .labels) (t .before) (t .here) label (t .made) end (t .given) r work′ (t .closes)
 
-    module _ (c s : ℕ) (b : r ≡ Grown c s) where
+    module _ (c s : ℕ) (b : r ≡ close.Grown c s) where
       pub turn-frames : frames + s ≤ mostFrames
       turn-frames = grown-frames start work done first frames changes i (t .labels) (t .before) (t .here) label (t .made) end (t .given) r work′ (t .closes) c s b
 

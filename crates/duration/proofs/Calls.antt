@@ -11,15 +11,15 @@ use borrow.Author.Tests.{ne-eqb}
 use Rattle.lists.proofs.Stores.{filled, copied}
 use Rattle.lists.proofs.Answers.{refusing, Same, same, untouched, refused-is, accepted-is}
 use Rattle.duration.specs.declared.Fitted.{Fitted}
-use Rattle.duration.specs.declared.Fitted.the-variants.{Done, Refused}
+use Rattle.duration.specs.declared.Fitted.the-variants as fit
 use Rattle.duration.specs.declared.Aligned.{Aligned}
-use Rattle.duration.specs.declared.Aligned.the-variants.{Written, Denied}
+use Rattle.duration.specs.declared.Aligned.the-variants as align
 use Rattle.lists.specs.Refusals.{orElse}
 use Rattle.duration.specs.Inner.Asked.{outputAfter, HandsOut}
 use Rattle.lists.specs.Answers.{Answer, answerOf}
 use Rattle.duration.specs.Promise.{fitted, aligned, clears, workOf, Says, FitSays, SpeedSays, AlignSays}
 
-pub handed : (r : Fitted) (c : ℕ) (new out out′ : List ℕ) → r ≡ Done c → out′ ≡ new → out′ ≡ outputAfter r new out
+pub handed : (r : Fitted) (c : ℕ) (new out out′ : List ℕ) → r ≡ fit.Done c → out′ ≡ new → out′ ≡ outputAfter r new out
 handed r c new out out′ e f = rw e f
 
 module _ (n : ℕ) (values new out work : List ℕ) where
@@ -62,8 +62,8 @@ module _ (n k : ℕ) (new out work w : List ℕ) (long : length w ≡ n) (late :
 
   -- a fit's outcome, handed out
   pub says-handed : (v : ℕ) (r s : Fitted) (out′ work′ : List ℕ) → fitted r ≡ answerOf k (v ∷ []) → (k ≡ 0 → w ≡ new) → n ≤ length out → HandsOut r n out (w ++ drop n work) s out′ work′ → Says (orElse 0 k) (v ∷ []) new n out work (fitted s) out′ work′
-  says-handed v (Done c) s out′ work′ e t room h = says-whole (v ∷ []) (fitted s) out′ work′ (ap fitted (h .same) ∙ e) (ap (λ (x : Fitted). fitted x .number) (h .same)) room t (h .output) (h .workspace)
-  says-handed v (Refused m) s out′ work′ e t room h = rw (h .output) (says-late v [] m (fitted s) work′ (ap fitted (h .same)) (ap fitted (h .same) ∙ e) (h .workspace))
+  says-handed v (fit.Done c) s out′ work′ e t room h = says-whole (v ∷ []) (fitted s) out′ work′ (ap fitted (h .same) ∙ e) (ap (λ (x : Fitted). fitted x .number) (h .same)) room t (h .output) (h .workspace)
+  says-handed v (fit.Refused m) s out′ work′ e t room h = rw (h .output) (says-late v [] m (fitted s) work′ (ap fitted (h .same)) (ap fitted (h .same) ∙ e) (h .workspace))
 
   -- the first m of them are
   pub says-front : (m c u : ℕ) (a : Answer) (out′ work′ : List ℕ) → a ≡ record { number = 0; values = m ∷ c ∷ [] } → a ≡ answerOf k (length new ∷ u ∷ []) → n ≤ length out → (k ≡ 0 → take (length new) w ≡ new)
@@ -78,16 +78,16 @@ module _ (n k : ℕ) (new out work w : List ℕ) (long : length w ≡ n) (late :
 -- ---- two outcomes of one call are equal
 
 fitted-one : (r s : Fitted) → Same (fitted r) (fitted s) → r ≡ s
-fitted-one (Done c) (Done d) e = let q = e .1 in cc
-fitted-one (Done c) (Refused k) e = absurd (let q = e .1 in let z : _≡_ {A = ℕ} 0 1 = cc in omega arith)
-fitted-one (Refused k) (Done d) e = absurd (let q = e .1 in let z : _≡_ {A = ℕ} 0 1 = cc in omega arith)
-fitted-one (Refused k) (Refused l) e = ap Refused (e .0)
+fitted-one (fit.Done c) (fit.Done d) e = let q = e .1 in cc
+fitted-one (fit.Done c) (fit.Refused k) e = absurd (let q = e .1 in let z : _≡_ {A = ℕ} 0 1 = cc in omega arith)
+fitted-one (fit.Refused k) (fit.Done d) e = absurd (let q = e .1 in let z : _≡_ {A = ℕ} 0 1 = cc in omega arith)
+fitted-one (fit.Refused k) (fit.Refused l) e = ap fit.Refused (e .0)
 
 aligned-one : (r s : Aligned) → Same (aligned r) (aligned s) → r ≡ s
-aligned-one (Written v c) (Written w d) e = let q = e .1 in cc
-aligned-one (Written v c) (Denied k) e = absurd (let q = e .1 in let z : _≡_ {A = ℕ} 0 1 = cc in omega arith)
-aligned-one (Denied k) (Written w d) e = absurd (let q = e .1 in let z : _≡_ {A = ℕ} 0 1 = cc in omega arith)
-aligned-one (Denied k) (Denied l) e = ap Denied (e .0)
+aligned-one (align.Done v c) (align.Done w d) e = let q = e .1 in cc
+aligned-one (align.Done v c) (align.Refused k) e = absurd (let q = e .1 in let z : _≡_ {A = ℕ} 0 1 = cc in omega arith)
+aligned-one (align.Refused k) (align.Done w d) e = absurd (let q = e .1 in let z : _≡_ {A = ℕ} 0 1 = cc in omega arith)
+aligned-one (align.Refused k) (align.Refused l) e = ap align.Refused (e .0)
 
 module _ (k : ℕ) (values new : List ℕ) (n : ℕ) (out work o₁ o₂ w₁ w₂ : List ℕ) where
   says-one : (a b : Answer) → Says k values new n out work a o₁ w₁ → Says k values new n out work b o₂ w₂ → (a ≡ b) × (o₁ ≡ o₂) × (w₁ ≡ w₂)

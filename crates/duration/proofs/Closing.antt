@@ -14,10 +14,10 @@ use Rattle.lists.specs.Totals.{total}
 use Rattle.lists.proofs.Sums.{total-whole}
 use Rattle.lists.proofs.Refusals.{or-first}
 use Rattle.duration.specs.declared.Fitted.{Fitted}
-use Rattle.duration.specs.declared.Fitted.the-variants.{Done, Refused}
-use Rattle.duration.specs.declared.align.Closed.the-variants.{Grown, Barred}
+use Rattle.duration.specs.declared.Fitted.the-variants as fit
+use Rattle.duration.specs.declared.align.Closed.the-variants as close
 use Rattle.steps.specs.Steps.{Outcome, unchanged}
-use Rattle.duration.specs.Fit.{plain, fitTo, refusalTo}
+use Rattle.duration.specs.Fit.{atShortest, fitTo, refusalTo}
 use Rattle.lists.specs.Refusals.{orElse}
 use Rattle.duration.specs.Align.{Group, within, targetOf, fitOf, refusalOf, refusalAlong}
 use Rattle.duration.specs.Promise.{fitted, clears}
@@ -33,30 +33,30 @@ module _ (ms vs : List Float) (g : Group) (frames : ℕ) (work w work′ : List 
   own = refusalTo (within g ms) (within g vs) (targetOf g frames)
 
   module _ (r : Fitted) (f : InPlace own (fitOf ms vs g frames) r w) where
-    pub close-barred : (m k : ℕ) → r ≡ Refused m → k ≡ fitted r .number → Closes ms vs g frames work (Barred k) work′
+    pub close-refused : (m k : ℕ) → r ≡ fit.Refused m → k ≡ fitted r .number → Closes ms vs g frames work (close.Refused k) work′
     unfolding refusalOf
-    close-barred m k e q =
+    close-refused m k e q =
         let s = refused-is m own _ [] (ap fitted (sym e) ∙ f .answer) in
         let o : refusalOf ms vs g frames ≡ own = or-first own _ (s .1) in
         let z : refusalOf ms vs g frames ≡ 0 → ⊥ = λ q. s .1 (sym o ∙ q) in
         let n : k ≡ refusalOf ms vs g frames = q ∙ ap (λ (x : Fitted). fitted x .number) e ∙ sym (o ∙ s .0) in
         record { answer = ap refusing n ∙ refused (refusalOf ms vs g frames) _ z; output = λ q. absurd (z q) }
 
-    module _ (c s : ℕ) (e : r ≡ Done c) (sum : s ≡ total w) where
-      done : (own ≡ 0) × (fitted (Done c) .values ≡ fitOf ms vs g frames .changes ∷ [])
-      done = accepted-is (fitted (Done c)) own _ (ap fitted (sym e) ∙ f .answer) refl
+    module _ (c s : ℕ) (e : r ≡ fit.Done c) (sum : s ≡ total w) where
+      done : (own ≡ 0) × (fitted (fit.Done c) .values ≡ fitOf ms vs g frames .changes ∷ [])
+      done = accepted-is (fitted (fit.Done c)) own _ (ap fitted (sym e) ∙ f .answer) refl
 
       sum-is : s ≡ total (fitOf ms vs g frames .durations)
       sum-is = sum ∙ ap total (f .output (done .0))
 
-      pub close-long : mostFrames < frames + s → Closes ms vs g frames work (Barred 8) work′
+      pub close-long : mostFrames < frames + s → Closes ms vs g frames work (close.Refused 8) work′
       unfolding refusalOf
       close-long h =
           let l : mostFrames < frames + total (fitOf ms vs g frames .durations) = rw (← sum-is) h in
           let o : refusalOf ms vs g frames ≡ 8 = rw (done .0, lt-ltb mostFrames (frames + total (fitOf ms vs g frames .durations)) l) in
           record { answer = rw o; output = λ q. absurd (omega arith) }
 
-      pub close-grown : frames + s ≤ mostFrames → work′ ≡ take (g .from) work ++ (w ++ drop (g .to) work) → Closes ms vs g frames work (Grown c s) work′
+      pub close-grown : frames + s ≤ mostFrames → work′ ≡ take (g .from) work ++ (w ++ drop (g .to) work) → Closes ms vs g frames work (close.Grown c s) work′
       unfolding refusalOf
       close-grown h p =
           let l : frames + total (fitOf ms vs g frames .durations) ≤ mostFrames = rw (← sum-is) h in
@@ -80,7 +80,7 @@ cond-few false p q m h k = k
 
 pub fit-few : (ms vs : List Float) (t : ℕ) → fitTo ms vs t .changes ≤ mostFrames
 unfolding fitTo
-fit-few ms vs t = cond-few (plain (length ms) t) (unchanged _) _ mostFrames zero-le (settle-few _ ms vs t mostFrames _)
+fit-few ms vs t = cond-few (atShortest (length ms) t) (unchanged _) _ mostFrames zero-le (settle-few _ ms vs t mostFrames _)
 
 -- ---- a group's refusals, and a run's, clear the work space
 

@@ -18,9 +18,9 @@ use Rattle.lists.proofs.Numbers.{le-or-lt}
 use Rattle.floats.specs.Rounding.{Integral, undefined, endless, whole, toIntegral, framesOf, roundedOf}
 use Rattle.floats.specs.Numbers.{nought, one}
 use Rattle.duration.specs.declared.Fitted.{Fitted}
-use Rattle.duration.specs.declared.Fitted.the-variants.{Done, Refused}
+use Rattle.duration.specs.declared.Fitted.the-variants as fit
 use Rattle.duration.specs.declared.Aligned.{Aligned}
-use Rattle.duration.specs.declared.Aligned.the-variants.{Written, Denied}
+use Rattle.duration.specs.declared.Aligned.the-variants as align
 use Rattle.duration.specs.Estimate.{estimates}
 use Rattle.steps.specs.Steps.{shortest, Outcome, unchanged, settle}
 use Rattle.duration.specs.Fit.{rhoOf, startOf, fitTo, refusalTo}
@@ -144,13 +144,13 @@ module _ (ms vs : List Float) (t : ℕ) (some : 0 < length ms) (agree : length v
       fair (ltb-false mostFrames t (b .0)) (ltb-false mostFrames (total (startOf ms vs t)) (cond-none (ltb mostFrames (total (startOf ms vs t))) 7 0 c .0))
 
 -- an answer that is accepted
-done-is : (r : Fitted) (o : Outcome) → fitted r ≡ answerOf 0 (o .changes ∷ []) → r ≡ Done (o .changes)
-done-is (Done c) o e = let q : c ∷ [] ≡ o .changes ∷ [] = ap (λ (a : Answer). a .values) e in cc
-done-is (Refused k) o e = absurd (let q : _≡_ {A = List ℕ} [] (o .changes ∷ []) = ap (λ (a : Answer). a .values) e in let z : _≡_ {A = ℕ} 0 1 = cc in omega arith)
+fitted-is : (r : Fitted) (o : Outcome) → fitted r ≡ answerOf 0 (o .changes ∷ []) → r ≡ fit.Done (o .changes)
+fitted-is (fit.Done c) o e = let q : c ∷ [] ≡ o .changes ∷ [] = ap (λ (a : Answer). a .values) e in cc
+fitted-is (fit.Refused k) o e = absurd (let q : _≡_ {A = List ℕ} [] (o .changes ∷ []) = ap (λ (a : Answer). a .values) e in let z : _≡_ {A = ℕ} 0 1 = cc in omega arith)
 
-written-is : (r : Aligned) (o : Outcome) → aligned r ≡ answerOf 0 (length (o .durations) ∷ o .changes ∷ []) → r ≡ Written (length (o .durations)) (o .changes)
-written-is (Written w c) o e = let q : w ∷ c ∷ [] ≡ length (o .durations) ∷ o .changes ∷ [] = ap (λ (a : Answer). a .values) e in cc
-written-is (Denied k) o e = absurd (let q : _≡_ {A = List ℕ} [] (length (o .durations) ∷ o .changes ∷ []) = ap (λ (a : Answer). a .values) e in let z : _≡_ {A = ℕ} 0 1 = cc in omega arith)
+aligned-is : (r : Aligned) (o : Outcome) → aligned r ≡ answerOf 0 (length (o .durations) ∷ o .changes ∷ []) → r ≡ align.Done (length (o .durations)) (o .changes)
+aligned-is (align.Done w c) o e = let q : w ∷ c ∷ [] ≡ length (o .durations) ∷ o .changes ∷ [] = ap (λ (a : Answer). a .values) e in cc
+aligned-is (align.Refused k) o e = absurd (let q : _≡_ {A = List ℕ} [] (length (o .durations) ∷ o .changes ∷ []) = ap (λ (a : Answer). a .values) e in let z : _≡_ {A = ℕ} 0 1 = cc in omega arith)
 
 -- a call of one of the first two kinds whose outcome is the fit to t
 module _ (ms vs : List Float) (t : ℕ) (out work : List ℕ) (m : Ample ms vs t out work) where
@@ -166,7 +166,7 @@ module _ (ms vs : List Float) (t : ℕ) (out work : List ℕ) (m : Ample ms vs t
       let g : Fair ms vs t (fitTo ms vs t) = fair ms vs t (m .some) (m .agree) (m .above) (m .within) (m .start) in
       record {
         outcome = fitTo ms vs t;
-        answer = done-is r (fitTo ms vs t) (f .answer ∙ ap (λ (n : ℕ). answerOf n (fitTo ms vs t .changes ∷ [])) z);
+        answer = fitted-is r (fitTo ms vs t) (f .answer ∙ ap (λ (n : ℕ). answerOf n (fitTo ms vs t .changes ∷ [])) z);
         output = f .output ∙ rw (z, g .count);
         fair = g;
       }
@@ -197,9 +197,9 @@ part-some : (a n : ℕ) (ms : List Float) → 0 < n → a < length ms → 0 < le
 part-some a n ms h k = rw (length-take n (drop a ms), length-drop a ms) (omega arith)
 
 -- a target that is not above the count
-plain-fit : (ms vs : List Float) (t : ℕ) → 0 < length ms → t ≤ length ms → fitTo ms vs t ≡ unchanged (replicate (length ms) shortest)
+shortest-fit : (ms vs : List Float) (t : ℕ) → 0 < length ms → t ≤ length ms → fitTo ms vs t ≡ unchanged (replicate (length ms) shortest)
 unfolding fitTo
-plain-fit ms vs t some h = rw (ne-eqb (length ms) 0 (λ q. omega arith), le-leb t (length ms) h)
+shortest-fit ms vs t some h = rw (ne-eqb (length ms) 0 (λ q. omega arith), le-leb t (length ms) h)
 
 group-fair : (ms vs : List Float) (g : Group) (frames : ℕ) → refusalOf ms vs g frames ≡ 0 → length (within g vs) ≡ length (within g ms) → 0 < length (within g ms) → FairGroup ms vs g frames (fitOf ms vs g frames)
 unfolding refusalOf
@@ -207,11 +207,11 @@ group-fair ms vs g frames r e z =
     let n : ℕ = length (within g ms) in
     let t : ℕ = targetOf g frames in
     let above : n < t → Fair (within g ms) (within g vs) t (fitOf ms vs g frames) = λ a. fair-fit (within g ms) (within g vs) t z e a (or-none (refusalTo (within g ms) (within g vs) t) _ r .0) in
-    let plain : t ≤ n → fitOf ms vs g frames ≡ unchanged (replicate n shortest) = plain-fit (within g ms) (within g vs) t z in
+    let short : t ≤ n → fitOf ms vs g frames ≡ unchanged (replicate n shortest) = shortest-fit (within g ms) (within g vs) t z in
     record {
-      count = ⊎-elim (λ (h : t ≤ n). ap (λ (o : Outcome). length (o .durations)) (plain h) ∙ length-replicate n shortest) (λ (h : n < t). above h .count) (le-or-lt t n);
+      count = ⊎-elim (λ (h : t ≤ n). ap (λ (o : Outcome). length (o .durations)) (short h) ∙ length-replicate n shortest) (λ (h : n < t). above h .count) (le-or-lt t n);
       above = above;
-      otherwise = plain;
+      otherwise = short;
     }
 
 module _ (ms vs : List Float) (agree : length vs ≡ length ms) (k : ℕ) (some : 1 ≤ k) where
@@ -240,7 +240,7 @@ align-theorem ms vs nstate ends out work r out′ work′ z f =
     let l = labelled nstate (length ends) (length ms) (length vs) (length out) (length work) (p .0) in
     record {
       outcome = o;
-      answer = written-is r o (f .answer ∙ ap (λ (m : ℕ). answerOf m (length (o .durations) ∷ o .changes ∷ [])) n);
+      answer = aligned-is r o (f .answer ∙ ap (λ (m : ℕ). answerOf m (length (o .durations) ∷ o .changes ∷ [])) n);
       output = f .output ∙ rw n;
       fair = along-fair ms vs (l .1 .agree) nstate (l .0 .some) 0 0 0 ends zero-le (omega (arith, l .0 .cover)) (p .1);
     }

@@ -47,9 +47,9 @@ module _ (ms vs : List Float) (t : ℕ) (some : 0 < length ms) where
   fit-over work h = in-refused 6 (refusalTo ms vs t) (fitTo ms vs t) work (rw (states, lt-ltb mostFrames t h))
 
   module _ (within : t ≤ mostFrames) where
-    pub fit-plain : (work : List ℕ) → t ≤ length ms → work ≡ replicate (length ms) shortest → InPlace (refusalTo ms vs t) (fitTo ms vs t) (Done 0) work
+    pub fit-shortest : (work : List ℕ) → t ≤ length ms → work ≡ replicate (length ms) shortest → InPlace (refusalTo ms vs t) (fitTo ms vs t) (Done 0) work
     unfolding refusalTo fitTo
-    fit-plain work h e =
+    fit-shortest work h e =
         let b : leb t (length ms) ≡ true = le-leb t (length ms) h in
         record { answer = rw (states, le-ltb mostFrames t within, b); output = λ q. rw (states, b) e }
 

@@ -15,7 +15,7 @@ use Rattle.duration.specs.declared.Fitted.{Fitted}
 use Rattle.duration.specs.declared.Aligned.{Aligned}
 use Rattle.duration.specs.Estimate.{estimates}
 use Rattle.steps.specs.Steps.{shortest, Outcome, unchanged, settle}
-use Rattle.duration.specs.Fit.{rhoOf, startOf, plain, fitTo, refusalTo}
+use Rattle.duration.specs.Fit.{rhoOf, startOf, atShortest, fitTo, refusalTo}
 use Rattle.duration.specs.Speed.{naturals, targetAt, fitAt, refusalAt}
 use Rattle.duration.specs.Align.{Group, groups, within, targetOf, fitOf, tail, fitAlong, refusalOf, refusalAlong}
 use Rattle.duration.specs.Promise.{fitted, aligned, refusalOfLists, refusalOfLabels, Says}
@@ -30,7 +30,7 @@ module _ (rounding : Float → ℕ) where
   startBy ms vs t = estimatesBy (rhoOf ms vs t) ms vs
 
   unfoldable pub fitToBy : List Float → List Float → ℕ → Outcome
-  fitToBy ms vs t = cond (plain (length ms) t) (unchanged (replicate (length ms) shortest)) (settle mostFrames (rhoOf ms vs t) ms vs t (startBy ms vs t))
+  fitToBy ms vs t = cond (atShortest (length ms) t) (unchanged (replicate (length ms) shortest)) (settle mostFrames (rhoOf ms vs t) ms vs t (startBy ms vs t))
 
   unfoldable pub refusalToBy : List Float → List Float → ℕ → ℕ
   refusalToBy ms vs t =

@@ -12,8 +12,8 @@ use Rattle.floats.specs.Rounding.{roundedOf}
 use Rattle.floats.specs.Order.{absOf, costBelow}
 use Rattle.floats.specs.Numbers.{number}
 use Rattle.model.specs.Pair.{pairsOf, sumOf}
-use Rattle.duration.specs.declared.Fitted.the-variants.{Refused}
-use Rattle.duration.specs.declared.Aligned.the-variants.{Written, Denied}
+use Rattle.duration.specs.declared.Fitted.the-variants as fit
+use Rattle.duration.specs.declared.Aligned.the-variants as align
 use Rattle.duration.specs.declared.align.End.the-variants.{At, Open}
 use Rattle.duration.specs.Estimate.{estimates}
 use Rattle.steps.specs.Steps.{keyOf, keys, leastOf, step, settle}
@@ -21,7 +21,7 @@ use Rattle.duration.specs.Fit.{startOf, fitTo, refusalTo}
 use Rattle.duration.specs.Speed.{naturals, targetAt, fitAt, refusalAt}
 use Rattle.duration.specs.Align.{endOf, groups, fitAlong, refusalOf, refusalAlong}
 use Rattle.duration.specs.Promise.{workOf, refusalOfLists, refusalOfLabels, FitSays, SpeedSays, AlignSays}
-use Rattle.duration.specs.Inputs.{two-three, one-one, sevens, nines, cleared, half, unset}
+use Rattle.duration.specs.Inputs.{two-three, one-one, sevens, nines, cleared, halves, unset}
 
 -- ---- -0 is given, the least number below it and NaN are open
 
@@ -45,16 +45,16 @@ unfolding le ofBits
 end-nan = refl
 
 -- so -0 closes the first state, with one frame, and the second has the seven that are left
-pub align-minus-zero : AlignSays two-three one-one 1 (minus-zero ∷ number 8 ∷ []) sevens nines (Written 2 0) (1 ∷ 7 ∷ 7 ∷ []) cleared
+pub align-minus-zero : AlignSays two-three one-one 1 (minus-zero ∷ number 8 ∷ []) sevens nines (align.Done 2 0) (1 ∷ 7 ∷ 7 ∷ []) cleared
 unfolding workOf refusalOfLists refusalOfLabels groups refusalAlong refusalOf fitAlong neg le eq refusalTo fitTo settle step keys keyOf leastOf costBelow absOf total startOf estimates roundedOf sumOf foldFrom pairsOf ofBits ofInt add sub mul div lt isNan
 align-minus-zero = record { answer = refl; output = refl; workspace = refl }
 
 -- the others leave both states to the second end
-pub align-least-below : AlignSays two-three one-one 1 (least-below ∷ number 8 ∷ []) sevens nines (Written 2 1) (3 ∷ 5 ∷ 7 ∷ []) cleared
+pub align-least-below : AlignSays two-three one-one 1 (least-below ∷ number 8 ∷ []) sevens nines (align.Done 2 1) (3 ∷ 5 ∷ 7 ∷ []) cleared
 unfolding workOf refusalOfLists refusalOfLabels groups refusalAlong refusalOf fitAlong neg le eq refusalTo fitTo settle step keys keyOf leastOf costBelow absOf total startOf estimates roundedOf sumOf foldFrom pairsOf ofBits ofInt add sub mul div lt isNan
 align-least-below = record { answer = refl; output = refl; workspace = refl }
 
-pub align-nan : AlignSays two-three one-one 1 (nan ∷ number 8 ∷ []) sevens nines (Written 2 1) (3 ∷ 5 ∷ 7 ∷ []) cleared
+pub align-nan : AlignSays two-three one-one 1 (nan ∷ number 8 ∷ []) sevens nines (align.Done 2 1) (3 ∷ 5 ∷ 7 ∷ []) cleared
 unfolding workOf refusalOfLists refusalOfLabels groups refusalAlong refusalOf fitAlong neg le eq refusalTo fitTo settle step keys keyOf leastOf costBelow absOf total startOf estimates roundedOf sumOf foldFrom pairsOf ofBits ofInt add sub mul div lt isNan
 align-nan = record { answer = refl; output = refl; workspace = refl }
 
@@ -76,52 +76,52 @@ abbrev all-cleared : List ℕ
 all-cleared = 0 ∷ 0 ∷ cleared
 
 -- an end of 1 gives two frames all the same, and so the second group has 10 - 2
-pub end-below-count : AlignSays means varis 2 (number 1 ∷ number 10 ∷ []) output workspace (Written 4 1) (1 ∷ 1 ∷ 3 ∷ 5 ∷ 7 ∷ []) all-cleared
+pub end-below-count : AlignSays means varis 2 (number 1 ∷ number 10 ∷ []) output workspace (align.Done 4 1) (1 ∷ 1 ∷ 3 ∷ 5 ∷ 7 ∷ []) all-cleared
 unfolding workOf refusalOfLists refusalOfLabels groups refusalAlong refusalOf fitAlong neg le eq refusalTo fitTo settle step keys keyOf leastOf costBelow absOf total startOf estimates roundedOf sumOf foldFrom pairsOf ofBits ofInt add sub mul div lt isNan
 end-below-count = record { answer = refl; output = refl; workspace = refl }
 
 -- an end of 2 is at the count
-pub end-at-count : AlignSays means varis 2 (number 2 ∷ number 10 ∷ []) output workspace (Written 4 1) (1 ∷ 1 ∷ 3 ∷ 5 ∷ 7 ∷ []) all-cleared
+pub end-at-count : AlignSays means varis 2 (number 2 ∷ number 10 ∷ []) output workspace (align.Done 4 1) (1 ∷ 1 ∷ 3 ∷ 5 ∷ 7 ∷ []) all-cleared
 unfolding workOf refusalOfLists refusalOfLabels groups refusalAlong refusalOf fitAlong neg le eq refusalTo fitTo settle step keys keyOf leastOf costBelow absOf total startOf estimates roundedOf sumOf foldFrom pairsOf ofBits ofInt add sub mul div lt isNan
 end-at-count = record { answer = refl; output = refl; workspace = refl }
 
 -- an end of 3 is above it
-pub end-above-count : AlignSays means varis 2 (number 3 ∷ number 11 ∷ []) output workspace (Written 4 1) (1 ∷ 2 ∷ 3 ∷ 5 ∷ 7 ∷ []) all-cleared
+pub end-above-count : AlignSays means varis 2 (number 3 ∷ number 11 ∷ []) output workspace (align.Done 4 1) (1 ∷ 2 ∷ 3 ∷ 5 ∷ 7 ∷ []) all-cleared
 unfolding workOf refusalOfLists refusalOfLabels groups refusalAlong refusalOf fitAlong neg le eq refusalTo fitTo settle step keys keyOf leastOf costBelow absOf total startOf estimates roundedOf sumOf foldFrom pairsOf ofBits ofInt add sub mul div lt isNan
 end-above-count = record { answer = refl; output = refl; workspace = refl }
 
 -- the second end is before the first: its target is -4, and so 1
-pub end-passed : AlignSays means varis 2 (number 8 ∷ number 4 ∷ []) output workspace (Written 4 1) (3 ∷ 5 ∷ 1 ∷ 1 ∷ 7 ∷ []) all-cleared
+pub end-passed : AlignSays means varis 2 (number 8 ∷ number 4 ∷ []) output workspace (align.Done 4 1) (3 ∷ 5 ∷ 1 ∷ 1 ∷ 7 ∷ []) all-cleared
 unfolding workOf refusalOfLists refusalOfLabels groups refusalAlong refusalOf fitAlong neg le eq refusalTo fitTo settle step keys keyOf leastOf costBelow absOf total startOf estimates roundedOf sumOf foldFrom pairsOf ofBits ofInt add sub mul div lt isNan
 end-passed = record { answer = refl; output = refl; workspace = refl }
 
 -- ---- 7 and 8: the first in the work order, whatever would come after it
 
 -- an end of 65,536 gives 8, and an endless one 7
-pub estimate-alone : AlignSays means varis 2 (unset ∷ number 65536 ∷ []) output workspace (Denied 8) output all-cleared
+pub estimate-alone : AlignSays means varis 2 (unset ∷ number 65536 ∷ []) output workspace (align.Refused 8) output all-cleared
 unfolding workOf refusalOfLists refusalOfLabels groups refusalAlong refusalOf fitAlong neg le eq refusalTo fitTo settle step keys keyOf leastOf costBelow absOf total startOf estimates roundedOf sumOf foldFrom pairsOf ofBits ofInt add sub mul div lt isNan
 estimate-alone = record { answer = refl; output = refl; workspace = refl }
 
-pub target-alone : AlignSays means varis 2 (unset ∷ inf false ∷ []) output workspace (Denied 7) output all-cleared
+pub target-alone : AlignSays means varis 2 (unset ∷ inf false ∷ []) output workspace (align.Refused 7) output all-cleared
 unfolding workOf refusalOfLists refusalOfLabels groups refusalAlong refusalOf fitAlong neg le eq refusalTo fitTo settle step keys keyOf leastOf costBelow absOf total startOf estimates roundedOf sumOf foldFrom pairsOf ofBits ofInt add sub mul div lt isNan
 target-alone = record { answer = refl; output = refl; workspace = refl }
 
 -- one after the other
-pub estimate-first : AlignSays means varis 2 (number 65536 ∷ inf false ∷ []) output workspace (Denied 8) output all-cleared
+pub estimate-first : AlignSays means varis 2 (number 65536 ∷ inf false ∷ []) output workspace (align.Refused 8) output all-cleared
 unfolding workOf refusalOfLists refusalOfLabels groups refusalAlong refusalOf fitAlong neg le eq refusalTo fitTo settle step keys keyOf leastOf costBelow absOf total startOf estimates roundedOf sumOf foldFrom pairsOf ofBits ofInt add sub mul div lt isNan
 estimate-first = record { answer = refl; output = refl; workspace = refl }
 
-pub target-first : AlignSays means varis 2 (inf false ∷ number 65536 ∷ []) output workspace (Denied 7) output all-cleared
+pub target-first : AlignSays means varis 2 (inf false ∷ number 65536 ∷ []) output workspace (align.Refused 7) output all-cleared
 unfolding workOf refusalOfLists refusalOfLabels groups refusalAlong refusalOf fitAlong neg le eq refusalTo fitTo settle step keys keyOf leastOf costBelow absOf total startOf estimates roundedOf sumOf foldFrom pairsOf ofBits ofInt add sub mul div lt isNan
 target-first = record { answer = refl; output = refl; workspace = refl }
 
 -- one state fills all 65,536 frames, so the second's one frame gives 8 before the third's target gives 7
-pub total-first : AlignSays means varis 1 (number 65536 ∷ number 65536 ∷ inf false ∷ unset ∷ []) output workspace (Denied 8) output all-cleared
+pub total-first : AlignSays means varis 1 (number 65536 ∷ number 65536 ∷ inf false ∷ unset ∷ []) output workspace (align.Refused 8) output all-cleared
 unfolding workOf refusalOfLists refusalOfLabels groups refusalAlong refusalOf fitAlong neg le eq refusalTo fitTo settle step keys keyOf leastOf costBelow absOf total startOf estimates roundedOf sumOf foldFrom pairsOf ofBits ofInt add sub mul div lt isNan
 total-first = record { answer = refl; output = refl; workspace = refl }
 
 -- and where the second's own target is too large, that is found before the total
-pub target-before-total : AlignSays means varis 1 (number 65536 ∷ inf false ∷ unset ∷ unset ∷ []) output workspace (Denied 7) output all-cleared
+pub target-before-total : AlignSays means varis 1 (number 65536 ∷ inf false ∷ unset ∷ unset ∷ []) output workspace (align.Refused 7) output all-cleared
 unfolding workOf refusalOfLists refusalOfLabels groups refusalAlong refusalOf fitAlong neg le eq refusalTo fitTo settle step keys keyOf leastOf costBelow absOf total startOf estimates roundedOf sumOf foldFrom pairsOf ofBits ofInt add sub mul div lt isNan
 target-before-total = record { answer = refl; output = refl; workspace = refl }
 
@@ -129,16 +129,16 @@ target-before-total = record { answer = refl; output = refl; workspace = refl }
 abbrev long : List Float
 long = number 40000 ∷ number 40000 ∷ []
 
-pub long-target : FitSays long one-one (number 160000) sevens nines (Refused 7) sevens cleared
+pub long-target : FitSays long one-one (number 160000) sevens nines (fit.Refused 7) sevens cleared
 unfolding workOf refusalOfLists refusalOfLabels groups refusalAlong refusalOf fitAlong neg le eq refusalTo fitTo settle step keys keyOf leastOf costBelow absOf total startOf estimates roundedOf sumOf foldFrom pairsOf ofBits ofInt add sub mul div lt isNan
 long-target = record { answer = refl; output = refl; workspace = refl }
 
 -- at half the speed their first estimate gives 8 before that target does
-pub speed-estimate-first : SpeedSays long one-one (half 1) sevens nines (Refused 8) sevens cleared
+pub speed-estimate-first : SpeedSays long one-one (halves 1) sevens nines (fit.Refused 8) sevens cleared
 unfolding workOf refusalOfLists refusalAt fitAt targetAt naturals eq refusalTo fitTo settle step keys keyOf leastOf costBelow absOf total startOf estimates roundedOf sumOf foldFrom pairsOf ofBits ofInt add sub mul div lt isNan
 speed-estimate-first = record { answer = refl; output = refl; workspace = refl }
 
 -- at 2 ^ -14 five frames become 81,920, which are too many before they are estimated
-pub speed-target-first : SpeedSays two-three one-one (fin false 1 (negsuc 13)) sevens nines (Refused 7) sevens cleared
+pub speed-target-first : SpeedSays two-three one-one (fin false 1 (negsuc 13)) sevens nines (fit.Refused 7) sevens cleared
 unfolding workOf refusalOfLists refusalAt fitAt targetAt naturals eq refusalTo fitTo settle step keys keyOf leastOf costBelow absOf total startOf estimates roundedOf sumOf foldFrom pairsOf ofBits ofInt add sub mul div lt isNan
 speed-target-first = record { answer = refl; output = refl; workspace = refl }

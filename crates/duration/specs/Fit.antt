@@ -21,12 +21,12 @@ unfoldable pub startOf : List Float → List Float → ℕ → List ℕ
 startOf ms vs t = estimates (rhoOf ms vs t) ms vs
 
 -- RULES, Durations: with no state, or a target not above their number, each state gets one frame and nothing is changed
-abbrev pub plain : ℕ → ℕ → Bool
-plain n t = eqb n 0 || leb t n
+abbrev pub atShortest : ℕ → ℕ → Bool
+atShortest n t = eqb n 0 || leb t n
 
 -- The fit to a target: the step rule from the start. It starts and ends within 65,536 frames, so no fit takes more steps.
 unfoldable pub fitTo : List Float → List Float → ℕ → Outcome
-fitTo ms vs t = cond (plain (length ms) t) (unchanged (replicate (length ms) shortest)) (settle mostFrames (rhoOf ms vs t) ms vs t (startOf ms vs t))
+fitTo ms vs t = cond (atShortest (length ms) t) (unchanged (replicate (length ms) shortest)) (settle mostFrames (rhoOf ms vs t) ms vs t (startOf ms vs t))
 
 -- RULES, Refusals: where there are states, 7 for a target above 65,536 frames, then 8 for a start above them
 unfoldable pub refusalTo : List Float → List Float → ℕ → ℕ

@@ -8,9 +8,9 @@ use lib.Ieee.{Float}
 use Rattle.lists.specs.Sizes.{mostFrames, mostStates}
 use Rattle.lists.specs.Totals.{total, gap}
 use Rattle.duration.specs.declared.Fitted.{Fitted}
-use Rattle.duration.specs.declared.Fitted.the-variants.{Done}
+use Rattle.duration.specs.declared.Fitted.the-variants as fit
 use Rattle.duration.specs.declared.Aligned.{Aligned}
-use Rattle.duration.specs.declared.Aligned.the-variants.{Written}
+use Rattle.duration.specs.declared.Aligned.the-variants as align
 use Rattle.steps.specs.Steps.{shortest, Outcome, unchanged, Settles}
 use Rattle.duration.specs.Fit.{rhoOf, startOf}
 use Rattle.duration.specs.Align.{Group, within, targetOf}
@@ -64,13 +64,13 @@ pub record Ample (ms vs : List Float) (t : ℕ) (out work : List ℕ) : Type 0 w
 -- a call that is accepted, with a fair outcome at the front of its output
 pub record Accepted (ms vs : List Float) (t : ℕ) (out : List ℕ) (r : Fitted) (out′ : List ℕ) : Type 0 where
   pub outcome : Outcome
-  pub answer : r ≡ Done (outcome .changes)
+  pub answer : r ≡ fit.Done (outcome .changes)
   pub output : out′ ≡ outcome .durations ++ drop (length ms) out
   pub fair : Fair ms vs t outcome
 
 -- an alignment that is accepted, with a fair outcome group after group
 pub record AcceptedAlong (ms vs : List Float) (gs : List Group) (out : List ℕ) (r : Aligned) (out′ : List ℕ) : Type 0 where
   pub outcome : Outcome
-  pub answer : r ≡ Written (length (outcome .durations)) (outcome .changes)
+  pub answer : r ≡ align.Done (length (outcome .durations)) (outcome .changes)
   pub output : out′ ≡ outcome .durations ++ drop (length (outcome .durations)) out
   pub fair : FairAlong ms vs gs 0 (outcome .durations) (outcome .changes)

@@ -23,8 +23,8 @@ abbrev pub cleared : List ℕ
 cleared = 0 ∷ 0 ∷ 9 ∷ []
 
 -- n / 2, and an end that is open
-abbrev pub half : ℕ → Float
-half n = fin false n (negsuc 0)
+abbrev pub halves : ℕ → Float
+halves n = fin false n (negsuc 0)
 
 abbrev pub unset : Float
 unset = neg (number 1)

@@ -8,9 +8,9 @@ use lib.ListN.{length, drop, replicate}
 use lib.Ieee.{Float}
 use Rattle.floats.specs.Rounding.{roundedOf}
 use Rattle.duration.specs.declared.Fitted.{Fitted}
-use Rattle.duration.specs.declared.Fitted.the-variants.{Done, Refused}
+use Rattle.duration.specs.declared.Fitted.the-variants as fit
 use Rattle.duration.specs.declared.Aligned.{Aligned}
-use Rattle.duration.specs.declared.Aligned.the-variants.{Written, Denied}
+use Rattle.duration.specs.declared.Aligned.the-variants as align
 use Rattle.duration.specs.Fit.{fitTo, refusalTo}
 use Rattle.lists.specs.Sizes.{mostStates, mostLabelStates}
 use Rattle.lists.specs.Refusals.{orElse}
@@ -20,13 +20,13 @@ use Rattle.duration.specs.Align.{groups, fitAlong, refusalAlong}
 
 -- of a fit or a speed: the unit changes
 abbrev pub fitted : Fitted → Answer
-fitted (Done changes) = record { number = 0; values = changes ∷ [] }
-fitted (Refused number) = record { number = number; values = [] }
+fitted (fit.Done changes) = record { number = 0; values = changes ∷ [] }
+fitted (fit.Refused number) = record { number = number; values = [] }
 
 -- of an alignment: how many durations were written, and the unit changes
 abbrev pub aligned : Aligned → Answer
-aligned (Written count changes) = record { number = 0; values = count ∷ changes ∷ [] }
-aligned (Denied number) = record { number = number; values = [] }
+aligned (align.Done count changes) = record { number = 0; values = count ∷ changes ∷ [] }
+aligned (align.Refused number) = record { number = number; values = [] }
 
 -- RULES, Refusals: an accepted call, 7 and 8 zero the call's part of the work space; any other refusal leaves it as it was
 abbrev pub clears : ℕ → Bool

@@ -1,7 +1,6 @@
 // Alignment: labels with an end close groups of states.
 ghost use mathlib.Core.Path.{_≡_};
 ghost use Rattle.duration.specs.Align.{labelOf, groups, fitAlong, refusalAlong};
-ghost use Rattle.duration.specs.Promise.{fitted};
 ghost use Rattle.duration.specs.Inner.Asked.{Lies, closed, Closes, Labelled, AtFront};
 use crate::Aligned;
 use crate::Fitted;
@@ -37,25 +36,18 @@ impl Label {
 // A group's unit changes and frames, or its refusal.
 pub(crate) enum Closed {
     Grown(u32, u32),
-    Barred(u8),
+    Refused(u8),
 }
 
-// The refusal number of an answer, 0 for none.
-fn number_of(answer: Fitted) -> u8
-    ensures { λ k. ⌜ k ≡ fitted answer .number ⌝ }
-{
-    match answer {
-        Fitted::Done(_) => 0,
-        Fitted::Refused(number) => number,
-    }
-}
-
-fn number_of_group(answer: Closed) -> u8
-    ensures { λ k. ⌜ k ≡ closed answer .number ⌝ }
-{
-    match answer {
-        Closed::Grown(_, _) => 0,
-        Closed::Barred(number) => number,
+impl Closed {
+    // The refusal's number, 0 for none.
+    fn number(self) -> u8
+        ensures { λ r. ⌜ r ≡ closed self .number ⌝ }
+    {
+        match self {
+            Closed::Grown(_, _) => 0,
+            Closed::Refused(number) => number,
+        }
     }
 }
 
@@ -80,11 +72,11 @@ fn close_group(
         &mut work[from..to],
     );
     let Fitted::Done(changes) = answer else {
-        return Closed::Barred(number_of(answer));
+        return Closed::Refused(answer.number());
     };
     let sum = lists::total_u32(&work[from..to]);
     if sum > (65_536 - frames) as u64 {
-        return Closed::Barred(8);
+        return Closed::Refused(8);
     }
     Closed::Grown(changes, sum as u32)
 }
@@ -116,7 +108,7 @@ pub(crate) fn fit_along(
             End::At(time) => {
                 let group = close_group(means, varis, time, frames, done, next, work);
                 let Closed::Grown(more, length) = group else {
-                    return Aligned::Denied(number_of_group(group));
+                    return Aligned::Refused(group.number());
                 };
                 changes += more;
                 frames += length;
@@ -124,5 +116,5 @@ pub(crate) fn fit_along(
             }
         }
     }
-    Aligned::Written(done as u32, changes)
+    Aligned::Done(done as u32, changes)
 }

@@ -1,20 +1,34 @@
 // The durations of states: fitted to a length, to a speed, or to given ends.
 ghost use mathlib.Core.Path.{_≡_};
 ghost use Rattle.duration.specs.Inner.Asked.{HandsOut};
-ghost use Rattle.duration.specs.Promise.{refusalOfLists, refusalOfLabels, FitSays, SpeedSays, AlignSays};
+ghost use Rattle.duration.specs.Promise.{fitted, refusalOfLists, refusalOfLabels, FitSays, SpeedSays, AlignSays};
 
 mod align;
 mod fit;
 mod speed;
 
+// The unit changes of a fit, or the number of why there is none.
 pub enum Fitted {
     Done(u32),
     Refused(u8),
 }
 
+impl Fitted {
+    // The refusal's number, 0 for none.
+    pub fn number(self) -> u8
+        ensures { λ r. ⌜ r ≡ fitted self .number ⌝ }
+    {
+        match self {
+            Fitted::Done(_) => 0,
+            Fitted::Refused(number) => number,
+        }
+    }
+}
+
+// How many durations an alignment gave and its unit changes, or the number of why there is none.
 pub enum Aligned {
-    Written(u32, u32),
-    Denied(u8),
+    Done(u32, u32),
+    Refused(u8),
 }
 
 // The refusal of the lists' lengths, 0 for none.
@@ -125,10 +139,10 @@ pub fn create_with_alignment(
     let width = nstate as usize;
     let refusal = refusal_of_labels(width, ends.len(), n, varis.len(), out.len(), work.len());
     if refusal != 0 {
-        return Aligned::Denied(refusal);
+        return Aligned::Refused(refusal);
     }
     let answer = align::fit_along(means, varis, width, ends, &mut work[..n]);
-    let Aligned::Written(written, _) = answer else {
+    let Aligned::Done(written, _) = answer else {
         lists::fill_u32(work, n, 0);
         return answer;
     };

@@ -88,12 +88,12 @@ fn hand_out_alignment(answer: Aligned, written: &mut u32, changes: &mut u32) -> 
     ensures { λ r. ⌜ HandsTwo (aligned answer) (now (written .entry)) (now (changes .entry)) r (now (written .exit)) (now (changes .exit)) ⌝ }
 {
     match answer {
-        Aligned::Written(states, count) => {
+        Aligned::Done(states, count) => {
             *written = states;
             *changes = count;
             0
         }
-        Aligned::Denied(number) => number as u32,
+        Aligned::Refused(number) => number as u32,
     }
 }
 

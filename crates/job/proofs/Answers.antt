@@ -9,7 +9,7 @@ use Rattle.lists.specs.Sizes.{mostFrames, mostJobStates}
 use Rattle.lists.specs.Totals.{total}
 use Rattle.lists.proofs.Sums.{total-whole}
 use Rattle.duration.specs.declared.Fitted.{Fitted}
-use Rattle.duration.specs.declared.Fitted.the-variants.{Done as Fit·Done, Refused as Fit·Refused}
+use Rattle.duration.specs.declared.Fitted.the-variants as fit
 use Rattle.duration.specs.Speed.{refusalAt}
 use Rattle.lists.specs.Answers.{Answer, answerOf, written}
 use Rattle.duration.specs.Promise.{fitted, workOf, refusalOfLists, Says}
@@ -86,13 +86,13 @@ module _ (bytes : List ℕ) (s : ℕ) (h : Heading) (g : h ≡ States s) (e : he
     abbrev k : ℕ
     k = jobRefusal j out work
 
-    pub job-refused : (m number : ℕ) → r ≡ Fit·Refused m → number ≡ fitted r .number → JobSays bytes out work (Refused number) out′ work′
+    pub job-refused : (m number : ℕ) → r ≡ fit.Refused m → number ≡ fitted r .number → JobSays bytes out work (Refused number) out′ work′
     job-refused m number d q = rw (sound .0, ← count-is, q ∙ ap (λ (x : Fitted). fitted x .number) d) (says-refused k _ (jobFit j .durations) (length (j .means)) out work out′ work′ _ m (rw d at f))
 
     -- accepted, with c changes
-    module _ (c : ℕ) (d : r ≡ Fit·Done c) where
+    module _ (c : ℕ) (d : r ≡ fit.Done c) where
       done : (k ≡ 0) × (c ∷ [] ≡ jobFit j .changes ∷ [])
-      done = accepted-is (fitted (Fit·Done c)) k _ (sym (ap fitted d) ∙ f .answer) refl
+      done = accepted-is (fitted (fit.Done c)) k _ (sym (ap fitted d) ∙ f .answer) refl
 
       pub job-room : s ≤ length out′
       job-room = rw long at (fit-room j out work out′ (done .0) (f .output))

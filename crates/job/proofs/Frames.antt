@@ -12,7 +12,7 @@ use Rattle.lists.specs.Sizes.{mostFrames}
 use Rattle.lists.specs.Totals.{total}
 use Rattle.floats.specs.Numbers.{nought, one}
 use Rattle.steps.specs.Steps.{shortest, Outcome, unchanged}
-use Rattle.duration.specs.Fit.{startOf, plain, fitTo, refusalTo}
+use Rattle.duration.specs.Fit.{startOf, atShortest, fitTo, refusalTo}
 use Rattle.duration.specs.Speed.{naturals, targetAt, fitAt, refusalAt}
 use Rattle.duration.proofs.Refusals.{cond-none}
 use Rattle.duration.proofs.Estimates.{length-estimates}
@@ -37,7 +37,7 @@ module _ (ms vs : List Float) (few : length ms ≤ 4096) (agree : length vs ≡ 
 
   -- the target is above the count
   module _ (t : ℕ) (e : refusalTo ms vs t ≡ 0) where
-    fit-above : plain (length ms) t ≡ false → Bounded (length ms) (fitTo ms vs t)
+    fit-above : atShortest (length ms) t ≡ false → Bounded (length ms) (fitTo ms vs t)
     unfolding refusalTo
     fit-above q =
         let p = neither (eqb (length ms) 0) (leb t (length ms)) q in
@@ -50,7 +50,7 @@ module _ (ms vs : List Float) (few : length ms ≤ 4096) (agree : length vs ≡ 
     fit-bounded : Bounded (length ms) (fitTo ms vs t)
     unfolding fitTo
     fit-bounded =
-        (elim (plain (length ms) t) as (λ s. plain (length ms) t ≡ s → Bounded (length ms) (fitTo ms vs t)) [
+        (elim (atShortest (length ms) t) as (λ s. atShortest (length ms) t ≡ s → Bounded (length ms) (fitTo ms vs t)) [
           | true ↦ λ q. rw q ones
           | false ↦ λ q. fit-above q
         ])

@@ -5,7 +5,6 @@ ghost use Prim.Native.Nat.{_≤_};
 ghost use lib.ListN.{length};
 ghost use Rattle.lists.specs.Sizes.{mostJobStates};
 ghost use Rattle.lists.specs.Answers.{answerOf};
-ghost use Rattle.duration.specs.Promise.{fitted};
 ghost use Rattle.job.specs.Format.{floatsAt, countOf, jobAt, formatRefusal};
 ghost use Rattle.job.specs.Inner.Reading.{headed, StatesFitted};
 ghost use Rattle.job.specs.Promise.{JobSays};
@@ -59,16 +58,6 @@ fn read_floats(bytes: &[u8], from: usize, into: &mut [f64])
     }
 }
 
-// The number of a fit's refusal, 0 for none.
-fn number_of(answer: Fitted) -> u8
-    ensures { λ k. ⌜ k ≡ fitted answer .number ⌝ }
-{
-    match answer {
-        Fitted::Done(_) => 0,
-        Fitted::Refused(number) => number,
-    }
-}
-
 // Fits n states, whose pairs stand in the bytes, to the speed that stands before them.
 fn fit_states(bytes: &[u8], n: usize, out: &mut [u32], work: &mut [u32]) -> Fitted
     requires { ⌜ n ≤ mostJobStates ⌝ }
@@ -97,7 +86,7 @@ pub fn answer(bytes: &[u8], out: &mut [u32], work: &mut [u32]) -> Answered
     let n = states as usize;
     let fit = fit_states(bytes, n, out, work);
     let Fitted::Done(changes) = fit else {
-        return Answered::Refused(number_of(fit));
+        return Answered::Refused(fit.number());
     };
     let frames = lists::total_u32(&out[..n]);
     Answered::Done {

@@ -14,7 +14,7 @@ pub fn agrees(head: &[u32], durations: &[u32], floats: &[f64]) -> bool {
     let mut out = [OUT; 20];
     let mut work = [WORK; 20];
     let answer = duration::create_with_alignment(means, varis, nstate, ends, &mut out, &mut work);
-    let Aligned::Written(written, changes) = answer else {
+    let Aligned::Done(written, changes) = answer else {
         return false;
     };
     (written == case::number(head, 4))

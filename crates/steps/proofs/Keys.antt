@@ -20,7 +20,7 @@ use Rattle.steps.proofs.Order.{clash, Sound}
 use Rattle.steps.proofs.Order.Sound.{fixed, cost}
 use Rattle.steps.proofs.Least.{leastKey, least-first, least-later, least-in, least-score}
 
-key-sound : (w : Bool) (rho m v : Float) (d : ℕ) → Sound (keyOf w rho m v d)
+key-sound : (up : Bool) (rho m v : Float) (d : ℕ) → Sound (keyOf up rho m v d)
 unfolding keyOf
 key-sound true rho m v d = cost (abs-fits _ (sub-fits binary64 rho _)) (abs-clear _)
 key-sound false rho m v d =
@@ -29,15 +29,15 @@ key-sound false rho m v d =
       | false ↦ fixed
     ]
 
-module _ (w : Bool) (rho : Float) where
-  pub length-keys : (ms vs : List Float) (ds : List ℕ) → length vs ≡ length ms → length ds ≡ length ms → length (keys w rho ms vs ds) ≡ length ms
+module _ (up : Bool) (rho : Float) where
+  pub length-keys : (ms vs : List Float) (ds : List ℕ) → length vs ≡ length ms → length ds ≡ length ms → length (keys up rho ms vs ds) ≡ length ms
   unfolding keys
   length-keys [] vs ds e q = refl
   length-keys (m ∷ ms) [] ds e q = absurd (omega arith)
   length-keys (m ∷ ms) (v ∷ vs) [] e q = absurd (omega arith)
   length-keys (m ∷ ms) (v ∷ vs) (d ∷ ds) e q = ap suc (length-keys ms vs ds (omega arith) (omega arith))
 
-  pub getD-keys : (ms vs : List Float) (ds : List ℕ) (i : ℕ) → length vs ≡ length ms → length ds ≡ length ms → i < length ms → keyOf w rho (getD ms i nan) (getD vs i nan) (getD ds i 0) ≡ getD (keys w rho ms vs ds) i Fixed
+  pub getD-keys : (ms vs : List Float) (ds : List ℕ) (i : ℕ) → length vs ≡ length ms → length ds ≡ length ms → i < length ms → keyOf up rho (getD ms i nan) (getD vs i nan) (getD ds i 0) ≡ getD (keys up rho ms vs ds) i Fixed
   unfolding keys
   getD-keys [] vs ds i e q h = absurd (not-suc-le-zero h)
   getD-keys (m ∷ ms) [] ds i e q h = absurd (omega arith)
@@ -45,12 +45,12 @@ module _ (w : Bool) (rho : Float) where
   getD-keys (m ∷ ms) (v ∷ vs) (d ∷ ds) zero e q h = refl
   getD-keys (m ∷ ms) (v ∷ vs) (d ∷ ds) (suc i) e q h = getD-keys ms vs ds i (omega arith) (omega arith) (omega arith)
 
-  pub keys-sound : (ms vs : List Float) (ds : List ℕ) (i : ℕ) → Sound (getD (keys w rho ms vs ds) i Fixed)
+  pub keys-sound : (ms vs : List Float) (ds : List ℕ) (i : ℕ) → Sound (getD (keys up rho ms vs ds) i Fixed)
   unfolding keys
   keys-sound [] vs ds i = fixed
   keys-sound (m ∷ ms) [] ds i = fixed
   keys-sound (m ∷ ms) (v ∷ vs) [] i = fixed
-  keys-sound (m ∷ ms) (v ∷ vs) (d ∷ ds) zero = key-sound w rho m v d
+  keys-sound (m ∷ ms) (v ∷ vs) (d ∷ ds) zero = key-sound up rho m v d
   keys-sound (m ∷ ms) (v ∷ vs) (d ∷ ds) (suc i) = keys-sound ms vs ds i
 
 -- ---- on the way down
@@ -115,8 +115,8 @@ moves-long rho m v d =
     refl
 
 module _ (rho : Float) (ms vs : List Float) (ds : List ℕ) (e : length vs ≡ length ms) (q : length ds ≡ length ms) where
-  pub place-in : (w : Bool) → 0 < length ms → leastOf (keys w rho ms vs ds) < length ms
-  place-in w z = let n : length (keys w rho ms vs ds) ≡ length ms = length-keys w rho ms vs ds e q in subst (λ (n : ℕ). leastOf (keys w rho ms vs ds) < n) n (least-in (keys w rho ms vs ds) (omega arith))
+  pub place-in : (up : Bool) → 0 < length ms → leastOf (keys up rho ms vs ds) < length ms
+  place-in up z = let n : length (keys up rho ms vs ds) ≡ length ms = length-keys up rho ms vs ds e q in subst (λ (n : ℕ). leastOf (keys up rho ms vs ds) < n) n (least-in (keys up rho ms vs ds) (omega arith))
 
   -- the state that gives a frame has one to give
   pub place-long : length ms < total ds → 1 < getD ds (leastOf (keys false rho ms vs ds)) 0
@@ -130,13 +130,13 @@ module _ (rho : Float) (ms vs : List Float) (ds : List ℕ) (e : length vs ≡ l
       moves-long rho (getD ms i nan) (getD vs i nan) (getD ds i 0) (subst (λ (k : Key). T (movable k)) (sym (getD-keys false rho ms vs ds i e q (place-in false z))) t)
 
 -- the state of the least score is the one that a step changes
-module _ (w : Bool) (rho : Float) (ms vs : List Float) (ds : List ℕ) (e : length vs ≡ length ms) (q : length ds ≡ length ms) where
-  rank-is : (i : ℕ) → i < length ms → keyAt w rho ms vs ds i ≡ rank (getD (keys w rho ms vs ds) i Fixed)
+module _ (up : Bool) (rho : Float) (ms vs : List Float) (ds : List ℕ) (e : length vs ≡ length ms) (q : length ds ≡ length ms) where
+  rank-is : (i : ℕ) → i < length ms → keyAt up rho ms vs ds i ≡ rank (getD (keys up rho ms vs ds) i Fixed)
   unfolding keyAt
-  rank-is i h = ap rank (getD-keys w rho ms vs ds i e q h)
+  rank-is i h = ap rank (getD-keys up rho ms vs ds i e q h)
 
-  pub least-place : length ms ≤ mostStates → (p : ℕ) → p < length ms → ((j : ℕ) → j < length ms → scores (keyAt w rho ms vs ds) p ≤ scores (keyAt w rho ms vs ds) j) → p ≡ leastOf (keys w rho ms vs ds)
+  pub least-place : length ms ≤ mostStates → (p : ℕ) → p < length ms → ((j : ℕ) → j < length ms → scores (keyAt up rho ms vs ds) p ≤ scores (keyAt up rho ms vs ds) j) → p ≡ leastOf (keys up rho ms vs ds)
   least-place few p h least =
-      let n : length (keys w rho ms vs ds) ≡ length ms = length-keys w rho ms vs ds e q in
-      least-score (keys w rho ms vs ds) (keys-sound w rho ms vs ds) (omega arith) p (omega arith)
+      let n : length (keys up rho ms vs ds) ≡ length ms = length-keys up rho ms vs ds e q in
+      least-score (keys up rho ms vs ds) (keys-sound up rho ms vs ds) (omega arith) p (omega arith)
       (λ j l. let m : j < length ms = omega arith in rw (rank-is p h, rank-is j m) at (least j m))

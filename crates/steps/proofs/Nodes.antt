@@ -12,7 +12,7 @@ use lib.Seq.{getD-set-same, getD-set-other}
 use borrow.Author.Tests.{lt-ltb, le-ltb, eqb-true, eqb-false}
 use Rattle.lists.proofs.Numbers.{le-or-lt}
 use Rattle.steps.specs.declared.costs.Entry.{Entry}
-use Rattle.steps.specs.Inner.Scores.{scores, entryOf, soonerOf}
+use Rattle.steps.specs.Inner.Scores.{scores, keyed, soonerOf}
 use Rattle.steps.specs.Inner.Tree.{node, Lesser, Won, Within, Kept, On, Path}
 use Rattle.steps.specs.Inner.Tree.On.{here, over}
 use Rattle.steps.proofs.Order.{sooner-lesser}
@@ -124,7 +124,7 @@ pub record Climbing (K : ℕ → ℕ) (n : ℕ) (t : List ℕ) (i : ℕ) (x : En
   pub long : length t ≡ n
   pub low : 1 ≤ i
   pub high : i < 2 * n
-  pub stands : x ≡ entryOf K (node t i)
+  pub stands : x ≡ keyed K (node t i)
   pub path : Path (scores K) t (i / 2)
 
 -- a node and its other are the two of the node above
@@ -141,7 +141,7 @@ pair S t i v h w =
     (same i (2 * (i / 2)))
 
 module _ (K : ℕ → ℕ) (n : ℕ) (t : List ℕ) where
-  pub climb-start : (p : ℕ) (x : Entry) → length t ≡ n → p < n → x ≡ entryOf K (node t (n + p)) → Path (scores K) t ((n + p) / 2) → Climbing K n t (n + p) x
+  pub climb-start : (p : ℕ) (x : Entry) → length t ≡ n → p < n → x ≡ keyed K (node t (n + p)) → Path (scores K) t ((n + p) / 2) → Climbing K n t (n + p) x
   climb-start p x e h s k = record { long = e; low = omega arith; high = omega arith; stands = s; path = k }
 
   module _ (i : ℕ) (x : Entry) (c : Climbing K n t i x) where
@@ -164,7 +164,7 @@ module _ (K : ℕ → ℕ) (n : ℕ) (t : List ℕ) where
           let g : node t (i + 1 - 2 * (i % 2)) < length t = node-in t 1 (i + 1 - 2 * (i % 2)) (c .path .within) (omega arith) (omega arith) in
           omega arith
 
-      pub climb-next : (y r : Entry) → y ≡ entryOf K (node t (i + 1 - 2 * (i % 2))) → r ≡ soonerOf x y → Climbing K n (set t (i / 2) (r .place)) (i / 2) r
+      pub climb-next : (y r : Entry) → y ≡ keyed K (node t (i + 1 - 2 * (i % 2))) → r ≡ soonerOf x y → Climbing K n (set t (i / 2) (r .place)) (i / 2) r
       climb-next y r q s =
           let e : length t ≡ n = c .long in
           let l : i < 2 * n = c .high in
@@ -175,7 +175,7 @@ module _ (K : ℕ → ℕ) (n : ℕ) (t : List ℕ) where
             long = m ∙ e;
             low = omega arith;
             high = omega arith;
-            stands = w .0 ∙ ap (entryOf K) (sym (node-inner (set t (i / 2) (r .place)) (i / 2) (omega arith) ∙ getD-set-same t (i / 2) (r .place) 0 g));
+            stands = w .0 ∙ ap (keyed K) (sym (node-inner (set t (i / 2) (r .place)) (i / 2) (omega arith) ∙ getD-set-same t (i / 2) (r .place) 0 g));
             path = path-next t (i / 2) (r .place) (scores K) (omega arith) g (pair (scores K) t i (r .place) h (w .1)) (c .path);
           }
 

@@ -14,7 +14,7 @@ use Rattle.floats.proofs.Ordered.{bits-order, finite-below}
 use Rattle.steps.specs.declared.costs.Entry.{Entry}
 use Rattle.steps.specs.Steps.{Key, sooner}
 use Rattle.steps.specs.Steps.Key.{Fixed, Cost}
-use Rattle.steps.specs.Inner.Scores.{rank, score, scores, entryOf, soonerOf}
+use Rattle.steps.specs.Inner.Scores.{rank, score, scores, keyed, soonerOf}
 use Rattle.steps.specs.Inner.Tree.{Lesser}
 
 pub clash : {A : Type 0} → _≡_ {A = Bool} true false → A
@@ -66,15 +66,15 @@ pub score-fixed : (k l p q : ℕ) → l ≡ rank Fixed → k ≤ rank Fixed → 
 score-fixed k l p q e f h = le-ltb (score l q) (score k p) (omega arith)
 
 -- of the entries of two places, that of the lesser score
-pub sooner-lesser : (K : ℕ → ℕ) (a b : ℕ) (x y r : Entry) → x ≡ entryOf K a → y ≡ entryOf K b → r ≡ soonerOf x y → (r ≡ entryOf K (r .place)) × Lesser (scores K) a b (r .place)
+pub sooner-lesser : (K : ℕ → ℕ) (a b : ℕ) (x y r : Entry) → x ≡ keyed K a → y ≡ keyed K b → r ≡ soonerOf x y → (r ≡ keyed K (r .place)) × Lesser (scores K) a b (r .place)
 sooner-lesser K a b x y r p q e =
-    (elim (ltb (scores K b) (scores K a)) as (λ s. ltb (scores K b) (scores K a) ≡ s → (r ≡ entryOf K (r .place)) × Lesser (scores K) a b (r .place)) [
+    (elim (ltb (scores K b) (scores K a)) as (λ s. ltb (scores K b) (scores K a) ≡ s → (r ≡ keyed K (r .place)) × Lesser (scores K) a b (r .place)) [
       | true ↦ λ t.
-          let w : r ≡ entryOf K b = e ∙ rw (p, q, t) in
+          let w : r ≡ keyed K b = e ∙ rw (p, q, t) in
           let h : scores K b < scores K a = ltb-true _ _ t in
           rw w (refl, record { one = inr refl; left = omega arith; right = le-refl (scores K b) })
       | false ↦ λ t.
-          let w : r ≡ entryOf K a = e ∙ rw (p, q, t) in
+          let w : r ≡ keyed K a = e ∙ rw (p, q, t) in
           rw w (refl, record { one = inl refl; left = le-refl (scores K a); right = ltb-false _ _ t })
     ])
     refl

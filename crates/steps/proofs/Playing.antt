@@ -13,7 +13,7 @@ use Rattle.lists.specs.Totals.{total}
 use Rattle.lists.proofs.Sums.{getD-le-total}
 use Rattle.steps.specs.declared.costs.Entry.{Entry}
 use Rattle.steps.specs.Steps.{moved, keys, leastOf, step, settle}
-use Rattle.steps.specs.Inner.Scores.{keyAt, scores, entryOf, soonerOf}
+use Rattle.steps.specs.Inner.Scores.{keyAt, scores, keyed, soonerOf}
 use Rattle.steps.specs.Inner.Tree.{node, Kept, Path}
 use Rattle.steps.specs.Inner.Pack.{width, lows, highs}
 use Rattle.steps.specs.Inner.Asked.{Ready, RoomFor, MayMove, Aim, PutsDuration, PutsPlace, Standing, Plays, Stepped}
@@ -47,8 +47,8 @@ module _ (up : Bool) (rho : Float) (ms vs : List Float) (start : List ℕ) where
   S = scores (keyAt up rho ms vs (lows start))
 
   -- the entry of a place, of a list with these durations
-  entry-here : (w : List ℕ) → lows w ≡ lows start → (x : Entry) (p : ℕ) → x ≡ entryOf (keyAt up rho ms vs (lows w)) p → x ≡ entryOf (keyAt up rho ms vs (lows start)) p
-  entry-here w e x p q = q ∙ ap (λ (ds : List ℕ). entryOf (keyAt up rho ms vs ds) p) e
+  entry-here : (w : List ℕ) → lows w ≡ lows start → (x : Entry) (p : ℕ) → x ≡ keyed (keyAt up rho ms vs (lows w)) p → x ≡ keyed (keyAt up rho ms vs (lows start)) p
+  entry-here w e x p q = q ∙ ap (λ (ds : List ℕ). keyed (keyAt up rho ms vs ds) p) e
 
   plays : (w : List ℕ) → lows w ≡ lows start → Kept S (highs w) 1 → Plays up rho ms vs start w
   plays w e k = record { durations = e; tree = subst (λ (ds : List ℕ). Kept (scores (keyAt up rho ms vs ds)) (highs w) 1) (sym e) k }
@@ -79,7 +79,7 @@ module _ (up : Bool) (rho : Float) (ms vs : List Float) (start : List ℕ) where
         let m : node (highs w) j < length (highs w) = node-in (highs w) i j (g .tree .within) (omega arith) (omega arith) in
         omega arith
 
-    pub children-fit : 1 < i → (x y : Entry) → x ≡ entryOf (keyAt up rho ms vs (lows w)) (node (highs w) (2 * (i - 1))) → y ≡ entryOf (keyAt up rho ms vs (lows w)) (node (highs w) (2 * (i - 1) + 1)) → (x .place < mostStates) × (y .place < mostStates)
+    pub children-fit : 1 < i → (x y : Entry) → x ≡ keyed (keyAt up rho ms vs (lows w)) (node (highs w) (2 * (i - 1))) → y ≡ keyed (keyAt up rho ms vs (lows w)) (node (highs w) (2 * (i - 1) + 1)) → (x .place < mostStates) × (y .place < mostStates)
     children-fit h x y p q =
         let f : length ms ≤ mostStates = r .few in
         let a : node (highs w) (2 * (i - 1)) < length ms = child-in h (2 * (i - 1)) (omega arith) (omega arith) in
@@ -88,7 +88,7 @@ module _ (up : Bool) (rho : Float) (ms vs : List Float) (start : List ℕ) where
         let d : y .place ≡ node (highs w) (2 * (i - 1) + 1) = place-of _ _ y q in
         (omega arith, omega arith)
 
-    pub playing-next : 1 < i → (x y v : Entry) → x ≡ entryOf (keyAt up rho ms vs (lows w)) (node (highs w) (2 * (i - 1))) → y ≡ entryOf (keyAt up rho ms vs (lows w)) (node (highs w) (2 * (i - 1) + 1)) → v ≡ soonerOf x y → (w′ : List ℕ) → length w′ ≡ length w → PutsPlace w (i - 1) (v .place) w′ → Playing w′ (i - 1)
+    pub playing-next : 1 < i → (x y v : Entry) → x ≡ keyed (keyAt up rho ms vs (lows w)) (node (highs w) (2 * (i - 1))) → y ≡ keyed (keyAt up rho ms vs (lows w)) (node (highs w) (2 * (i - 1) + 1)) → v ≡ soonerOf x y → (w′ : List ℕ) → length w′ ≡ length w → PutsPlace w (i - 1) (v .place) w′ → Playing w′ (i - 1)
     playing-next h x y v p q s w′ l t =
         let e : length (highs w) ≡ length w = length-highs w in
         let b : i ≤ length w = g .high in
@@ -110,10 +110,10 @@ module _ (up : Bool) (rho : Float) (ms vs : List Float) (start : List ℕ) where
     pub climb : Climbing (keyAt up rho ms vs (lows start)) (length ms) (highs w) i x
 
   module _ (r : Ready ms vs (lows start)) where
-    pub rising : (p : ℕ) (x : Entry) → p < length ms → Path S (highs start) ((length ms + p) / 2) → x ≡ entryOf (keyAt up rho ms vs (lows start)) (node (highs start) (length start + p)) → Rising start (length start + p) x
+    pub rising : (p : ℕ) (x : Entry) → p < length ms → Path S (highs start) ((length ms + p) / 2) → x ≡ keyed (keyAt up rho ms vs (lows start)) (node (highs start) (length start + p)) → Rising start (length start + p) x
     rising p x h k e =
         let n : length start ≡ length ms = sized ms vs start r in
-        record { durations = refl; long = refl; climb = subst (λ (m : ℕ). Climbing (keyAt up rho ms vs (lows start)) (length ms) (highs start) (m + p) x) (sym n) (climb-start (keyAt up rho ms vs (lows start)) (length ms) (highs start) p x (length-highs start ∙ n) h (subst (λ (m : ℕ). x ≡ entryOf (keyAt up rho ms vs (lows start)) (node (highs start) (m + p))) n e) k) }
+        record { durations = refl; long = refl; climb = subst (λ (m : ℕ). Climbing (keyAt up rho ms vs (lows start)) (length ms) (highs start) (m + p) x) (sym n) (climb-start (keyAt up rho ms vs (lows start)) (length ms) (highs start) p x (length-highs start ∙ n) h (subst (λ (m : ℕ). x ≡ keyed (keyAt up rho ms vs (lows start)) (node (highs start) (m + p))) n e) k) }
 
     module _ (w : List ℕ) (i : ℕ) (x : Entry) (g : Rising w i x) where
       pub risen : i ≤ 1 → Plays up rho ms vs start w
@@ -123,7 +123,7 @@ module _ (up : Bool) (rho : Float) (ms vs : List Float) (start : List ℕ) where
         pub facing-in : node (highs w) (i + 1 - 2 * (i % 2)) < length ms
         facing-in = other-in (keyAt up rho ms vs (lows start)) (length ms) (highs w) i x (g .climb) h
 
-        module _ (y : Entry) (q : y ≡ entryOf (keyAt up rho ms vs (lows w)) (node (highs w) (i + 1 - 2 * (i % 2)))) where
+        module _ (y : Entry) (q : y ≡ keyed (keyAt up rho ms vs (lows w)) (node (highs w) (i + 1 - 2 * (i % 2)))) where
           pub facing-fit : (x .place < mostStates) × (y .place < mostStates)
           facing-fit =
               let f : length ms ≤ mostStates = r .few in

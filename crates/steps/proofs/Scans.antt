@@ -7,28 +7,28 @@ use native.Mathlib.Omega.{arith}
 use Rattle.lists.specs.Sizes.{mostStates}
 use Rattle.lists.proofs.Numbers.{le-or-lt}
 use Rattle.steps.specs.declared.costs.Entry.{Entry}
-use Rattle.steps.specs.Inner.Scores.{scores, entryOf, soonerOf}
+use Rattle.steps.specs.Inner.Scores.{scores, keyed, soonerOf}
 use Rattle.steps.proofs.Order.{sooner-lesser}
 
 -- of n states with these keys, i are passed, and the best of them is known
 pub record Scanning (K : ℕ → ℕ) (n i : ℕ) (best : Entry) : Type 0 where
   pub within : i ≤ n
   pub place : best .place < i
-  pub known : best ≡ entryOf K (best .place)
+  pub known : best ≡ keyed K (best .place)
   pub least : (j : ℕ) → j < i → scores K (best .place) ≤ scores K j
 
 module _ (K : ℕ → ℕ) (n : ℕ) (best : Entry) where
-  pub scan-start : 0 < n → best ≡ entryOf K 0 → Scanning K n 1 best
+  pub scan-start : 0 < n → best ≡ keyed K 0 → Scanning K n 1 best
   scan-start h e =
       let z : best .place ≡ 0 = ap (λ (x : Entry). x .place) e in
       record {
         within = omega arith;
         place = omega arith;
-        known = e ∙ ap (entryOf K) (sym z);
+        known = e ∙ ap (keyed K) (sym z);
         least = λ j l. let q : j ≡ 0 = omega arith in rw (z, q) (le-refl (scores K 0));
       }
 
-  module _ (i : ℕ) (s : Scanning K n i best) (h : i < n) (next : Entry) (q : next ≡ entryOf K i) where
+  module _ (i : ℕ) (s : Scanning K n i best) (h : i < n) (next : Entry) (q : next ≡ keyed K i) where
     pub scan-fits : n ≤ mostStates → (best .place < next .place) × (next .place < mostStates)
     scan-fits f = let p : best .place < i = s .place in let z : next .place ≡ i = ap (λ (x : Entry). x .place) q in (omega arith, omega arith)
 

@@ -84,8 +84,8 @@ module _ (rho : Float) (ms vs : List Float) (t : ℕ) where
     fallen : (ds : List ℕ) → length ds ≡ length ms → t < total ds → total (step false rho ms vs ds) + 1 ≡ total ds
     fallen ds q h = total-down rho ms vs some agree ds q (omega arith)
 
-    stepped : (w : Bool) (ds : List ℕ) → length ds ≡ length ms → length (step w rho ms vs ds) ≡ length ms
-    stepped w ds q = length-step rho ms vs w ds ∙ q
+    stepped : (up : Bool) (ds : List ℕ) → length ds ≡ length ms → length (step up rho ms vs ds) ≡ length ms
+    stepped up ds q = length-step rho ms vs up ds ∙ q
 
     -- as many steps as the total is away from the target
     pub settles-gap : {ds es : List ℕ} {k : ℕ} → length ds ≡ length ms → Settles rho ms vs t ds es k → k ≡ gap (total ds) t

@@ -18,13 +18,13 @@ use Rattle.steps.proofs.Keys.{place-in, place-long}
 -- ---- one step
 
 module _ (rho : Float) (ms vs : List Float) where
-  pub length-step : (w : Bool) (ds : List ℕ) → length (step w rho ms vs ds) ≡ length ds
+  pub length-step : (up : Bool) (ds : List ℕ) → length (step up rho ms vs ds) ≡ length ds
   unfolding step
-  length-step w ds = length-set ds (leastOf (keys w rho ms vs ds)) (moved w (getD ds (leastOf (keys w rho ms vs ds)) 0))
+  length-step up ds = length-set ds (leastOf (keys up rho ms vs ds)) (moved up (getD ds (leastOf (keys up rho ms vs ds)) 0))
 
   module _ (z : 0 < length ms) (e : length vs ≡ length ms) (ds : List ℕ) (q : length ds ≡ length ms) where
-    pub step-in : (w : Bool) → leastOf (keys w rho ms vs ds) < length ds
-    step-in w = rw q (place-in rho ms vs ds e q w z)
+    pub step-in : (up : Bool) → leastOf (keys up rho ms vs ds) < length ds
+    step-in up = rw q (place-in rho ms vs ds e q up z)
 
     pub total-up : total (step true rho ms vs ds) ≡ total ds + 1
     unfolding step
@@ -64,9 +64,9 @@ module _ (rho : Float) (ms vs : List Float) (t : ℕ) where
   settle-there zero ds e = refl
   settle-there (suc k) ds e = ap (λ (s : Bool). elim s [ true ↦ unchanged ds | false ↦ onceMore (settle k rho ms vs t (step (ltb (total ds) t) rho ms vs ds)) ]) (eq-eqb (total ds) t e)
 
-  pub settle-turn : (k : ℕ) (ds : List ℕ) (w : Bool) → (total ds ≡ t → ⊥) → ltb (total ds) t ≡ w → settle (suc k) rho ms vs t ds ≡ onceMore (settle k rho ms vs t (step w rho ms vs ds))
+  pub settle-turn : (k : ℕ) (ds : List ℕ) (up : Bool) → (total ds ≡ t → ⊥) → ltb (total ds) t ≡ up → settle (suc k) rho ms vs t ds ≡ onceMore (settle k rho ms vs t (step up rho ms vs ds))
   unfolding settle
-  settle-turn k ds w d e =
+  settle-turn k ds up d e =
       ap (λ (s : Bool). elim s [ true ↦ unchanged ds | false ↦ onceMore (settle k rho ms vs t (step (ltb (total ds) t) rho ms vs ds)) ]) (ne-eqb (total ds) t d)
       ∙ ap (λ (v : Bool). onceMore (settle k rho ms vs t (step v rho ms vs ds))) e
 
@@ -92,7 +92,7 @@ Toward false sum t = t ≤ sum
 
 toward : (sum t : ℕ) → Toward (ltb sum t) sum t
 toward sum t =
-    (elim (ltb sum t) as (λ w. ltb sum t ≡ w → Toward w sum t) [
+    (elim (ltb sum t) as (λ up. ltb sum t ≡ up → Toward up sum t) [
       | true ↦ λ e. (let h : sum < t = ltb-true sum t e in omega arith)
       | false ↦ λ e. ltb-false sum t e
     ])

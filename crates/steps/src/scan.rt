@@ -5,7 +5,7 @@ ghost use lib.ListN.{length};
 ghost use Rattle.lists.specs.Sizes.{mostFrames};
 ghost use Rattle.lists.specs.Totals.{total};
 ghost use Rattle.steps.specs.Steps.{keys, leastOf, step, settle};
-ghost use Rattle.steps.specs.Inner.Scores.{keyAt, entryOf};
+ghost use Rattle.steps.specs.Inner.Scores.{keyAt, keyed};
 ghost use Rattle.steps.specs.Inner.Asked.{Ready, RoomFor, Aim};
 use crate::costs::Entry;
 
@@ -13,7 +13,7 @@ use crate::costs::Entry;
 fn entry_of(up: bool, rho: f64, means: &[f64], varis: &[f64], work: &[u32], p: usize) -> Entry
     requires { ⌜ Ready (now means) (now varis) (now work) ⌝ }
     requires { ⌜ p < length (now means) ⌝ }
-    ensures { λ r. ⌜ r ≡ entryOf (keyAt up rho (now (means .entry)) (now (varis .entry)) (now (work .entry))) p ⌝ }
+    ensures { λ r. ⌜ r ≡ keyed (keyAt up rho (now (means .entry)) (now (varis .entry)) (now (work .entry))) p ⌝ }
 {
     Entry {
         place: p,

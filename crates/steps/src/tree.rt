@@ -5,7 +5,7 @@ ghost use lib.ListN.{length};
 ghost use Rattle.lists.specs.Sizes.{mostFrames};
 ghost use Rattle.lists.specs.Totals.{total};
 ghost use Rattle.steps.specs.Steps.{settle};
-ghost use Rattle.steps.specs.Inner.Scores.{keyAt, scores, entryOf};
+ghost use Rattle.steps.specs.Inner.Scores.{keyAt, scores, keyed};
 ghost use Rattle.steps.specs.Inner.Tree.{node, Path};
 ghost use Rattle.steps.specs.Inner.Pack.{lows, highs};
 ghost use Rattle.steps.specs.Inner.Asked.{Ready, RoomFor, Aim, Standing, Plays, Stepped};
@@ -15,7 +15,7 @@ use crate::costs::Entry;
 fn entry_at(up: bool, rho: f64, means: &[f64], varis: &[f64], work: &[u32], i: usize) -> Entry
     requires { ⌜ Ready (now means) (now varis) (lows (now work)) ⌝ }
     requires { ⌜ node (highs (now work)) i < length (now means) ⌝ }
-    ensures { λ r. ⌜ r ≡ entryOf (keyAt up rho (now (means .entry)) (now (varis .entry)) (lows (now (work .entry)))) (node (highs (now (work .entry))) i) ⌝ }
+    ensures { λ r. ⌜ r ≡ keyed (keyAt up rho (now (means .entry)) (now (varis .entry)) (lows (now (work .entry)))) (node (highs (now (work .entry))) i) ⌝ }
 {
     let place = crate::pack::place_at(work, i);
     let d = crate::pack::duration_at(work, place);

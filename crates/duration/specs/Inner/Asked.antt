@@ -8,10 +8,10 @@ use lib.Ieee.{Float}
 use Rattle.lists.specs.Sizes.{mostFrames, mostStates}
 use Rattle.lists.specs.Totals.{total}
 use Rattle.duration.specs.declared.Fitted.{Fitted}
-use Rattle.duration.specs.declared.Fitted.the-variants.{Done, Refused}
+use Rattle.duration.specs.declared.Fitted.the-variants as fit
 use Rattle.duration.specs.declared.Aligned.{Aligned}
 use Rattle.duration.specs.declared.align.Closed.{Closed}
-use Rattle.duration.specs.declared.align.Closed.the-variants.{Grown, Barred}
+use Rattle.duration.specs.declared.align.Closed.the-variants as close
 use Rattle.steps.specs.Steps.{Outcome}
 use Rattle.duration.specs.Align.{Group, fitOf, refusalOf}
 use Rattle.lists.specs.Answers.{Answer, answerOf}
@@ -30,8 +30,8 @@ pub record InPlace (k : ℕ) (o : Outcome) (r : Fitted) (work′ : List ℕ) : T
 
 -- an answer handed out: where it is one, the front of the work space is the output's; the work space is cleared
 abbrev pub outputAfter : Fitted → List ℕ → List ℕ → List ℕ
-outputAfter (Done changes) new out = new
-outputAfter (Refused number) new out = out
+outputAfter (fit.Done changes) new out = new
+outputAfter (fit.Refused number) new out = out
 
 pub record HandsOut (answer : Fitted) (n : ℕ) (out work : List ℕ) (r : Fitted) (out′ work′ : List ℕ) : Type 0 where
   pub same : r ≡ answer
@@ -47,8 +47,8 @@ pub record Lies (ms vs : List Float) (work : List ℕ) (g : Group) (frames : ℕ
 
 -- a group's answer as a number and values: its changes and its frames
 abbrev pub closed : Closed → Answer
-closed (Grown changes frames) = record { number = 0; values = changes ∷ frames ∷ [] }
-closed (Barred number) = record { number = number; values = [] }
+closed (close.Grown changes frames) = record { number = 0; values = changes ∷ frames ∷ [] }
+closed (close.Refused number) = record { number = number; values = [] }
 
 -- a group's outcome in its place, or its refusal
 pub record Closes (ms vs : List Float) (g : Group) (frames : ℕ) (work : List ℕ) (r : Closed) (work′ : List ℕ) : Type 0 where

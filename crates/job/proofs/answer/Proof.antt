@@ -14,7 +14,7 @@ fit-states-requires : tie.Need-fit-states-requires
 fit-states-requires c κs = few-states _ _ _ (c .before .before .before .states .given .1) (c .before .before .before .before .before .read-heading .ensures)
 
 returns-2 : tie.Need-returns-2
-returns-2 c = job-refused _ _ _ (c .before .before .before .before .before .before .before .before .before .before .before .states .given .1) (c .before .before .before .before .before .before .before .before .before .before .before .before .before .read-heading .ensures) _ _ (c .before .before .before .before .before .before .before .fit-states .result) _ _ (c .before .before .before .before .before .before .before .fit-states .ensures) _ _ (c .before .enum-told2 .given .1) (c .number-of .ensures)
+returns-2 c = job-refused _ _ _ (c .before .before .before .before .before .before .before .before .before .before .before .states .given .1) (c .before .before .before .before .before .before .before .before .before .before .before .before .before .read-heading .ensures) _ _ (c .before .before .before .before .before .before .before .fit-states .result) _ _ (c .before .before .before .before .before .before .before .fit-states .ensures) _ _ (c .before .enum-told2 .given .1) (c .number .ensures)
 
 slice-reshare-prefix-total-u32 : tie.Need-slice-reshare-prefix-total-u32
 slice-reshare-prefix-total-u32 c = job-room _ _ _ (c .before .before .before .before .before .before .before .before .before .before .before .states .given .1) (c .before .before .before .before .before .before .before .before .before .before .before .before .before .read-heading .ensures) _ _ (c .before .before .before .before .before .before .before .fit-states .result) _ _ (c .before .before .before .before .before .before .before .fit-states .ensures) _ (c .before .fit .given .1)

@@ -17,7 +17,7 @@ rank (Cost x) = toBits binary64 x
 
 -- the key of the state at a place
 unfoldable pub keyAt : Bool → Float → List Float → List Float → List ℕ → ℕ → ℕ
-keyAt w rho ms vs ds p = rank (keyOf w rho (getD ms p nan) (getD vs p nan) (getD ds p 0))
+keyAt up rho ms vs ds p = rank (keyOf up rho (getD ms p nan) (getD vs p nan) (getD ds p 0))
 
 -- RULES, Durations: of equal costs the first state is taken: the key decides, and where keys are equal the place
 abbrev pub score : ℕ → ℕ → ℕ
@@ -28,8 +28,8 @@ abbrev pub scores : (ℕ → ℕ) → ℕ → ℕ
 scores K p = score (K p) p
 
 -- a place with its key
-abbrev pub entryOf : (ℕ → ℕ) → ℕ → Entry
-entryOf K p = record { place = p; key = K p }
+abbrev pub keyed : (ℕ → ℕ) → ℕ → Entry
+keyed K p = record { place = p; key = K p }
 
 -- of two entries the one of the lesser score
 abbrev pub soonerOf : Entry → Entry → Entry

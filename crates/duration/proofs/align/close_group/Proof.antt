@@ -10,7 +10,7 @@ use Rattle.lists.specs.Totals.{total}
 use Rattle.duration.specs.Fit.{fitTo, refusalTo}
 use Rattle.duration.specs.Align.{Group, within, targetOf, fitOf}
 use Rattle.duration.specs.Inner.Asked.{InPlace}
-use Rattle.duration.proofs.Closing.{close-barred, close-long, close-grown, part-back, counted}
+use Rattle.duration.proofs.Closing.{close-refused, close-long, close-grown, part-back, counted}
 use Rattle.duration.proofs.align.close_group.Statement.{statement}
 use Rattle.duration.proofs.align.close_group.Tie as tie
 
@@ -38,7 +38,7 @@ sum c =
     counted _ (take (a .to - a .from) (drop (a .from) (take (a .from) (a .work .now) ++ (w ++ postOf (a .from) (a .to - a .from) (a .work .now))))) w (c .total-u32 .ensures) (part-back (a .work .now) w (a .from) (a .to - a .from) (postOf (a .from) (a .to - a .from) (a .work .now)) h n) (omega (arith, n, st .pre .inside, st .pre .lists .few))
 
 returns : tie.Need-returns
-returns c = close-barred _ _ _ _ _ _ _ _ (fits (c .before .before .before .before .before)) _ _ (c .before .enum-told .given .1) (c .number-of .ensures)
+returns c = close-refused _ _ _ _ _ _ _ _ (fits (c .before .before .before .before .before)) _ _ (c .before .enum-told .given .1) (c .number .ensures)
 
 returns-2 : tie.Need-returns-2
 returns-2 c = close-long _ _ _ _ _ _ _ _ (fits (c .before .before .before .before .before .before .before .before .before)) _ _ (c .before .before .before .before .before .answer .given .1) (sum (c .before)) (omega (arith, c .if1 .taken, c .before .before .before .before .before .before .before .before .before .before .before .before .before .before .before .before .before .before .pre .few))

@@ -4,7 +4,7 @@ use Prim.Native.Nat.{_-_}
 use native.Mathlib.Omega.{arith}
 use borrow.Author.Needs.{needs}
 use lib.ListN.{length}
-use Rattle.duration.proofs.Along.{Along, along, next-in, along-open, group-lies, Turn, turn-barred, turn-frames, turn-changes, turn-grown, along-done}
+use Rattle.duration.proofs.Along.{Along, along, next-in, along-open, group-lies, Turn, turn-refused, turn-frames, turn-changes, turn-grown, along-done}
 use Rattle.duration.proofs.align.fit_along.Statement.{statement}
 use Rattle.duration.proofs.align.fit_along.Tie as tie
 
@@ -34,7 +34,7 @@ same-length : tie.Need-same-length Inv-loop μ-loop
 same-length c = c .before .before .before .before .before .close-group .kept .1 .1 .1 .1 .1 .1 .0 ∙ c .before .before .before .before .before .before .before .before .before .before .before .before .before .before .loop .inv .long
 
 returns : tie.Need-returns Inv-loop μ-loop
-returns c = turn-barred _ _ _ _ (turn (c .before .before .before .before .before)) _ _ (c .before .enum-told2 .given .1) (c .number-of-group .ensures) _
+returns c = turn-refused _ _ _ _ (turn (c .before .before .before .before .before)) _ _ (c .before .enum-told2 .given .1) (c .number .ensures) _
 
 add-changes : tie.Need-add-changes Inv-loop μ-loop
 add-changes c = omega (arith, turn-changes _ _ _ _ (turn (c .before .before .before .before .before)) _ _ (c .before .group .given .1))

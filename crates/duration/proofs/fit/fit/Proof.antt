@@ -5,7 +5,7 @@ use Prim.Native.Nat.{ℕ, _<_}
 use native.Mathlib.Omega.{arith}
 use borrow.Author.Needs.{needs}
 use lib.ListN.{length}
-use Rattle.duration.proofs.Fits.{all-filled, fit-none, fit-over, fit-plain, fit-long, fit-settled}
+use Rattle.duration.proofs.Fits.{all-filled, fit-none, fit-over, fit-shortest, fit-long, fit-settled}
 use Rattle.duration.proofs.fit.fit.Statement.{statement}
 use Rattle.duration.proofs.fit.fit.Tie as tie
 
@@ -39,7 +39,7 @@ returns-2 c = fit-over _ _ _ (some (c .before)) _ (c .if2 .taken)
 returns-3 : tie.Need-returns-3
 returns-3 c =
     let t = c .before .before .before .before in
-    fit-plain _ _ _ (some (t .before .before)) (t .before .if2 .left) _ (t .if3 .taken) (c .before .before .fill-u32 .ensures ∙ all-filled _ _ _ (t .before .before .before .before .before .before .pre .workspace))
+    fit-shortest _ _ _ (some (t .before .before)) (t .before .if2 .left) _ (t .if3 .taken) (c .before .before .fill-u32 .ensures ∙ all-filled _ _ _ (t .before .before .before .before .before .before .pre .workspace))
 
 returns-4 : tie.Need-returns-4
 returns-4 c =
