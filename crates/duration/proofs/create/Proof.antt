@@ -13,15 +13,23 @@ use Rattle.duration.proofs.create.Statement.{statement}
 use Rattle.duration.proofs.create.Tie as tie
 
 -- the lists fit
-lists : (c : tie.Else1) → let a = c .before .before .before .before .before .before .args in Fitting (length (a .means .now)) (length (a .varis .now)) (length (a .out .now)) (length (a .work .now))
-lists c = fitting _ _ _ _ (sym (c .before .refusal-of-lists .ensures) ∙ c .if1 .left)
+module _ (c : tie.Else1) where
+  abbrev entry : tie.Start
+  entry = c .before .before .before .before .before .before
+
+  none : refusalOfLists (length (entry .args .means .now)) (length (entry .args .varis .now)) (length (entry .args .out .now)) (length (entry .args .work .now)) ≡ 0
+  none = sym (c .before .refusal-of-lists .ensures) ∙ c .if1 .left
+
+  lists : Fitting (length (entry .args .means .now)) (length (entry .args .varis .now)) (length (entry .args .out .now)) (length (entry .args .work .now))
+  lists = fitting _ _ _ _ none
 
 -- the front of the work space, as the fit leaves it
-abbrev W : tie.After-fit-at → List ℕ
-W c = c .fit-at .last .1 .1 .1 .0
+module _ (c : tie.After-fit-at) where
+  abbrev W : List ℕ
+  W = c .fit-at .last .1 .1 .1 .0
 
-W-length : (c : tie.After-fit-at) → length (W c) ≡ length (c .before .before .before .before .before .before .before .before .args .means .now)
-W-length c = c .fit-at .kept .1 .1 .1 .0 ∙ length-take-le _ _ (lists (c .before .before) .workspace)
+  W-length : length W ≡ length (entry (c .before .before) .args .means .now)
+  W-length = c .fit-at .kept .1 .1 .1 .0 ∙ length-take-le _ _ (lists (c .before .before) .workspace)
 
 returns : tie.Need-returns
 returns c =
@@ -40,8 +48,8 @@ fit-at-requires c κs = let s = lists (c .before) in record { few = s .few; vari
 returns-2 : tie.Need-returns-2
 returns-2 c =
     let f = c .before .before .before .before .before .before .before .before .before in
-    let e : refusalOfLists _ _ _ _ ≡ 0 = sym (c .before .before .before .before .before .before .before .before .before .before .before .before .refusal-of-lists .ensures) ∙ c .before .before .before .before .before .before .before .before .before .before .before .if1 .left in
-    rw e (says-handed _ _ _ _ _ (W f) (W-length f) (speed-clears _ _ _) _ _ _ _ _ (f .fit-at .ensures .answer) (f .fit-at .ensures .output) (lists (c .before .before .before .before .before .before .before .before .before .before .before) .output) (c .before .before .before .before .hand-out .ensures))
+    rw (none (f .before .before))
+    (says-handed _ _ _ _ _ (W f) (W-length f) (speed-clears _ _ _) _ _ _ _ _ (f .fit-at .ensures .answer) (f .fit-at .ensures .output) (lists (f .before .before) .output) (c .before .before .before .before .hand-out .ensures))
 
 pub create-spec : {M : Type 1} → statement M
 create-spec =

@@ -13,15 +13,23 @@ use Rattle.duration.proofs.create_with_alignment.Statement.{statement}
 use Rattle.duration.proofs.create_with_alignment.Tie as tie
 
 -- the labels cover the states, and the lists fit
-lists : (c : tie.Else1) → let a = c .before .before .before .before .before .before .before .args in Labels (a .nstate) (length (a .ends .now)) (length (a .means .now)) × Fitting (length (a .means .now)) (length (a .varis .now)) (length (a .out .now)) (length (a .work .now))
-lists c = labelled _ _ _ _ _ _ (sym (c .before .refusal-of-labels .ensures) ∙ c .if1 .left)
+module _ (c : tie.Else1) where
+  abbrev entry : tie.Start
+  entry = c .before .before .before .before .before .before .before
+
+  none : refusalOfLabels (entry .args .nstate) (length (entry .args .ends .now)) (length (entry .args .means .now)) (length (entry .args .varis .now)) (length (entry .args .out .now)) (length (entry .args .work .now)) ≡ 0
+  none = sym (c .before .refusal-of-labels .ensures) ∙ c .if1 .left
+
+  lists : Labels (entry .args .nstate) (length (entry .args .ends .now)) (length (entry .args .means .now)) × Fitting (length (entry .args .means .now)) (length (entry .args .varis .now)) (length (entry .args .out .now)) (length (entry .args .work .now))
+  lists = labelled _ _ _ _ _ _ none
 
 -- the front of the work space, as the alignment leaves it
-abbrev W : tie.After-fit-along → List ℕ
-W c = c .fit-along .last .1 .1 .1 .1 .0
+module _ (c : tie.After-fit-along) where
+  abbrev W : List ℕ
+  W = c .fit-along .last .1 .1 .1 .1 .0
 
-W-length : (c : tie.After-fit-along) → length (W c) ≡ length (c .before .before .before .before .before .before .before .before .before .args .means .now)
-W-length c = c .fit-along .kept .1 .1 .1 .1 .0 ∙ length-take-le _ _ (lists (c .before .before) .1 .workspace)
+  W-length : length W ≡ length (entry (c .before .before) .args .means .now)
+  W-length = c .fit-along .kept .1 .1 .1 .1 .0 ∙ length-take-le _ _ (lists (c .before .before) .1 .workspace)
 
 returns : tie.Need-returns
 returns c =
@@ -42,14 +50,15 @@ fit-along-requires c κs =
 returns-2 : tie.Need-returns-2
 returns-2 c =
     let f = c .before .before .before .before .before .before .before .before in
-    let e : refusalOfLabels _ _ _ _ _ _ ≡ 0 = sym (c .before .before .before .before .before .before .before .before .before .before .before .refusal-of-labels .ensures) ∙ c .before .before .before .before .before .before .before .before .before .before .if1 .left in
-    rw e (says-late _ _ _ _ _ (W f) (W-length f) (along-clears _ _ _ _) _ _ _ _ _ (ap aligned (c .before .before .before .before .enum-told .given .1)) (f .fit-along .ensures .answer) (c .before .before .fill-u32 .ensures))
+    rw (none (f .before .before))
+    (says-late _ _ _ _ _ (W f) (W-length f) (along-clears _ _ _ _) _ _ _ _ _ (ap aligned (c .before .before .before .before .enum-told .given .1)) (f .fit-along .ensures .answer) (c .before .before .fill-u32 .ensures))
 
 returns-3 : tie.Need-returns-3
 returns-3 c =
-    let f = c .before .before .before .before .before .before .before .before .before .before .before .before .before .before in
-    let e : refusalOfLabels _ _ _ _ _ _ ≡ 0 = sym (c .before .before .before .before .before .before .before .before .before .before .before .before .before .before .before .before .before .refusal-of-labels .ensures) ∙ c .before .before .before .before .before .before .before .before .before .before .before .before .before .before .before .before .if1 .left in
-    rw e (says-front _ _ _ _ _ (W f) (W-length f) (along-clears _ _ _ _) _ _ _ _ _ _ refl (ap aligned (sym (c .before .before .before .before .before .before .before .before .before .before .answer .given .1)) ∙ f .fit-along .ensures .answer) (lists (c .before .before .before .before .before .before .before .before .before .before .before .before .before .before .before .before) .1 .output) (f .fit-along .ensures .output) (c .before .before .before .before .before .before .copy-u32 .ensures) (c .before .before .fill-u322 .ensures))
+    let t = c .before .before .before .before .before .before .before .before .before in
+    let f = t .before .before .before .before .before in
+    rw (none (f .before .before))
+    (says-front _ _ _ _ _ (W f) (W-length f) (along-clears _ _ _ _) _ _ _ _ _ _ refl (ap aligned (sym (t .before .answer .given .1)) ∙ f .fit-along .ensures .answer) (lists (f .before .before) .1 .output) (f .fit-along .ensures .output) (c .before .before .before .before .before .before .copy-u32 .ensures) (c .before .before .fill-u322 .ensures))
 
 pub create-with-alignment-spec : {M : Type 1} → statement M
 create-with-alignment-spec =

@@ -6,6 +6,7 @@ use native.Mathlib.Omega.{arith}
 use borrow.Author.Needs.{needs}
 use borrow.Rule.Slice.PartMut.{mid-len, post-is, postOf}
 use lib.ListN.{length, take, drop}
+use lib.Ieee.{Float}
 use Rattle.lists.specs.Totals.{total}
 use Rattle.duration.specs.Fit.{fitTo, refusalTo}
 use Rattle.duration.specs.Align.{Group, within, targetOf, fitOf}
@@ -15,40 +16,53 @@ use Rattle.duration.proofs.align.close_group.Statement.{statement}
 use Rattle.duration.proofs.align.close_group.Tie as tie
 
 -- the group, and what its fit left in its place
-abbrev group : tie.After-fit → Group
-group c = let a = c .before .before .before .before .before .before .before .before .before .args in record { from = a .from; to = a .to; end = a .end }
+module _ (c : tie.After-fit) where
+  abbrev entry : tie.Start
+  entry = c .before .before .before .before .before .before .before .before .before
 
-abbrev W : tie.After-fit → List ℕ
-W c = c .fit .last .1 .1 .1 .0
+  abbrev group : Group
+  group = record { from = entry .args .from; to = entry .args .to; end = entry .args .end }
 
-fits : (c : tie.After-fit) → let a = c .before .before .before .before .before .before .before .before .before .args in let g = group c in InPlace (refusalTo (within g (a .means .now)) (within g (a .varis .now)) (targetOf g (a .frames))) (fitOf (a .means .now) (a .varis .now) g (a .frames)) (c .fit .result) (W c)
-fits c =
-    let a = c .before .before .before .before .before .before .before .before .before .args in
-    let g = group c in
-    subst (λ (t : ℕ). InPlace (refusalTo (within g (a .means .now)) (within g (a .varis .now)) t) (fitTo (within g (a .means .now)) (within g (a .varis .now)) t) (c .fit .result) (W c)) (c .before .before .before .before .rounded .ensures) (c .fit .ensures)
+  abbrev means : List Float
+  means = entry .args .means .now
+
+  abbrev varis : List Float
+  varis = entry .args .varis .now
+
+  abbrev W : List ℕ
+  W = c .fit .last .1 .1 .1 .0
+
+  fits : InPlace (refusalTo (within group means) (within group varis) (targetOf group (entry .args .frames))) (fitOf means varis group (entry .args .frames)) (c .fit .result) W
+  fits = subst (λ (t : ℕ). InPlace (refusalTo (within group means) (within group varis) t) (fitTo (within group means) (within group varis) t) (c .fit .result) W) (c .before .before .before .before .rounded .ensures) (c .fit .ensures)
 
 -- where the frames are counted
-sum : (c : tie.After-total-u32) → c .total-u32 .result ≡ total (W (c .before .before .before .before .before .before .before .before))
-sum c =
-    let st = c .before .before .before .before .before .before .before .before .before .before .before .before .before .before .before .before .before in
-    let a = st .args in
-    let w = W (c .before .before .before .before .before .before .before .before) in
-    let n : length w ≡ a .to - a .from = c .before .before .before .before .before .before .before .before .fit .kept .1 .1 .1 .0 ∙ mid-len (a .from) (a .to) (a .work .now) (omega (arith, st .pre .inside, st .pre .lists .workspace)) in
-    let h : a .from ≤ length (a .work .now) = omega (arith, st .pre .order, st .pre .inside, st .pre .lists .workspace) in
-    counted _ (take (a .to - a .from) (drop (a .from) (take (a .from) (a .work .now) ++ (w ++ postOf (a .from) (a .to - a .from) (a .work .now))))) w (c .total-u32 .ensures) (part-back (a .work .now) w (a .from) (a .to - a .from) (postOf (a .from) (a .to - a .from) (a .work .now)) h n) (omega (arith, n, st .pre .inside, st .pre .lists .few))
+module _ (c : tie.After-total-u32) where
+  abbrev fitted : tie.After-fit
+  fitted = c .before .before .before .before .before .before .before .before
+
+  sum : c .total-u32 .result ≡ total (W fitted)
+  sum =
+      let st = entry fitted in
+      let a = st .args in
+      let w = W fitted in
+      let n : length w ≡ a .to - a .from = fitted .fit .kept .1 .1 .1 .0 ∙ mid-len (a .from) (a .to) (a .work .now) (omega (arith, st .pre .inside, st .pre .lists .workspace)) in
+      let h : a .from ≤ length (a .work .now) = omega (arith, st .pre .order, st .pre .inside, st .pre .lists .workspace) in
+      counted _ (take (a .to - a .from) (drop (a .from) (take (a .from) (a .work .now) ++ (w ++ postOf (a .from) (a .to - a .from) (a .work .now))))) w (c .total-u32 .ensures) (part-back (a .work .now) w (a .from) (a .to - a .from) (postOf (a .from) (a .to - a .from) (a .work .now)) h n) (omega (arith, n, st .pre .inside, st .pre .lists .few))
 
 returns : tie.Need-returns
 returns c = close-refused _ _ _ _ _ _ _ _ (fits (c .before .before .before .before .before)) _ _ (c .before .enum-told .given .1) (c .number .ensures)
 
 returns-2 : tie.Need-returns-2
-returns-2 c = close-long _ _ _ _ _ _ _ _ (fits (c .before .before .before .before .before .before .before .before .before)) _ _ (c .before .before .before .before .before .answer .given .1) (sum (c .before)) (omega (arith, c .if1 .taken, c .before .before .before .before .before .before .before .before .before .before .before .before .before .before .before .before .before .before .pre .few))
+returns-2 c =
+    let f = fitted (c .before) in
+    close-long _ _ _ _ _ _ _ _ (fits f) _ _ (c .before .before .before .before .before .answer .given .1) (sum (c .before)) (omega (arith, c .if1 .taken, entry f .pre .few))
 
 returns-3 : tie.Need-returns-3
 returns-3 c =
-    let st = c .before .before .before .before .before .before .before .before .before .before .before .before .before .before .before .before .before .before in
-    let a = st .args in
-    close-grown _ _ _ _ _ _ _ _ (fits (c .before .before .before .before .before .before .before .before .before)) _ _ (c .before .before .before .before .before .answer .given .1) (sum (c .before)) (omega (arith, c .if1 .left, st .pre .few))
-    (ap (λ (l : List ℕ). take (a .from) (a .work .now) ++ (W (c .before .before .before .before .before .before .before .before .before) ++ l)) (post-is (a .from) (a .to) (a .work .now) (st .pre .order)))
+    let f = fitted (c .before) in
+    let a = entry f .args in
+    close-grown _ _ _ _ _ _ _ _ (fits f) _ _ (c .before .before .before .before .before .answer .given .1) (sum (c .before)) (omega (arith, c .if1 .left, entry f .pre .few))
+    (ap (λ (l : List ℕ). take (a .from) (a .work .now) ++ (W f ++ l)) (post-is (a .from) (a .to) (a .work .now) (entry f .pre .order)))
 
 pub close-group-spec : {M : Type 1} → statement M
 close-group-spec =

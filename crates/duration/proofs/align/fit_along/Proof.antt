@@ -14,24 +14,31 @@ Inv-loop means varis nstate ends work₀ done₀ first₀ frames₀ changes₀ i
 abbrev μ-loop : tie.MeasureT-loop
 μ-loop means varis nstate ends work₀ done₀ first₀ frames₀ changes₀ i₀ work done first frames changes i = length ends - i
 
+abbrev entry : tie.At-loop Inv-loop μ-loop → tie.Start Inv-loop μ-loop
+entry c = c .before .before .before .before .before
+
 -- where a group has been closed, or refused
-turn : (c : tie.After-close-group Inv-loop μ-loop) → let a = c .before .before .before .before .before .before .before .before .before .before .before .before .before .before .args in let l = c .before .before .before .before .before .before .before .before .before .loop in Turn (a .means .now) (a .varis .now) (a .nstate) (a .ends .now) (a .work .now) (l .work) (l .done) (l .first) (l .frames) (l .changes) (l .i) (c .before .before .before .before .before .before .new .result) (c .before .before .before .end .given .0 .0) (c .close-group .result) (c .close-group .last .1 .1 .1 .1 .1 .1 .0)
-turn c = record { labels = c .before .before .before .before .before .before .before .before .before .before .before .before .before .before .pre; before = c .before .before .before .before .before .before .before .before .before .loop .inv; here = c .before .before .before .before .before .before .before .before .loop-test .taken; made = c .before .before .before .before .before .before .new .ensures; given = c .before .before .before .end .given .1; closes = c .close-group .ensures }
+module _ (c : tie.After-close-group Inv-loop μ-loop) where
+  abbrev head : tie.At-loop Inv-loop μ-loop
+  head = c .before .before .before .before .before .before .before .before .before
+
+  turn : let a = entry head .args in Turn (a .means .now) (a .varis .now) (a .nstate) (a .ends .now) (a .work .now) (head .loop .work) (head .loop .done) (head .loop .first) (head .loop .frames) (head .loop .changes) (head .loop .i) (c .before .before .before .before .before .before .new .result) (c .before .before .before .end .given .0 .0) (c .close-group .result) (c .close-group .last .1 .1 .1 .1 .1 .1 .0)
+  turn = record { labels = entry head .pre; before = head .loop .inv; here = c .before .before .before .before .before .before .before .before .loop-test .taken; made = c .before .before .before .before .before .before .new .ensures; given = c .before .before .before .end .given .1; closes = c .close-group .ensures }
 
 loop-holds : tie.Need-loop-holds Inv-loop μ-loop
 loop-holds c = along _ _ _ _ _ (c .before .before .before .before .pre)
 
 add-next : tie.Need-add-next Inv-loop μ-loop
-add-next c = omega (arith, next-in _ _ _ _ _ _ _ _ _ _ _ (c .before .before .before .before .before .before .before .before .before .pre) (c .before .before .before .before .loop .inv) (c .before .before .before .loop-test .taken) _ (c .before .new .ensures))
+add-next c = let h = c .before .before .before .before in omega (arith, next-in _ _ _ _ _ _ _ _ _ _ _ (entry h .pre) (h .loop .inv) (c .before .before .before .loop-test .taken) _ (c .before .new .ensures))
 
 loop-again : tie.Need-loop-again Inv-loop μ-loop
-loop-again c = along-open _ _ _ _ _ _ _ _ _ _ _ (c .before .before .before .before .before .before .before .before .before .before .before .pre) (c .before .before .before .before .before .before .loop .inv) (c .before .before .before .before .before .loop-test .taken) _ (c .before .before .before .new .ensures) (c .enum-told .given .1)
+loop-again c = let h = c .before .before .before .before .before .before in along-open _ _ _ _ _ _ _ _ _ _ _ (entry h .pre) (h .loop .inv) (c .before .before .before .before .before .loop-test .taken) _ (c .before .before .before .new .ensures) (c .enum-told .given .1)
 
 close-group-requires : tie.Need-close-group-requires Inv-loop μ-loop
-close-group-requires c κs = group-lies _ _ _ _ _ _ _ _ _ _ _ (c .before .before .before .before .before .before .before .before .before .before .before .before .before .pre) (c .before .before .before .before .before .before .before .before .loop .inv) (c .before .before .before .before .before .before .before .loop-test .taken) _ (c .before .before .before .before .before .new .ensures) _ (c .before .before .end .given .1)
+close-group-requires c κs = let h = c .before .before .before .before .before .before .before .before in group-lies _ _ _ _ _ _ _ _ _ _ _ (entry h .pre) (h .loop .inv) (c .before .before .before .before .before .before .before .loop-test .taken) _ (c .before .before .before .before .before .new .ensures) _ (c .before .before .end .given .1)
 
 same-length : tie.Need-same-length Inv-loop μ-loop
-same-length c = c .before .before .before .before .before .close-group .kept .1 .1 .1 .1 .1 .1 .0 ∙ c .before .before .before .before .before .before .before .before .before .before .before .before .before .before .loop .inv .long
+same-length c = let g = c .before .before .before .before .before in g .close-group .kept .1 .1 .1 .1 .1 .1 .0 ∙ head g .loop .inv .long
 
 returns : tie.Need-returns Inv-loop μ-loop
 returns c = turn-refused _ _ _ _ (turn (c .before .before .before .before .before)) _ _ (c .before .enum-told2 .given .1) (c .number .ensures) _
@@ -43,16 +50,16 @@ add-frames : tie.Need-add-frames Inv-loop μ-loop
 add-frames c = omega (arith, turn-frames _ _ _ _ (turn (c .before .before .before .before .before)) _ _ (c .before .group .given .1))
 
 loop-again-2 : tie.Need-loop-again-2 Inv-loop μ-loop
-loop-again-2 c = turn-grown _ _ _ _ (turn (c .before .before .before .before .before)) _ _ (c .before .group .given .1) (c .before .before .before .before .before .close-group .kept .1 .1 .1 .1 .1 .1 .0)
+loop-again-2 c = let g = c .before .before .before .before .before in turn-grown _ _ _ _ (turn g) _ _ (c .before .group .given .1) (g .close-group .kept .1 .1 .1 .1 .1 .1 .0)
 
 cast-t25 : tie.Need-cast-t25 Inv-loop μ-loop
-cast-t25 c = let l = c .before .loop in omega (arith, l .inv .order, l .inv .place, c .before .before .before .before .before .before .pre .lists .few)
+cast-t25 c = let l = c .before .loop in omega (arith, l .inv .order, l .inv .place, entry (c .before) .pre .lists .few)
 
 same-length-2 : tie.Need-same-length-2 Inv-loop μ-loop
 same-length-2 c = c .before .loop .inv .long
 
 returns-2 : tie.Need-returns-2 Inv-loop μ-loop
-returns-2 c = along-done _ _ _ _ _ _ _ _ _ _ _ (c .before .before .before .before .before .before .pre) (c .before .loop .inv) (c .loop-test .left)
+returns-2 c = along-done _ _ _ _ _ _ _ _ _ _ _ (entry (c .before) .pre) (c .before .loop .inv) (c .loop-test .left)
 
 pub fit-along-spec : {M : Type 1} → statement M
 fit-along-spec =

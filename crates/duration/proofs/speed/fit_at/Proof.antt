@@ -18,17 +18,24 @@ use Rattle.duration.proofs.speed.fit_at.Statement.{statement}
 use Rattle.duration.proofs.speed.fit_at.Tie as tie
 
 -- the estimates that stand in the work space
-abbrev W : tie.After-total-u32 → List ℕ
-W c = c .before .before .before .before .estimate-duration .last .1 .1 .1 .0
+module _ (c : tie.After-total-u32) where
+  abbrev made : tie.After-estimate-duration
+  made = c .before .before .before .before
 
-natural : (c : tie.After-total-u32) → W c ≡ naturals (c .before .before .before .before .before .before .before .before .before .args .means .now) (c .before .before .before .before .before .before .before .before .before .args .varis .now)
-unfolding naturals
-natural c = c .before .before .before .before .estimate-duration .ensures
+  abbrev entry : tie.Start
+  entry = made .before .before .before .before .before
 
-sum : (c : tie.After-total-u32) → c .total-u32 .result ≡ total (naturals (c .before .before .before .before .before .before .before .before .before .args .means .now) (c .before .before .before .before .before .before .before .before .before .args .varis .now))
-sum c =
-    let n : length (W c) ≡ length (c .before .before .before .before .before .before .before .before .before .args .means .now) = c .before .before .before .before .estimate-duration .kept .1 .1 .1 .0 ∙ c .before .before .before .before .before .before .before .before .before .pre .workspace in
-    c .total-u32 .ensures ∙ total-whole (W c) (omega (arith, c .before .before .before .before .before .before .before .before .before .pre .few)) ∙ ap total (natural c)
+  abbrev W : List ℕ
+  W = made .estimate-duration .last .1 .1 .1 .0
+
+  natural : W ≡ naturals (entry .args .means .now) (entry .args .varis .now)
+  unfolding naturals
+  natural = made .estimate-duration .ensures
+
+  sum : c .total-u32 .result ≡ total (naturals (entry .args .means .now) (entry .args .varis .now))
+  sum =
+      let n : length W ≡ length (entry .args .means .now) = made .estimate-duration .kept .1 .1 .1 .0 ∙ entry .pre .workspace in
+      c .total-u32 .ensures ∙ total-whole W (omega (arith, entry .pre .few)) ∙ ap total natural
 
 returns : tie.Need-returns
 returns c = speed-long _ _ _ _ (subst (λ (n : ℕ). mostFrames < n) (sum (c .before)) (c .if1 .taken))
@@ -46,9 +53,10 @@ int-to-float-rounded c =
 returns-3 : tie.Need-returns-3
 unfolding targetAt
 returns-3 c =
-    let t = c .before .before .before .before .before .before .before .before in
-    speed-other _ _ _ _ (subst (λ (n : ℕ). n ≤ mostFrames) (sum t) (c .before .before .before .before .before .before .before .if1 .left)) _ _ (c .before .before .before .before .before .before .if2 .left)
-    (c .before .before .before .before .rounded .ensures ∙ ap (λ (n : ℕ). roundedOf (div binary64 (number n) (c .before .before .before .before .before .before .before .before .before .before .before .before .before .before .before .before .before .args .speed))) (sum t)) (c .before .before .fit .ensures)
+    let o = c .before .before .before .before .before .before in
+    let t = o .before .before in
+    speed-other _ _ _ _ (subst (λ (n : ℕ). n ≤ mostFrames) (sum t) (o .before .if1 .left)) _ _ (o .if2 .left)
+    (c .before .before .before .before .rounded .ensures ∙ ap (λ (n : ℕ). roundedOf (div binary64 (number n) (entry t .args .speed))) (sum t)) (c .before .before .fit .ensures)
 
 pub fit-at-spec : {M : Type 1} → statement M
 fit-at-spec =

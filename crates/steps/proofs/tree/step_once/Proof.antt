@@ -4,34 +4,44 @@ use Rattle.steps.proofs.Playing.{root-place, root-inside, root-moves, r
 use Rattle.steps.proofs.tree.step_once.Statement.{statement}
 use Rattle.steps.proofs.tree.step_once.Tie as tie
 
+abbrev entry : tie.After-place-at → tie.Start
+entry c = c .before .before .before .before .before
+
 duration-at-requires : tie.Need-duration-at-requires
-duration-at-requires c κs = let st = c .before .before .before .before .before .before in root-place _ _ _ _ _ (st .pre .0) (st .pre .1 .0) (st .pre .1 .1) _ (c .before .place-at .ensures)
+duration-at-requires c κs = let p = c .before in root-place _ _ _ _ _ (entry p .pre .0) (entry p .pre .1 .0) (entry p .pre .1 .1) _ (p .place-at .ensures)
 
 moved-one-requires : tie.Need-moved-one-requires
-moved-one-requires c κs = let st = c .before .before .before .before .before .before .before in root-moves _ _ _ _ _ (st .pre .0) (st .pre .1 .0) (st .pre .1 .1) _ (c .before .before .place-at .ensures) _ (c .duration-at .ensures)
+moved-one-requires c κs = let p = c .before .before in root-moves _ _ _ _ _ (entry p .pre .0) (entry p .pre .1 .0) (entry p .pre .1 .1) _ (p .place-at .ensures) _ (c .duration-at .ensures)
 
 put-duration-requires : tie.Need-put-duration-requires
 put-duration-requires c κs =
-    let st = c .before .before .before .before .before .before .before .before .before in
-    let at = c .before .before .before .before .place-at .ensures in
-    (root-place _ _ _ _ _ (st .pre .0) (st .pre .1 .0) (st .pre .1 .1) _ at, root-small _ _ _ _ _ (st .pre .0) (st .pre .1 .0) (st .pre .1 .1) _ at _ (c .before .before .duration-at .ensures) _ (c .before .moved-one .ensures))
+    let d = c .before .before in
+    let p = d .before .before in
+    (root-place _ _ _ _ _ (entry p .pre .0) (entry p .pre .1 .0) (entry p .pre .1 .1) _ (p .place-at .ensures), root-small _ _ _ _ _ (entry p .pre .0) (entry p .pre .1 .0) (entry p .pre .1 .1) _ (p .place-at .ensures) _ (d .duration-at .ensures) _ (c .before .moved-one .ensures))
+
+-- where the state's duration has been put
+module _ (c : tie.After-put-duration) where
+  abbrev moved : tie.After-moved-one
+  moved = c .before .before
+
+  abbrev place : tie.After-place-at
+  place = moved .before .before .before
 
 play-above-requires : tie.Need-play-above-requires
 play-above-requires c κs =
-    let st = c .before .before .before .before .before .before .before .before .before .before .before .before .before in
-    let at = c .before .before .before .before .before .before .before .before .place-at .ensures in
-    let d = c .before .before .before .before .before .before .duration-at .ensures in
-    let m = c .before .before .before .before .before .moved-one .ensures in
-    let t = c .before .before .before .put-duration .ensures in
-    (root-ready _ _ _ _ _ (st .pre .0) (st .pre .1 .0) (st .pre .1 .1) _ at _ d _ m _ t, (root-inside _ _ _ _ _ (st .pre .0) (st .pre .1 .0) (st .pre .1 .1) _ at, root-path _ _ _ _ _ (st .pre .0) (st .pre .1 .0) (st .pre .1 .1) _ at _ d _ m _ t))
+    let u = c .before .before .before in
+    let m = moved u in
+    let p = place u in (
+      root-ready _ _ _ _ _ (entry p .pre .0) (entry p .pre .1 .0) (entry p .pre .1 .1) _ (p .place-at .ensures) _ (m .before .duration-at .ensures) _ (m .moved-one .ensures) _ (u .put-duration .ensures),
+      (root-inside _ _ _ _ _ (entry p .pre .0) (entry p .pre .1 .0) (entry p .pre .1 .1) _ (p .place-at .ensures), root-path _ _ _ _ _ (entry p .pre .0) (entry p .pre .1 .0) (entry p .pre .1 .1) _ (p .place-at .ensures) _ (m .before .duration-at .ensures) _ (m .moved-one .ensures) _ (u .put-duration .ensures)),
+    )
 
 returns : tie.Need-returns
 returns c =
-    let st = c .before .before .before .before .before .before .before .before .before .before .before .before .before .before .before .before in
-    let at = c .before .before .before .before .before .before .before .before .before .before .before .place-at .ensures in
-    let d = c .before .before .before .before .before .before .before .before .before .duration-at .ensures in
-    let m = c .before .before .before .before .before .before .before .before .moved-one .ensures in
-    root-stepped _ _ _ _ _ (st .pre .0) (st .pre .1 .0) (st .pre .1 .1) _ at _ d _ m _ (c .before .before .before .before .before .before .put-duration .ensures) _ (c .before .before .play-above .ensures)
+    let u = c .before .before .before .before .before .before in
+    let m = moved u in
+    let p = place u in
+    root-stepped _ _ _ _ _ (entry p .pre .0) (entry p .pre .1 .0) (entry p .pre .1 .1) _ (p .place-at .ensures) _ (m .before .duration-at .ensures) _ (m .moved-one .ensures) _ (u .put-duration .ensures) _ (c .before .before .play-above .ensures)
 
 pub step-once-spec : {M : Type 1} → statement M
 step-once-spec =
