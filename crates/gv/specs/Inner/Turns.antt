@@ -111,6 +111,6 @@ module _ (g : MlpgGlobalVariance) (on : List Bool) (gvMean gvVari : Float) (r : 
   abbrev pub fiveTurns : List Float → Region
   fiveTurns par = let s = state par stepInit nan in put (g .length) (gradient (g .width) (r .matrix) (valuesOf (iterate turnIn 4 s))) (valuesOf (iterate turnIn 5 s)) r
 
-  -- it is so after the global variance
+  -- the lists after the global variance
   abbrev pub parmgenIn : Region
   parmgenIn = cond (eqb (count on) 0) r (fiveTurns (convGv on gvMean (r .values)))

@@ -7,7 +7,7 @@ use lib.Ieee.{Float}
 use Rattle.region.specs.Region.{Region, regionOf}
 use Rattle.region.specs.declared.Places.{Places}
 
--- the lists of a region follow each other, and end within so many floats
+-- the lists of a region follow each other, the pairs first, and end within so many floats
 pub record Spaced (p : Places) (n w size : ℕ) : Type 0 where
   pub rows-at : p .ivars + p .ivars ≤ p .rows
   pub right-at : p .rows + n * w ≤ p .right
