@@ -1,10 +1,9 @@
 -- Worked cases of the rule and of its door, by computation.
-use mathlib.Core.Path.{_≡_, refl}
+use mathlib.Core.Path.{refl}
 use mathlib.Core.Bool.{false}
 use mathlib.Core.List.{List, [], _∷_}
-use Prim.Native.Nat.{ℕ}
 use lib.IntN.{negsuc}
-use lib.Ieee.{Float, inf, fin, binary64, ofBits, ofInt, sub, div, lt, isNan}
+use lib.Ieee.{Float, inf, fin, ofBits, ofInt, sub, div, lt, isNan}
 use Rattle.lists.specs.Totals.{total}
 use Rattle.floats.specs.Order.{absOf, costBelow}
 use Rattle.floats.specs.Numbers.{number}
@@ -22,7 +21,7 @@ varis = number 1 ∷ number 1 ∷ []
 abbrev rho : Float
 rho = fin false 3 (negsuc 0)
 
--- RULES, Cases, 1: the first state gives a frame, since its cost is the second's
+-- RULES, Cases, 1: both states' costs are the same, and the first gives a frame
 pub gives-one : SettleSays rho 8 means varis (4 ∷ 5 ∷ []) (Done 1) (3 ∷ 5 ∷ [])
 unfolding settle step keys keyOf leastOf costBelow absOf total ofBits ofInt sub div lt isNan
 gives-one = record { answer = refl; durations = refl }
