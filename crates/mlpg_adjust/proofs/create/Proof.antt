@@ -1,34 +1,31 @@
 -- `mlpg_adjust::create` meets its contract.
 use mathlib.Core.Path.{_≡_, sym, _∙_}
 use Rattle.mlpg_adjust.specs.Promise.{lengthsOf, createRefusal}
-use Rattle.mlpg_adjust.proofs.Ways.{accepted-shape, accepted-switches, accepted-room, create-refused, create-done}
+use Rattle.mlpg_adjust.proofs.Ways.{accepted-shape, accepted-gv, accepted-room, create-refused, create-done}
 use borrow.Author.Needs.{needs}
 use Rattle.mlpg_adjust.proofs.create.Statement.{statement}
 use Rattle.mlpg_adjust.proofs.create.Tie as tie
 
+abbrev entry : tie.After-refusal → tie.Start
+entry c = c .before .before .before .before .before .before .before .before .before .before
+
 -- nothing is refused
-ok : (c : tie.Else1) → let a = c .before .before .before .before .before .before .before .before .before .before .before .args in createRefusal (a .stream) (a .widths .now) (a .coefficients .now) (a .durations .now) (lengthsOf (a .records .now) (a .gv .now) (a .switches .now) (a .out .now) (a .work .now) (a .marks .now)) ≡ 0
+ok : (c : tie.Else1) → let a = entry (c .before) .args in createRefusal (a .stream) (a .widths .now) (a .coefficients .now) (a .durations .now) (lengthsOf (a .records .now) (a .gv .now) (a .switches .now) (a .out .now) (a .work .now) (a .marks .now)) ≡ 0
 ok c = sym (c .before .refusal .ensures) ∙ c .if1 .left
 
 returns : tie.Need-returns
-returns c =
-    let a = c .before .before .before .before .before .before .before .before .before .before .before .args in
-    create-refused (a .stream) (a .widths .now) (a .coefficients .now) (a .records .now) (a .durations .now) (a .gv .now) (a .switches .now) (a .out .now) (a .work .now) (a .marks .now) _ (c .before .refusal .ensures) (c .if1 .taken)
+returns c = let a = entry (c .before) .args in create-refused (a .stream) (a .widths .now) (a .coefficients .now) (a .records .now) (a .durations .now) (a .gv .now) (a .switches .now) (a .out .now) (a .work .now) (a .marks .now) _ (c .before .refusal .ensures) (c .if1 .taken)
 
 write-requires : tie.Need-write-requires
 write-requires c κs =
-    let a = c .before .before .before .before .before .before .before .before .before .before .before .before .before .before .args in
-    let z = ok (c .before .before .before) in (
-      accepted-shape (a .stream) (a .widths .now) (a .coefficients .now) (a .records .now) (a .durations .now) (a .gv .now) (a .switches .now) (a .out .now) (a .work .now) (a .marks .now) z,
-      accepted-switches (a .stream) (a .widths .now) (a .coefficients .now) (a .records .now) (a .durations .now) (a .gv .now) (a .switches .now) (a .out .now) (a .work .now) (a .marks .now) z,
-      accepted-room (a .stream) (a .widths .now) (a .coefficients .now) (a .records .now) (a .durations .now) (a .gv .now) (a .switches .now) (a .out .now) (a .work .now) (a .marks .now) z,
-    )
+    let e = c .before .before .before in let a = entry (e .before) .args in
+    (accepted-shape (a .stream) (a .widths .now) (a .coefficients .now) (a .records .now) (a .durations .now) (a .gv .now) (a .switches .now) (a .out .now) (a .work .now) (a .marks .now) (ok e), accepted-gv (a .stream) (a .widths .now) (a .coefficients .now) (a .records .now) (a .durations .now) (a .gv .now) (a .switches .now) (a .out .now) (a .work .now) (a .marks .now) (ok e), accepted-room (a .stream) (a .widths .now) (a .coefficients .now) (a .records .now) (a .durations .now) (a .gv .now) (a .switches .now) (a .out .now) (a .work .now) (a .marks .now) (ok e))
 
 returns-2 : tie.Need-returns-2
 returns-2 c =
-    let a = c .before .before .before .before .before .before .before .before .before .before .before .before .before .before .before .before .before .before .before .before .before .args in
-    let e = c .before .before .before .before .before .before .write .ensures in
-    create-done (a .stream) (a .widths .now) (a .coefficients .now) (a .records .now) (a .durations .now) (a .gv .now) (a .switches .now) (a .out .now) (a .work .now) (a .marks .now) _ _ _ (ok (c .before .before .before .before .before .before .before .before .before .before)) (e .0) (e .1) (e .2)
+    let w = c .before .before .before .before .before .before in let e = w .before .before .before .before in
+    let a = entry (e .before) .args in
+    create-done (a .stream) (a .widths .now) (a .coefficients .now) (a .records .now) (a .durations .now) (a .gv .now) (a .switches .now) (a .out .now) (a .work .now) (a .marks .now) _ _ _ (ok e) (w .write .ensures .0) (w .write .ensures .1) (w .write .ensures .2)
 
 pub create-spec : {M : Type 1} → statement M
 create-spec =

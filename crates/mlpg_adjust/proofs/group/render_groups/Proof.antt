@@ -18,35 +18,27 @@ Inv-loop p widths coefficients records durations marks gv work₀ out₀ v lanes
 abbrev μ-loop : tie.MeasureT-loop
 μ-loop p widths coefficients records durations marks gv work₀ out₀ v lanes first₀ work out first = v - first
 
-div-lanes : tie.Need-div-lanes Inv-loop μ-loop
-div-lanes c = omega (arith, c .floats .ensures)
-
-loop-holds : tie.Need-loop-holds Inv-loop μ-loop
-loop-holds c = (search needs, refl, refl, columned-none _ _ _)
+abbrev entry : tie.After-wide Inv-loop μ-loop → tie.Start Inv-loop μ-loop
+entry c = c .before .before .before .before .before .before .before .before .before .before
 
 -- the group is of components that are left, and has room
 module _ (c : tie.After-least Inv-loop μ-loop) where
+  abbrev start : tie.Start Inv-loop μ-loop
+  start = entry (c .before .before .before .before .before)
+
   within : c .before .before .loop .first + c .least .result ≤ c .before .before .before .before .before .wide .result
   within = omega (arith, c .least .ensures, c .before .loop-test .taken)
 
-  room : c .least .result * sizeOf (c .before .before .before .before .before .before .before .before .before .before .before .before .before .before .before .args .p .layout) ≤ length (c .before .before .loop .work)
-  room =
-      let s = c .before .before .before .before .before .before .before .before .before .before .before .before .before .before .before in
-      lanes-room _ _ _ _ _ _ _ (s .pre .0) _ (c .before .before .before .floats .ensures) _ _ (omega (arith, c .least .ensures)) (c .before .before .loop .inv .1 ∙ s .pre .1)
+  room : c .least .result * sizeOf (start .args .p .layout) ≤ length (c .before .before .loop .work)
+  room = lanes-room _ _ _ _ _ _ (start .pre .0) _ (c .before .before .before .floats .ensures) _ _ (omega (arith, c .least .ensures)) (c .before .before .loop .inv .1 ∙ start .pre .2)
 
 render-group-requires : tie.Need-render-group-requires Inv-loop μ-loop
 render-group-requires c κs =
-    let s = c .before .before .before .before .before .before .before .before .before .before .before .before .before .before .before .before .before in
-    let e = c .before .before .before .before .before .before .before .wide .ensures in
-    (s .pre .0, e, within (c .before .before), room (c .before .before), c .before .before .before .before .loop .inv .2 ∙ rw e (s .pre .2))
-
-add-first : tie.Need-add-first Inv-loop μ-loop
-add-first c = omega (arith, within (c .before .before .before .before .before .before .before), c .before .before .before .before .before .before .before .before .before .before .before .before .wide .ensures, c .before .before .before .before .before .before .before .before .before .before .before .before .before .before .before .before .before .before .before .before .before .before .pre .0 .shaped .most-v)
+    let q = c .before .before in let s = start q in let e = q .before .before .before .before .before .wide .ensures in
+    (s .pre .0, rw e (s .pre .1), e, within q, room q, q .before .before .loop .inv .2 ∙ rw e (s .pre .3))
 
 loop-less : tie.Need-loop-less Inv-loop μ-loop
-loop-less c =
-    let s = c .before .before .before .before .before .before .before .before .before .before .before .before .before .before .before .before .before .before .before .before .before .before in
-    omega (arith, c .before .before .before .before .before .before .before .least .ensures, lanes-some _ _ _ _ _ _ _ (s .pre .0) _ (c .before .before .before .before .before .before .before .before .before .before .floats .ensures), c .before .before .before .before .before .before .before .before .loop-test .taken)
+loop-less c = let q = c .before .before .before .before .before .before .before in omega (arith, q .least .ensures, lanes-some _ _ _ _ _ _ (start q .pre .0) _ (q .before .before .before .floats .ensures), q .before .loop-test .taken)
 
 loop-again : tie.Need-loop-again Inv-loop μ-loop
 loop-again c =
@@ -54,16 +46,10 @@ loop-again c =
     let k = c .before .before .before .before .render-group in
     (within (c .before .before .before .before .before .before .before), k .kept .1 .1 .1 .1 .1 .1 .1 .1 .0 ∙ l .inv .1, k .kept .1 .1 .1 .1 .1 .1 .1 .1 .1 .0 ∙ l .inv .2, k .ensures (l .inv .3))
 
-same-length : tie.Need-same-length Inv-loop μ-loop
-same-length c = c .before .loop .inv .1
-
-same-length-2 : tie.Need-same-length-2 Inv-loop μ-loop
-same-length-2 c = c .before .loop .inv .2
-
 returns : tie.Need-returns Inv-loop μ-loop
 returns c =
     let l = c .before .loop in
-    let a = c .before .before .before .before .before .before .before .before .before .before .before .before .before .before .args in
+    let a = entry (c .before .before .before .before) .args in
     let e : l .first ≡ c .before .before .before .before .wide .result = omega (arith, l .inv .0, c .loop-test .left) in
     let f = columnOf (a .p .stream) (a .widths .now) (a .coefficients .now) (a .records .now) (a .durations .now) (a .marks .now) (a .gv .now) in
     subst (λ (v : ℕ). Columned f v v (l .out)) (c .before .before .before .before .wide .ensures) (subst (λ (j : ℕ). Columned f (c .before .before .before .before .wide .result) j (l .out)) e (l .inv .3))
@@ -76,14 +62,14 @@ render-groups-spec =
     μ-loop
     (λ c κs. search needs)
     (λ c κs. search needs)
-    div-lanes
-    loop-holds
+    (λ c. omega (arith, c .floats .ensures))
+    (λ c. (search needs, refl, refl, columned-none _ _ _))
     (λ c. search needs)
     (λ c κs. search needs)
     render-group-requires
-    add-first
+    (λ c. let q = c .before .before .before .before .before .before .before in omega (arith, within q, q .before .before .before .before .before .wide .ensures, start q .pre .0 .shaped .most-v))
     loop-less
     loop-again
-    same-length
-    same-length-2
+    (λ c. c .before .loop .inv .1)
+    (λ c. c .before .loop .inv .2)
     returns)

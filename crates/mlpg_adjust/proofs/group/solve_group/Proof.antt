@@ -6,10 +6,10 @@ use Rattle.mlpg_adjust.proofs.group.solve_group.Tie as tie
 
 returns : tie.Need-returns
 returns c =
-    let s = c .before .before .before .before .before .before .before .before .before .before .before .before .before .before .before .before .before .before .before .before in
-    let a = c .before .before .before .before .before .before .before .before .before .before .close-up in
-    let b = c .before .before .before .before .before .before .calc-rows in
-    group-solved _ _ _ _ _ _ _ (s .pre .0) _ (s .pre .1) (s .pre .2) _ (s .pre .3) _ _ _ (a .kept .1 .1 .1 .1 .1 .1 .1 .0) (b .kept .1 .1 .1 .1 .0) (a .ensures) (b .ensures) (c .before .before .solve .ensures)
+    let b = c .before .before .before .before .before .before in
+    let a = b .before .before .before .before in
+    let s = a .before .before .before .before .before .before .before .before .before in
+    group-solved _ _ _ _ _ _ (s .pre .0) _ (s .pre .1) (s .pre .2) _ (s .pre .3) _ _ _ (a .close-up .kept .1 .1 .1 .1 .1 .1 .1 .0) (b .calc-rows .kept .1 .1 .1 .1 .0) (a .close-up .ensures) (b .calc-rows .ensures) (c .before .before .solve .ensures)
 
 pub solve-group-spec : {M : Type 1} → statement M
 solve-group-spec =

@@ -5,7 +5,7 @@ use Rattle.mlpg_adjust.proofs.group.vary_group.Statement.{statement}
 use Rattle.mlpg_adjust.proofs.group.vary_group.Tie as tie
 
 returns : tie.Need-returns
-returns c = let s = c .before .before .before .before .before .before .before .before .before .before .before .before .before .before .before in group-varied _ _ _ _ _ _ (s .pre .0) (s .pre .1) _ _ (c .before .before .before .before .before .before .before .before .before .before .wide .ensures) (c .before .before .vary .ensures)
+returns c = let a = c .before .before .before .before .before .before .before .before in let w = a .before .before in let s = w .before .before .before .before .before in group-varied _ _ _ _ _ _ (s .pre .0) (s .pre .1) _ _ (w .wide .ensures) (c .before .before .vary .ensures)
 
 pub vary-group-spec : {M : Type 1} → statement M
 vary-group-spec =

@@ -29,13 +29,13 @@ returns-5 : tie.Need-returns-5
 returns-5 c = refused-5 _ _ _ _ _ _ (c .before .before .before .before .before .before .before .before .before .widths-fit .ensures) (c .before .before .before .before .before .before .before .before .if1 .left) _ (c .before .before .before .before .before .before .before .all-finite .ensures) (c .before .before .before .before .before .before .if2 .left) _ (c .before .before .before .before .before .is-out-of-range .ensures) (c .before .before .before .before .if3 .left) _ (c .before .before .before .lists-disagree .ensures) (c .before .before .if4 .left) _ (c .before .total-u32 .ensures) (c .if5 .taken)
 
 is-short-requires : tie.Need-is-short-requires
-is-short-requires c κs = (in-range (c .before .before .before .before .before .before .before .before .before .before .before .before .before .args .stream .v) (length (c .before .before .before .before .before .before .before .before .before .before .before .before .before .args .durations .now)) (sym (c .before .before .before .before .before .is-out-of-range .ensures) ∙ c .before .before .before .before .if3 .left) .most-v, c .if5 .left)
+is-short-requires c κs = let u = c .before .before .before .before in let a = u .before .before .before .before .before .before .before .before .before .args in (in-range (a .stream .v) (length (a .durations .now)) (sym (u .before .is-out-of-range .ensures) ∙ u .if3 .left) .most-v, c .if5 .left)
 
 returns-6 : tie.Need-returns-6
-returns-6 c = refused-6 _ _ _ _ _ _ (c .before .before .before .before .before .before .before .before .before .before .before .widths-fit .ensures) (c .before .before .before .before .before .before .before .before .before .before .if1 .left) _ (c .before .before .before .before .before .before .before .before .before .all-finite .ensures) (c .before .before .before .before .before .before .before .before .if2 .left) _ (c .before .before .before .before .before .before .before .is-out-of-range .ensures) (c .before .before .before .before .before .before .if3 .left) _ (c .before .before .before .before .before .lists-disagree .ensures) (c .before .before .before .before .if4 .left) _ (c .before .before .before .total-u32 .ensures) (c .before .before .if5 .left) _ (c .before .is-short .ensures) (c .if6 .taken)
+returns-6 c = let u = c .before .before .before .before .before .before in refused-6 _ _ _ _ _ _ (u .before .before .before .before .before .widths-fit .ensures) (u .before .before .before .before .if1 .left) _ (u .before .before .before .all-finite .ensures) (u .before .before .if2 .left) _ (u .before .is-out-of-range .ensures) (u .if3 .left) _ (c .before .before .before .before .before .lists-disagree .ensures) (c .before .before .before .before .if4 .left) _ (c .before .before .before .total-u32 .ensures) (c .before .before .if5 .left) _ (c .before .is-short .ensures) (c .if6 .taken)
 
 returns-7 : tie.Need-returns-7
-returns-7 c = refused-none _ _ _ _ _ _ (c .before .before .before .before .before .before .before .before .before .before .before .widths-fit .ensures) (c .before .before .before .before .before .before .before .before .before .before .if1 .left) _ (c .before .before .before .before .before .before .before .before .before .all-finite .ensures) (c .before .before .before .before .before .before .before .before .if2 .left) _ (c .before .before .before .before .before .before .before .is-out-of-range .ensures) (c .before .before .before .before .before .before .if3 .left) _ (c .before .before .before .before .before .lists-disagree .ensures) (c .before .before .before .before .if4 .left) _ (c .before .before .before .total-u32 .ensures) (c .before .before .if5 .left) _ (c .before .is-short .ensures) (c .if6 .left)
+returns-7 c = let u = c .before .before .before .before .before .before in refused-none _ _ _ _ _ _ (u .before .before .before .before .before .widths-fit .ensures) (u .before .before .before .before .if1 .left) _ (u .before .before .before .all-finite .ensures) (u .before .before .if2 .left) _ (u .before .is-out-of-range .ensures) (u .if3 .left) _ (c .before .before .before .before .before .lists-disagree .ensures) (c .before .before .before .before .if4 .left) _ (c .before .before .before .total-u32 .ensures) (c .before .before .if5 .left) _ (c .before .is-short .ensures) (c .if6 .left)
 
 pub refusal-spec : {M : Type 1} → statement M
 refusal-spec =

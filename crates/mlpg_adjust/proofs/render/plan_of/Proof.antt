@@ -8,19 +8,19 @@ use borrow.Author.Needs.{needs}
 use Rattle.mlpg_adjust.proofs.render.plan_of.Statement.{statement}
 use Rattle.mlpg_adjust.proofs.render.plan_of.Tie as tie
 
-cast-t18 : tie.Need-cast-t18
-cast-t18 c =
-    let s = c .before .before .before .before .before .before .before .before .before .before .before .before in
-    let n = few _ _ _ _ _ _ (s .pre .0) (record { size = c .before .before .before .before .before .record-size .result; threshold = s .args .stream .threshold }) (c .before .before .before .before .before .record-size .ensures) refl _ _ _ (s .pre .1) (c .before .before .before .mark .ensures) in
+cast-t17 : tie.Need-cast-t17
+cast-t17 c =
+    let r = c .before .before .before .before .before in let s = r .before .before .before .before .before .before in
+    let n = few _ _ _ _ _ (s .pre .0) (record { size = r .record-size .result; threshold = s .args .stream .threshold }) (r .record-size .ensures) refl _ _ _ (s .pre .1) (c .before .before .before .mark .ensures) in
     omega (arith, n)
 
 returns : tie.Need-returns
 returns c =
-    let s = c .before .before .before .before .before .before .before .before .before .before .before .before .before in
-    let u : Voicing = record { size = c .before .before .before .before .before .before .record-size .result; threshold = s .args .stream .threshold } in
-    let e = c .before .before .before .before .before .before .record-size .ensures in
+    let r = c .before .before .before .before .before .before in let s = r .before .before .before .before .before .before in
+    let u : Voicing = record { size = r .record-size .result; threshold = s .args .stream .threshold } in
+    let e = r .record-size .ensures in
     let m = c .before .before .before .before .mark .ensures in
-    (planned _ _ _ _ _ _ (s .pre .0) u e refl _ _ _ (s .pre .1) m _ _ _ refl (c .before .band-width .ensures) (frames-are _ _ (c .total-u32 .ensures) (s .pre .0 .few)), flagged-so _ _ _ _ _ _ (s .pre .0) u e refl _ _ _ (s .pre .1) m)
+    (planned _ _ _ _ _ (s .pre .0) u e refl _ _ _ (s .pre .1) m _ _ _ refl (c .before .band-width .ensures) (frames-are _ _ (c .total-u32 .ensures) (s .pre .0 .few)), flagged-so _ _ _ _ _ (s .pre .0) u e refl _ _ _ (s .pre .1) m)
 
 pub plan-of-spec : {M : Type 1} → statement M
 plan-of-spec =
@@ -30,7 +30,7 @@ plan-of-spec =
     (λ c κs. search needs)
     (λ c κs. search needs)
     (λ c. search needs)
-    cast-t18
+    cast-t17
     (λ c. search needs)
     (λ c κs. search needs)
     (λ c. search needs)
