@@ -14,8 +14,8 @@ use Rattle.model.specs.Windows.{widthsFit, bandWidth}
 use Rattle.model.proofs.Windows.{and-first, and-second, fit-few, width-in-band}
 use Rattle.region.specs.Region.{sizeOf, regionIn, flat}
 use Rattle.region.specs.declared.Layout.{Layout}
-use Rattle.region.proofs.Lanes.{Stepped}
-use Rattle.region.proofs.Flats.{each-is}
+use Rattle.region.specs.Inner.Passes.{Across}
+use Rattle.region.proofs.Flats.{across-is}
 use Rattle.band.specs.Promise.{opens, rowedIn, RowsSay}
 use Rattle.band.specs.Inner.Fits.{Taps}
 
@@ -78,5 +78,5 @@ module _ (ws : List ℕ) (cs : List Float) (g : Layout) (lanes : ℕ) (work : Li
   none-rowed o e h = record { space = rw (← e, not-true o h) }
 
   pub all-rowed : (work′ : List Float) (size : ℕ) → size ≡ sizeOf g → opens ws cs g lanes (length work) ≡ true
-      → Stepped (λ l b e. e ≡ flat (rowedIn ws cs g (regionIn g b))) size lanes lanes work work′ → RowsSay ws cs g lanes work work′
-  all-rowed work′ size e o k = record { space = rw o (each-is g lanes (λ l. rowedIn ws cs g) work (opened ws cs g lanes (length work) o .room) work′ (rw e at k)) }
+      → Across (λ l b e. e ≡ flat (rowedIn ws cs g (regionIn g b))) size lanes work work′ → RowsSay ws cs g lanes work work′
+  all-rowed work′ size e o k = record { space = rw o (across-is g lanes (λ l. rowedIn ws cs g) work (opened ws cs g lanes (length work) o .room) work′ (rw e at k)) }

@@ -21,8 +21,10 @@ use Rattle.model.specs.Record.{pairNumber}
 use Rattle.region.specs.Region.{Region, ivarsAt, rowsAt, rightAt, factorsAt, valuesAt, sizeOf, regionIn, flat, regionOf, eachRegion}
 use Rattle.region.specs.declared.Layout.{Layout}
 use Rattle.region.specs.declared.Group.{Group}
-use Rattle.region.proofs.Lanes.{Stepped, region-fits}
-use Rattle.region.proofs.Flats.{each-is}
+use Rattle.region.specs.Inner.Passes.{Across}
+use Rattle.region.proofs.Lanes.{region-long}
+use Rattle.region.proofs.Across.{across-none, across-then, across-as}
+use Rattle.region.proofs.Flats.{across-is}
 use Rattle.voicing.specs.Mask.{maskIn, column}
 use Rattle.voicing.specs.Boundaries.{ahead, lefts, rights, shutAll}
 use Rattle.voicing.specs.Windows.{reachBefore, reachAfter, meansIn, ivarsIn}
@@ -36,7 +38,6 @@ use Rattle.voicing.proofs.Masks.{mask-long, mask-end, Run, goes-some}
 use Rattle.voicing.proofs.Passes.{Passed, passed-none, passed-all, passed-fits, passed-run, passed-room, passed-next}
 use Rattle.voicing.proofs.Records.{column-length, column-at, inverses-length, inverses-at}
 use Rattle.voicing.proofs.Selections.{expand-run, select-next, run-items}
-use Rattle.voicing.proofs.Steps.{stepped-same, stepped-then, stepped-as}
 use Rattle.voicing.proofs.Runs.{InRun, in-none, in-voiced, in-unvoiced, ahead-on, shut-length, ends-state}
 use Rattle.voicing.proofs.States.{parts-rows, means, inverses, put-means, put-ivars, put-behind}
 
@@ -104,13 +105,13 @@ module _ (size : ℕ) (records : List Float) (widths ds flags : List ℕ) (p : P
   pub record Gathering (old work : List Float) (s f k begin end : ℕ) : Type 0 where
     pub passed : Passed ds flags s f k
     pub run : InRun (maskIn ds flags) f begin end
-    pub regions : Stepped (Gathered f k) (p .size) (p .lanes) (p .lanes) old work
+    pub regions : Across (Gathered f k) (p .size) (p .lanes) old work
 
   pub gathering : (old : List Float) → Gathering old old 0 0 0 0 0
   gathering old = record {
     passed = passed-none;
     run = in-none;
-    regions = stepped-same _ old (λ l h. record { means-done = λ i t. refl; ivars-done = λ i t. refl; behind = refl });
+    regions = across-none (λ l h. record { means-done = λ i t. refl; ivars-done = λ i t. refl; behind = refl });
   }
 
   module _ {old work : List Float} {s f k begin end : ℕ} (a : Gathering old work s f k begin end) (t : s < length ds) {d : ℕ} (o : d ≡ getD ds s 0) where
@@ -127,7 +128,7 @@ module _ (size : ℕ) (records : List Float) (widths ds flags : List ℕ) (p : P
         record {
           passed = rw add-zero at (passed-next (a .passed) t o g z);
           run = in-unvoiced (a .run) d r (goes-some flags f d g);
-          regions = stepped-as _ (a .regions) (λ l h q. record {
+          regions = across-as (a .regions) (λ l h q. record {
             means-done = λ i j. rw (next (meansAll l i) (means-long l i)) (q .means-done i j);
             ivars-done = λ i j. rw (next (ivarsAll l i) (ivars-long l i)) (q .ivars-done i j);
             behind = q .behind;
@@ -177,17 +178,17 @@ module _ (size : ℕ) (records : List Float) (widths ds flags : List ℕ) (p : P
       closed-next : (ys done w : List Float) → length ys ≡ total ds → w ≡ take d (drop f ys) → ClosedUp f ys done → ClosedUp (f + d) ys (done ++ w)
       closed-next ys done w n q i = rw (append-assoc, q, ← select-next (maskIn ds flags) ys f d d true onto (within ys n) (sym (count-all d))) i
 
-      pub gathering-next : (new : List Float) → Stepped (λ l b m. m ≡ putPairs records p (s * size + first) widths span l (length widths) b) (p .size) (p .lanes) (p .lanes) work new
+      pub gathering-next : (new : List Float) → Across (λ l b m. m ≡ putPairs records p (s * size + first) widths span l (length widths) b) (p .size) (p .lanes) work new
           → Gathering old new (s + 1) (f + d) (k + d) begin last
       gathering-next new q =
           let state = gathering-state in
           let put-at : (l : ℕ) → l < p .lanes → p .ivars + length widths * p .n ≤ length (regionOf (p .size) l work) = λ l h.
-          rw (cut-length (l * p .size) (p .size) work (region-fits (p .size) (p .lanes) l work h (state .room))) (omega (arith, fit .ivars-at, fit .ivars-end)) in
+          rw (region-long (p .size) (p .lanes) l work h (state .room)) (omega (arith, fit .ivars-at, fit .ivars-end)) in
           let wide : length widths * p .n ≤ p .ivars = omega (arith, fit .ivars-at) in
           record {
             passed = passed-next (a .passed) t o g (sym (count-all d));
             run = in-voiced (a .run) d onto e;
-            regions = stepped-then _ (a .regions) q (λ l h x y. record {
+            regions = across-then (a .regions) q (λ l h x y. record {
               means-done = λ i j. rw (y, put-means records p (s * size + first) widths span l (state .voiced) (length widths) i (regionOf (p .size) l work) j wide (put-at l h))
                   (closed-next (meansAll l i) (part (i * p .n) k (regionOf (p .size) l work)) _ (means-long l i) (means-run l i) (x .means-done i j));
               ivars-done = λ i j. rw (y, put-ivars records p (s * size + first) widths span l (state .voiced) (length widths) i (regionOf (p .size) l work) j wide (put-at l h))
@@ -223,10 +224,10 @@ module _ (size : ℕ) (records : List Float) (widths ds flags : List ℕ) (g : L
   gathered {s} {f} {k} a h =
       let n : k ≡ g .n = passed-all (a .passed) h ∙ fit .lies .voiced in
       let last : drop f (maskIn ds flags) ≡ [] = mask-end ds flags s f (a .passed .frames) h in
-      each-is g (c .lanes) (λ l. pairedIn size records (c .v) widths (maskIn ds flags) ds (c .first + l)) old (fit .lies .room) work
-      (stepped-as _ (a .regions) (λ l t q.
+      across-is g (c .lanes) (λ l. pairedIn size records (c .v) widths (maskIn ds flags) ds (c .first + l)) old (fit .lies .room) work
+      (across-as (a .regions) (λ l t q.
       paired-flat size records (c .v) (c .first + l) widths (maskIn ds flags) ds g (regionOf (sizeOf g) l old) (regionOf (sizeOf g) l work) (fit .windows)
-      (cut-length (l * sizeOf g) (sizeOf g) old (region-fits (sizeOf g) (c .lanes) l old t (fit .lies .room)))
+      (region-long (sizeOf g) (c .lanes) l old t (fit .lies .room))
       (λ i j. sym (append-nil _) ∙ (rw (last, n) at (q .means-done i j)))
       (λ i j. sym (append-nil _) ∙ (rw (last, n) at (q .ivars-done i j)))
       (q .behind)))

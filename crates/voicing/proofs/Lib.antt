@@ -8,7 +8,6 @@ pub mod Selections
 pub mod Switches
 pub mod Fillings
 pub mod Columns
-pub mod Steps
 pub mod Runs
 pub mod States
 pub mod Records

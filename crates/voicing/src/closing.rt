@@ -7,7 +7,7 @@ ghost use lib.Ieee.{nan};
 ghost use Rattle.lists.specs.Totals.{total};
 ghost use Rattle.model.specs.Pair.{ivarOf};
 ghost use Rattle.region.specs.Region.{eachRegion};
-ghost use Rattle.region.proofs.Lanes.{Stepped};
+ghost use Rattle.region.specs.Inner.Passes.{Across};
 ghost use Rattle.voicing.specs.Mask.{maskIn};
 ghost use Rattle.voicing.specs.Boundaries.{ahead};
 ghost use Rattle.voicing.specs.Windows.{reachBefore, reachAfter};
@@ -115,8 +115,8 @@ struct Plan {
 // A state's pairs of one window, each component's in its region: their means stand side by side in the records from `mean` on, and go to place `at` of a region.
 fn close_window(records: &[f64], p: Plan, mean: usize, at: usize, e: Ends, work: &mut [f64])
     requires { ⌜ (mean + p .half + p .lanes ≤ length (now records)) × (at + e .d ≤ p .size) × (p .ivars + at + e .d ≤ p .size) × (p .lanes * p .size ≤ length (now work)) ⌝ }
-    ensures { λ _. ⌜ Stepped (λ l old new. new ≡ putPair e at (p .ivars + at) (getD (now (records .entry)) (mean + l) nan) (ivarOf (getD (now (records .entry)) (mean + p .half + l) nan)) old)
-        (p .size) (p .lanes) (p .lanes) (now (work .entry)) (now (work .exit)) ⌝ }
+    ensures { λ _. ⌜ Across (λ l old new. new ≡ putPair e at (p .ivars + at) (getD (now (records .entry)) (mean + l) nan) (ivarOf (getD (now (records .entry)) (mean + p .half + l) nan)) old)
+        (p .size) (p .lanes) (now (work .entry)) (now (work .exit)) ⌝ }
 {
     let size = p.size;
     let lanes = p.lanes;
@@ -157,8 +157,8 @@ fn ends_of(widths: &[u32], i: usize, t: Span) -> Ends
 // A state's pairs of all windows: the means stand in the records from `mean` on.
 fn close_state(records: &[f64], p: Plan, mean: usize, widths: &[u32], t: Span, work: &mut [f64])
     requires { ⌜ StateFits p (length (now widths)) (length (now records)) (length (now work)) mean t ⌝ }
-    ensures { λ _. ⌜ Stepped (λ l old new. new ≡ putPairs (now (records .entry)) p mean (now (widths .entry)) t l (length (now (widths .entry))) old)
-        (p .size) (p .lanes) (p .lanes) (now (work .entry)) (now (work .exit)) ⌝ }
+    ensures { λ _. ⌜ Across (λ l old new. new ≡ putPairs (now (records .entry)) p mean (now (widths .entry)) t l (length (now (widths .entry))) old)
+        (p .size) (p .lanes) (now (work .entry)) (now (work .exit)) ⌝ }
 {
     let mut i = 0;
     let mut from = mean;

@@ -5,9 +5,9 @@ use native.Mathlib.Nat.{suc-mul, zero-mul}
 use native.Mathlib.Numerals.{add-one}
 use native.Mathlib.Omega.{arith}
 use lib.ListN.{length}
-use Rattle.region.proofs.Lanes.{Stepped}
+use Rattle.region.specs.Inner.Passes.{Across}
+use Rattle.region.proofs.Across.{across-none, across-then}
 use Rattle.voicing.specs.Inner.States.{putPairs}
-use Rattle.voicing.proofs.Steps.{stepped-same, stepped-then}
 use Rattle.voicing.proofs.States.{window-read, means-room, ivars-room, put-next}
 use borrow.Author.Needs.{needs}
 use Rattle.voicing.proofs.closing.close_state.Statement.{statement}
@@ -15,7 +15,7 @@ use Rattle.voicing.proofs.closing.close_state.Tie as tie
 
 abbrev Inv-loop : tie.InvT-loop
 Inv-loop records p mean widths t work₀ i₀ from₀ place₀ work i from place =
-    (i ≤ length widths) × (from ≡ mean + i * p .v) × (place ≡ i * p .n + t .k) × Stepped (λ l old new. new ≡ putPairs records p mean widths t l i old) (p .size) (p .lanes) (p .lanes) work₀ work
+    (i ≤ length widths) × (from ≡ mean + i * p .v) × (place ≡ i * p .n + t .k) × Across (λ l old new. new ≡ putPairs records p mean widths t l i old) (p .size) (p .lanes) work₀ work
 
 abbrev μ-loop : tie.MeasureT-loop
 μ-loop records p mean widths t work₀ i₀ from₀ place₀ work i from place = length widths - i
@@ -33,7 +33,7 @@ module _ (c : tie.In-loop Inv-loop μ-loop) where
 
 loop-holds : tie.Need-loop-holds Inv-loop μ-loop
 unfolding putPairs
-loop-holds c = (search needs, rw zero-mul (omega arith), rw zero-mul (omega arith), stepped-same _ _ (λ l h. refl))
+loop-holds c = (search needs, rw zero-mul (omega arith), rw zero-mul (omega arith), across-none (λ l h. refl))
 
 close-window-requires : tie.Need-close-window-requires Inv-loop μ-loop
 close-window-requires c κs =
@@ -50,7 +50,7 @@ loop-again c =
       search needs,
       rw (add-one, suc-mul) (omega (arith, o .inv .1)),
       rw (add-one, suc-mul) (omega (arith, o .inv .2)),
-      stepped-then (λ l old new. new ≡ putPairs (s .records .now) (s .p) (s .mean) (s .widths .now) (s .t) l (o .i + 1) old) (o .inv .3) (c .before .before .before .before .close-window .ensures)
+      across-then (o .inv .3) (c .before .before .before .before .close-window .ensures)
           (λ l h a b. b ∙ rw (a, c .before .before .before .before .before .before .ends-of .ensures) (put-next (s .records .now) (s .p) (s .mean) (s .widths .now) (s .t) l (o .i) _ (o .inv .1) (o .inv .2))),
     )
 
