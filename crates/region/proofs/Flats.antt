@@ -13,7 +13,7 @@ use Rattle.lists.proofs.Regions.{cut-length}
 use Rattle.region.specs.Region.{Region, ivarsAt, rowsAt, rightAt, factorsAt, valuesAt, sizeOf, regionIn, flat, Sized, regionOf, eachRegion}
 use Rattle.region.specs.Inner.Passes.{Across}
 use Rattle.region.specs.declared.Layout.{Layout}
-use Rattle.region.proofs.Lanes.{Stepped, region-long}
+use Rattle.region.proofs.Lanes.{region-long}
 
 -- ---- one region
 
@@ -85,9 +85,6 @@ module _ (g : Layout) (lanes : ℕ) (f : ℕ → Region → Region) (work : List
       sym (rows-cut (sizeOf g) lanes work′)
       ∙ rw (k .behind)
       (ap (λ (x : List Float). x ++ drop (lanes * sizeOf g) work) (rows-same (λ l. regionOf (sizeOf g) l work′) (λ l. flat (f l (before l))) lanes (k .each)))
-
-  pub each-is : (work′ : List Float) → Stepped (λ l b e. e ≡ flat (f l (regionIn g b))) (sizeOf g) lanes lanes work work′ → work′ ≡ eachRegion g lanes f work
-  each-is work′ k = across-is work′ (record { long = k .long; each = k .done; behind = k .behind })
 
   -- each region's six lists are so
   pub lists-are : (work′ : List Float) → Across (λ l b e. regionIn g e ≡ f l (regionIn g b)) (sizeOf g) lanes work work′ → work′ ≡ eachRegion g lanes f work

@@ -3,7 +3,8 @@ use mathlib.Core.Path.{_≡_, refl, sym, ap, _∙_}
 use mathlib.Core.Bool.{Bool, true, false, _&&_, and-assoc}
 use mathlib.Core.List.{List, _++_, map}
 use mathlib.Core.Logic.{⊎-elim}
-use Prim.Native.Nat.{ℕ, _+_, _-_, _*_, _<_, _≤_, min}
+use Prim.Native.Nat.{ℕ, _+_, _-_, _*_, _/_, _<_, _≤_, min}
+use native.Mathlib.Nat.{add-mul}
 use native.Mathlib.Omega.{arith}
 use borrow.Author.Tests.{leb-true, eqb-true, le-leb, lt-leb, eq-eqb, ne-eqb}
 use lib.ListN.{length, drop}
@@ -20,7 +21,7 @@ use Rattle.region.specs.declared.Layout.{Layout}
 use Rattle.region.specs.declared.Group.{Group}
 use Rattle.voicing.specs.Mask.{streamMask, maskIn}
 use Rattle.voicing.specs.Space.{flagged, marks, MarkSays, switches, SwitchesSay, grouped, closes, pairedIn, CloseSays, filledAt, FillSays}
-use Rattle.voicing.specs.Inner.Fits.{Flagged, Switched, Grouped, Paired}
+use Rattle.voicing.specs.Inner.Fits.{Flagged, Switched, Grouped, pairsFit, Paired}
 use Rattle.voicing.specs.declared.Voicing.{Voicing}
 use Rattle.voicing.proofs.Masks.{stream-flagged}
 
@@ -97,7 +98,23 @@ grouped-is ds flags g c floats e =
 
 -- ---- `close_up`
 
+-- twice so many are at most a size where so many are at most its half
+pub half-room : (w v size : ℕ) → leb (w * v) (size / 2) ≡ leb ((w + w) * v) size
+half-room w v size =
+    let e = add-mul w w v in
+    ⊎-elim
+    (λ (h : w * v ≤ size / 2). let g : (w + w) * v ≤ size = omega arith in rw (le-leb (w * v) (size / 2) h, le-leb ((w + w) * v) size g))
+    (λ (h : size / 2 < w * v). let g : size < (w + w) * v = omega arith in rw (lt-leb (w * v) (size / 2) h, lt-leb ((w + w) * v) size g))
+    (le-or-lt (w * v) (size / 2))
+
+five : (a b c d e : Bool) → (a && b && c && d && e) ≡ (a && (b && c && d && e))
+five true b c d e = refl
+five false b c d e = refl
+
 module _ (size : ℕ) (records : List Float) (widths ds flags : List ℕ) (g : Layout) (c : Group) (floats : ℕ) where
+  pub closes-both : {a b : Bool} → a ≡ grouped ds flags g c floats → b ≡ pairsFit size (length records) (length widths) (length ds) g (c .v) → closes size records widths ds flags g c floats ≡ (a && b)
+  closes-both p q = rw (p, q) (five (grouped ds flags g c floats) _ _ _ _)
+
   pub closes-is : closes size records widths ds flags g c floats ≡ true → Paired size (length records) (length widths) ds flags g c floats
   closes-is e =
       let p = both _ _ e in

@@ -162,14 +162,14 @@ module _ {A : Type 0} where
 
 -- ---- the frames of a state that is voiced, and of one that is not
 
-module _ {A : Type 0} (none : A) (v p lanes size d from : ℕ) (work old : List A) {y : Bool} where
-  pub state-on : y ≡ true → from + d ≤ size → lanes * size ≤ length work
-      → setsLanes v p (λ l. take d (drop (from + l * size) work)) lanes old ≡ setsLanes v p (λ l. fill none (replicate d y) (drop (from + l * size) work)) lanes old
-  state-on e h b = lanes-same v p _ _ lanes old
-      (λ l g. let r : d ≤ length (drop (from + l * size) work) = rw length-drop (omega (arith, row-fits size l lanes g)) in rw e (sym (fill-on none d (drop (from + l * size) work) r)))
+module _ {A : Type 0} (none : A) (v p lanes size d from : ℕ) (work old : List A) where
+  state-on : from + d ≤ size → lanes * size ≤ length work
+      → setsLanes v p (λ l. take d (drop (from + l * size) work)) lanes old ≡ setsLanes v p (λ l. fill none (replicate d true) (drop (from + l * size) work)) lanes old
+  state-on h b = lanes-same v p _ _ lanes old
+      (λ l g. let r : d ≤ length (drop (from + l * size) work) = rw length-drop (omega (arith, row-fits size l lanes g)) in sym (fill-on none d (drop (from + l * size) work) r))
 
-  pub state-off : y ≡ false → setsLanes v p (λ l. replicate d none) lanes old ≡ setsLanes v p (λ l. fill none (replicate d y) (drop (from + l * size) work)) lanes old
-  state-off e = lanes-same v p _ _ lanes old (λ l g. rw e (sym (fill-off none d (drop (from + l * size) work))))
+  state-off : setsLanes v p (λ l. replicate d none) lanes old ≡ setsLanes v p (λ l. fill none (replicate d false) (drop (from + l * size) work)) lanes old
+  state-off = lanes-same v p _ _ lanes old (λ l g. sym (fill-off none d (drop (from + l * size) work)))
 
 -- ---- the first s states' frames of the components from c on are filled: p is the next place, and the next values of a region are k places behind its first ones
 
@@ -197,7 +197,7 @@ module _ {A : Type 0} (none : A) (v c lanes size a : ℕ) (ds flags : List ℕ) 
       filling-room h l = omega (arith, i .place, i .long, add-mul f d v, mul-le-mul-right v (passed-fits (i .passed) t o))
 
       -- a state's numbers, and those of the states behind it
-      pub filling-next : lanes ≤ v → {y : Bool} → y ≡ goesOn flags f d → {j : ℕ} → j ≡ count (replicate d y) → {w : List A} → w ≡ setsLanes v p (values (replicate d y) k) lanes out
+      filling-next : lanes ≤ v → {y : Bool} → y ≡ goesOn flags f d → {j : ℕ} → j ≡ count (replicate d y) → {w : List A} → w ≡ setsLanes v p (values (replicate d y) k) lanes out
           → Filling w (s + 1) (f + d) (k + j) (p + d * v)
       filling-next h {y} g {j} z {w} q =
           let bs = drop (f + d) (maskIn ds flags) in
@@ -211,3 +211,11 @@ module _ {A : Type 0} (none : A) (v c lanes size a : ℕ) (ds flags : List ℕ) 
             done = rw (q, ← lanes-append v p d (values (replicate d y) k) (values bs (k + j)) lanes out h (λ l. fill-length none _ _ ∙ length-replicate d y))
                 (lanes-same v p _ _ lanes out (λ l b. sym (lane l)) ∙ i .done);
           }
+
+      module _ (h : lanes ≤ v) {w : List A} where
+        pub filling-voiced : true ≡ goesOn flags f d → a + k + d ≤ size → lanes * size ≤ length work → w ≡ setsLanes v p (λ l. take d (drop (a + k + l * size) work)) lanes out
+            → Filling w (s + 1) (f + d) (k + d) (p + d * v)
+        filling-voiced g r b q = filling-next h g (sym (count-all d)) (q ∙ state-on none v p lanes size d (a + k) work out r b)
+
+        pub filling-unvoiced : false ≡ goesOn flags f d → w ≡ setsLanes v p (λ l. replicate d none) lanes out → Filling w (s + 1) (f + d) k (p + d * v)
+        filling-unvoiced g q = rw add-zero at (filling-next h g (sym (count-none d)) (q ∙ state-off none v p lanes size d (a + k) work out))

@@ -1,8 +1,9 @@
 -- The ways out of the mask's calls, and that each promise allows one outcome.
 use mathlib.Core.Path.{_≡_, refl, sym, ap, _∙_}
-use mathlib.Core.Bool.{Bool, true, false, cond, _||_}
+use mathlib.Core.Bool.{true, false, cond}
 use mathlib.Core.List.{List, [], _∷_, _++_, map}
-use Prim.Native.Nat.{ℕ, _<_, _≤_}
+use mathlib.Core.Logic.{⊎-elim}
+use Prim.Native.Nat.{ℕ, _<_, _≤_, min}
 use native.Mathlib.Omega.{arith}
 use borrow.Author.Tests.{ltb-false, lt-ltb, le-ltb, eqb-true, eq-eqb, ne-eqb}
 use lib.ListN.{length, take, drop, length-map}
@@ -11,18 +12,21 @@ use lib.Dec.{ltb, eqb}
 use lib.Ieee.{Float}
 use Rattle.lists.specs.Totals.{total}
 use Rattle.lists.specs.Refusals.{orElse}
+use Rattle.lists.proofs.Numbers.{le-or-lt}
+use Rattle.lists.proofs.Refusals.{or-first, or-none}
 use Rattle.lists.proofs.Answers.{refusing, same, refused, untouched, accepted, in-front}
 use Rattle.model.specs.declared.voice.model.Weight.the-variants.{Given}
 use Rattle.lists.specs.Flags.{flag, isOn}
-use Rattle.voicing.specs.Mask.{maskOf}
+use Rattle.voicing.specs.Mask.{maskOf, weightsOf}
 use Rattle.voicing.specs.Boundaries.{lefts, rights}
 use Rattle.voicing.specs.Promise.{tooShort, framesRefusal, maskRefusal, distancesRefusal, maskedDistancesRefusal, MaskSays, DistancesSays, MaskedDistancesSays}
+use Rattle.voicing.specs.Inner.Fits.{roomRefusal}
 use Rattle.lists.specs.Ends.{filledOf}
 use Rattle.lists.specs.declared.Filled.{Filled}
 use Rattle.lists.specs.declared.Filled.the-variants.{Done, Refused}
 use Rattle.lists.proofs.Ends.{stopped, filled-one}
 use Rattle.lists.proofs.Flags.{flags-back}
-use Rattle.voicing.proofs.Theory.{mask-length, lefts-length, rights-length}
+use Rattle.voicing.proofs.Theory.{weights-alone, mask-length, lefts-length, rights-length}
 
 -- ---- 3, 4 and 5
 
@@ -64,32 +68,23 @@ module _ (weights : ℕ) (ds : List ℕ) where
     ]) refl
   ]) refl
 
--- ---- 6, for one of several lists that is shorter than n
+-- ---- 6, for lists of which one is shorter than n
 
-module _ (n : ℕ) where
-  some : (a b c : Bool) → (a || b || c) ≡ true → orElse (cond a 6 0) (orElse (cond b 6 0) (cond c 6 0)) ≡ 6
-  some true b c e = refl
-  some false true c e = refl
-  some false false c e = rw e
+least-short : (a b n : ℕ) → cond (ltb (min a b) n) 6 0 ≡ orElse (cond (ltb a n) 6 0) (cond (ltb b n) 6 0)
+least-short a b n = ⊎-elim
+    (λ (h : n ≤ a). ⊎-elim
+    (λ (g : n ≤ b). let m : n ≤ min a b = omega arith in rw (le-ltb a n h, le-ltb b n g, le-ltb (min a b) n m))
+    (λ (g : b < n). let m : min a b < n = omega arith in rw (le-ltb a n h, lt-ltb b n g, lt-ltb (min a b) n m))
+    (le-or-lt n b))
+    (λ (h : a < n). let m : min a b < n = omega arith in rw (lt-ltb a n h, lt-ltb (min a b) n m))
+    (le-or-lt n a)
 
-  none : (a b : Bool) → (a || b) ≡ false → (a ≡ false) × (b ≡ false)
-  none true b e = absurd (let z : _≡_ {A = ℕ} 0 1 = cc in omega arith)
-  none false b e = (refl, e)
+not-short : (a n : ℕ) → _≡_ {A = ℕ} (cond (ltb a n) 6 0) 0 → n ≤ a
+not-short a n e = ⊎-elim (λ (h : n ≤ a). h) (λ (h : a < n). let z : _≡_ {A = ℕ} 6 0 = rw (lt-ltb a n h) at e in absurd (omega arith)) (le-or-lt n a)
 
-  short-3 : (x y z : ℕ) → (ltb x n || ltb y n || ltb z n) ≡ true → orElse (cond (ltb x n) 6 0) (orElse (cond (ltb y n) 6 0) (cond (ltb z n) 6 0)) ≡ 6
-  short-3 x y z e = some (ltb x n) (ltb y n) (ltb z n) e
-
-  short-2 : (x y : ℕ) → (ltb x n || ltb y n) ≡ true → orElse (cond (ltb x n) 6 0) (cond (ltb y n) 6 0) ≡ 6
-  short-2 x y e = some false (ltb x n) (ltb y n) e
-
-  long-2 : (x y : ℕ) → (ltb x n || ltb y n) ≡ false → (n ≤ x) × (n ≤ y)
-  long-2 x y e = let k = none (ltb x n) (ltb y n) e in (ltb-false x n (k .0), ltb-false y n (k .1))
-
-  long-3 : (x y z : ℕ) → (ltb x n || ltb y n || ltb z n) ≡ false → (n ≤ x) × (n ≤ y) × (n ≤ z)
-  long-3 x y z e =
-      let k = none (ltb x n || ltb y n) (ltb z n) e in
-      let j = long-2 x y (k .0) in
-      (j .0, j .1, ltb-false z n (k .1))
+-- the number of an answer that is a refusal
+stops : (r n k : ℕ) (x : Filled) → x ≡ filledOf r n → x ≡ Refused k → (0 < k) × (r ≡ k)
+stops r n k x e o = let s = stopped r n k (sym e ∙ o) in (s .0, sym (or-first r 0 (λ z. let q : _≡_ {A = ℕ} 0 k = rw z at (s .1 0) in omega (arith, s .0))) ∙ s .1 0)
 
 -- ---- `mask`
 
@@ -99,24 +94,24 @@ module _ (ws : List Float) (threshold : Float) (ds v : List ℕ) where
       let p : maskRefusal ws ds v ≡ 0 → ⊥ = λ z. omega arith in
       record { answer = ap refusing (sym e) ∙ refused _ _ p; flags = untouched _ _ _ p }
 
-  pub mask-stops : (x : Filled) (k : ℕ) → x ≡ filledOf (framesRefusal (length ws) ds) (total ds) → x ≡ Refused k → MaskSays ws threshold ds v x v
-  mask-stops x k e o = let s = stopped (framesRefusal (length ws) ds) (total ds) k (sym e ∙ o) in rw o (mask-refuses k (s .0) (s .1 (tooShort (total ds) v)))
+  pub mask-stops : (x : Filled) (k : ℕ) → x ≡ filledOf (maskRefusal ws ds v) (total ds) → x ≡ Refused k → MaskSays ws threshold ds v x v
+  mask-stops x k e o = let s = stops _ _ k x e o in rw o (mask-refuses k (s .0) (s .1))
 
-  module _ (z : framesRefusal (length ws) ds ≡ 0) where
-    pub mask-6 : length v < total ds → MaskSays ws threshold ds v (Refused 6) v
-    mask-6 h = mask-refuses 6 (omega arith) (rw (z, lt-ltb (length v) (total ds) h))
+  -- nothing is refused
+  module _ (z : maskRefusal ws ds v ≡ 0) where
+    pub mask-framed : Framed (length ws) ds
+    mask-framed = framed (length ws) ds (or-none (framesRefusal (length ws) ds) _ z .0)
 
-    -- nothing is refused
-    mask-0 : total ds ≤ length v → maskRefusal ws ds v ≡ 0
-    mask-0 h = rw (z, le-ltb (length v) (total ds) h)
+    pub mask-room : total ds ≤ length v
+    mask-room = not-short (length v) (total ds) (or-none (framesRefusal (length ws) ds) _ z .1)
 
     flags-length : length (map flag (maskOf threshold (map Given ws) ds)) ≡ total ds
-    flags-length = simp length-map (mask-length threshold (map Given ws) ds (simp length-map (framed (length ws) ds z .agree)))
+    flags-length = simp length-map (mask-length threshold (map Given ws) ds (simp length-map (mask-framed .agree)))
 
-    pub mask-done : (m n : ℕ) (w : List ℕ) → total ds ≡ m → n ≡ m → n ≤ length v → w ≡ map flag (maskOf threshold (map Given ws) ds) → MaskSays ws threshold ds v (Done m) (w ++ drop n v)
-    mask-done m n w e t h o =
-        let q = mask-0 (omega arith) in
-        record { answer = accepted _ _ _ q (ap (λ (x : ℕ). x ∷ []) (sym e)); flags = in-front _ n _ w v q o (flags-length ∙ e ∙ sym t) }
+    pub mask-done : (m n : ℕ) (w : List ℕ) → total ds ≡ m → n ≡ m → w ≡ map flag (maskOf threshold (weightsOf 1 ws (length ds)) ds) → MaskSays ws threshold ds v (Done m) (w ++ drop n v)
+    mask-done m n w e t o =
+        let given : w ≡ map flag (maskOf threshold (map Given ws) ds) = o ∙ rw (weights-alone ws (length ds) (mask-framed .agree)) in
+        record { answer = accepted _ _ _ z (ap (λ (x : ℕ). x ∷ []) (sym e)); flags = in-front _ n _ w v z given (flags-length ∙ e ∙ sym t) }
 
 pub mask-one : (ws : List Float) (threshold : Float) (ds v : List ℕ) (x y : Filled) (v₁ v₂ : List ℕ) → MaskSays ws threshold ds v x v₁ → MaskSays ws threshold ds v y v₂ → (x ≡ y) × (v₁ ≡ v₂)
 mask-one ws threshold ds v x y v₁ v₂ a b = (filled-one x y (same (a .answer ∙ sym (b .answer))), a .flags ∙ sym (b .flags))
@@ -133,16 +128,13 @@ module _ (v l r : List ℕ) where
   distances-5 h = distances-refuses 5 (omega arith) (rw (lt-ltb 65536 (length v) h))
 
   module _ (small : length v ≤ 65536) where
-    pub distances-6 : (ltb (length l) (length v) || ltb (length r) (length v)) ≡ true → DistancesSays v l r (Refused 6) l r
-    distances-6 h = distances-refuses 6 (omega arith) (rw (le-ltb 65536 (length v) small) (short-2 (length v) (length l) (length r) h))
+    pub distances-6 : min (length l) (length r) < length v → DistancesSays v l r (Refused 6) l r
+    distances-6 h = distances-refuses 6 (omega arith) (rw (le-ltb 65536 (length v) small, ← least-short (length l) (length r) (length v), lt-ltb (min (length l) (length r)) (length v) h))
 
-    module _ (h : (ltb (length l) (length v) || ltb (length r) (length v)) ≡ false) where
-      pub distances-long : (length v ≤ length l) × (length v ≤ length r)
-      distances-long = long-2 (length v) (length l) (length r) h
-
+    module _ (h : length v ≤ min (length l) (length r)) where
       -- nothing is refused
       distances-0 : distancesRefusal (length v) l r ≡ 0
-      distances-0 = rw (le-ltb 65536 (length v) small, le-ltb (length l) (length v) (distances-long .0), le-ltb (length r) (length v) (distances-long .1))
+      distances-0 = rw (le-ltb 65536 (length v) small, ← least-short (length l) (length r) (length v), le-ltb (min (length l) (length r)) (length v) h)
 
       pub distances-done : (l′ r′ : List ℕ) → l′ ≡ lefts 0 (map isOn v) → r′ ≡ rights (map isOn v) → DistancesSays v l r (Done (length v)) (l′ ++ drop (length v) l) (r′ ++ drop (length v) r)
       distances-done l′ r′ o p =
@@ -165,36 +157,41 @@ module _ (ws : List Float) (threshold : Float) (ds v l r : List ℕ) where
       let p : maskedDistancesRefusal ws ds v l r ≡ 0 → ⊥ = λ z. omega arith in
       record { answer = ap refusing (sym e) ∙ refused _ _ p; flags = untouched _ _ _ p; before = untouched _ _ _ p; after = untouched _ _ _ p }
 
-  pub masked-stops : (x : Filled) (k : ℕ) → x ≡ filledOf (framesRefusal (length ws) ds) (total ds) → x ≡ Refused k → MaskedDistancesSays ws threshold ds v l r x v l r
-  masked-stops x k e o = let s = stopped (framesRefusal (length ws) ds) (total ds) k (sym e ∙ o) in rw o (masked-refuses k (s .0) (s .1 (orElse (tooShort (total ds) v) (orElse (tooShort (total ds) l) (tooShort (total ds) r)))))
+  pub masked-stops : (x : Filled) (k : ℕ) → x ≡ filledOf (maskedDistancesRefusal ws ds v l r) (total ds) → x ≡ Refused k → MaskedDistancesSays ws threshold ds v l r x v l r
+  masked-stops x k e o = let s = stops _ _ k x e o in rw o (masked-refuses k (s .0) (s .1))
 
-  module _ (z : framesRefusal (length ws) ds ≡ 0) (n : ℕ) (e : n ≡ total ds) where
-    pub masked-6 : (ltb (length v) n || ltb (length l) n || ltb (length r) n) ≡ true → MaskedDistancesSays ws threshold ds v l r (Refused 6) v l r
-    masked-6 h = masked-refuses 6 (omega arith) (rw (z, ← e) (short-3 n (length v) (length l) (length r) h))
+  -- room for the shortest list
+  pub masked-room : (m n : ℕ) → m ≡ min (length l) (length r) → n ≡ min (length v) m → roomRefusal (length ws) ds n ≡ maskedDistancesRefusal ws ds v l r
+  masked-room m n p q = rw (q, least-short (length v) m (total ds), p, least-short (length l) (length r) (total ds))
 
-    module _ (h : (ltb (length v) n || ltb (length l) n || ltb (length r) n) ≡ false) where
-      pub masked-long : (n ≤ length v) × (n ≤ length l) × (n ≤ length r)
-      masked-long = long-3 n (length v) (length l) (length r) h
+  -- nothing is refused
+  module _ (z : maskedDistancesRefusal ws ds v l r ≡ 0) (n : ℕ) (e : n ≡ total ds) where
+    mask-0 : maskRefusal ws ds v ≡ 0
+    mask-0 = let a = or-none (framesRefusal (length ws) ds) _ z in rw (a .0) (or-none (tooShort (total ds) v) _ (a .1) .0)
 
-      -- the flags of `mask`, and then the distances of those
-      pub masked-done : (x y : Filled) (v′ l′ r′ : List ℕ) → MaskSays ws threshold ds v x v′ → DistancesSays (take n v′) l r y l′ r′ → MaskedDistancesSays ws threshold ds v l r y v′ l′ r′
-      masked-done x y v′ l′ r′ a b =
-          let bs = maskOf threshold (map Given ws) ds in
-          let k = masked-long in
-          let f = framed (length ws) ds z in
-          let m : length (map flag bs) ≡ n = flags-length ws threshold ds v z ∙ sym e in
-          let w : v′ ≡ map flag bs ++ drop (length (map flag bs)) v = a .flags ∙ rw (mask-0 ws threshold ds v z (omega arith)) in
-          let t : take n v′ ≡ map flag bs = rw w (take-at (map flag bs) _ n m) in
-          let c : length (take n v′) ≡ n = ap length t ∙ m in
-          let o : distancesRefusal (length (take n v′)) l r ≡ 0 = rw (c, le-ltb 65536 n (omega (arith, f .small)), le-ltb (length l) n (k .1), le-ltb (length r) n (k .2)) in
-          let q : maskedDistancesRefusal ws ds v l r ≡ 0 = rw (z, ← e, le-ltb (length v) n (k .0), le-ltb (length l) n (k .1), le-ltb (length r) n (k .2)) in
-          let on : map isOn (take n v′) ≡ bs = ap (map isOn) t ∙ flags-back bs in
-          record {
-            answer = b .answer ∙ rw (o, q, c, e);
-            flags = w ∙ rw q;
-            before = b .before ∙ rw (o, q, on);
-            after = b .after ∙ rw (o, q, on);
-          }
+    pub masked-long : (n ≤ length v) × (n ≤ length l) × (n ≤ length r)
+    masked-long =
+        let b = or-none (tooShort (total ds) v) _ (or-none (framesRefusal (length ws) ds) _ z .1) .1 in
+        let c = or-none (tooShort (total ds) l) _ b in
+        rw e (mask-room ws threshold ds v mask-0, not-short _ _ (c .0), not-short _ _ (c .1))
+
+    -- the flags of `mask`, and then the distances of those
+    pub masked-done : (x y : Filled) (v′ l′ r′ : List ℕ) → MaskSays ws threshold ds v x v′ → DistancesSays (take n v′) l r y l′ r′ → MaskedDistancesSays ws threshold ds v l r y v′ l′ r′
+    masked-done x y v′ l′ r′ a b =
+        let bs = maskOf threshold (map Given ws) ds in
+        let k = masked-long in
+        let m : length (map flag bs) ≡ n = flags-length ws threshold ds v mask-0 ∙ sym e in
+        let w : v′ ≡ map flag bs ++ drop (length (map flag bs)) v = a .flags ∙ rw mask-0 in
+        let t : take n v′ ≡ map flag bs = rw w (take-at (map flag bs) _ n m) in
+        let c : length (take n v′) ≡ n = ap length t ∙ m in
+        let o : distancesRefusal (length (take n v′)) l r ≡ 0 = rw (c, le-ltb 65536 n (omega (arith, mask-framed ws threshold ds v mask-0 .small)), le-ltb (length l) n (k .1), le-ltb (length r) n (k .2)) in
+        let on : map isOn (take n v′) ≡ bs = ap (map isOn) t ∙ flags-back bs in
+        record {
+          answer = b .answer ∙ rw (o, z, c, e);
+          flags = w ∙ rw z;
+          before = b .before ∙ rw (o, z, on);
+          after = b .after ∙ rw (o, z, on);
+        }
 
 pub masked-one : (ws : List Float) (threshold : Float) (ds v l r : List ℕ) (x y : Filled) (v₁ l₁ r₁ v₂ l₂ r₂ : List ℕ)
     → MaskedDistancesSays ws threshold ds v l r x v₁ l₁ r₁ → MaskedDistancesSays ws threshold ds v l r y v₂ l₂ r₂ → (x ≡ y) × (v₁ ≡ v₂) × (l₁ ≡ l₂) × (r₁ ≡ r₂)

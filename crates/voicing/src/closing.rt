@@ -14,6 +14,7 @@ ghost use Rattle.voicing.specs.Windows.{reachBefore, reachAfter};
 ghost use Rattle.voicing.specs.Space.{pairedIn};
 ghost use Rattle.voicing.specs.Inner.Fits.{frame, Flagged, Paired};
 ghost use Rattle.voicing.specs.Inner.States.{planOf, shutEnds, endsOf, putPair, putPairs, StateFits};
+use super::flags::frames_at;
 use super::flags::goes_on;
 use model::mean_vari::MeanVari;
 use model::voice::window::left_width;
@@ -93,14 +94,6 @@ fn put_pair(pair: MeanVari, e: Ends, at: usize, ivars: usize, region: &mut [f64]
     fill_ivars(pair.1, e, ivars, region);
 }
 
-// The pair whose mean and variance stand at two places of the records, with the variance inverted.
-fn pair_at(records: &[f64], mean: usize, vari: usize) -> MeanVari
-    requires { ⌜ (mean < length (now records)) × (vari < length (now records)) ⌝ }
-    ensures { λ r. ⌜ (r .0 ≡ getD (now (records .entry)) mean nan) × (r .1 ≡ ivarOf (getD (now (records .entry)) vari nan)) ⌝ }
-{
-    MeanVari(records[mean], records[vari]).with_ivar()
-}
-
 // What the pairs of all states have in common: components side by side, some of v; a variance stands `half` numbers behind its mean in a record; a region
 // of `size` floats has n means a window and, from `ivars` on, as many inverse variances.
 struct Plan {
@@ -126,7 +119,7 @@ fn close_window(records: &[f64], p: Plan, mean: usize, at: usize, e: Ends, work:
     let mut from = 0;
     while l < lanes {
         let to = from + size;
-        let pair = pair_at(records, mean + l, vari + l);
+        let pair = MeanVari(records[mean + l], records[vari + l]).with_ivar();
         put_pair(pair, e, at, ivars, &mut work[from..to]);
         from = to;
         l += 1;
@@ -184,7 +177,7 @@ fn run_end(end: usize, durations: &[u32], flags: &[u32], s: usize, f: usize) -> 
     let mut i = s;
     let mut e = f;
     while i < durations.len() {
-        let d = lists::wide(durations[i]);
+        let d = frames_at(durations, i);
         if !goes_on(flags, e, d) {
             return e;
         }
@@ -232,7 +225,7 @@ pub(crate) fn close_group(
     let mut begin = 0;
     let mut end = 0;
     while s < durations.len() {
-        let d = lists::wide(durations[s]);
+        let d = frames_at(durations, s);
         let next = f + d;
         if goes_on(flags, f, d) {
             end = run_end(end, durations, flags, s, f);

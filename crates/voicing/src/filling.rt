@@ -10,7 +10,7 @@ ghost use Rattle.voicing.specs.Mask.{maskIn};
 ghost use Rattle.voicing.specs.Space.{filledAt};
 ghost use Rattle.voicing.specs.Inner.Fits.{Grouped};
 ghost use Rattle.voicing.specs.Inner.Lanes.{setsBy, setsLanes};
-use super::flags::closed_of;
+use super::flags::frames_at;
 use super::flags::goes_on;
 use region::Group;
 use region::Layout;
@@ -76,29 +76,7 @@ fn spread_lanes(none: f64, d: usize, c: Group, p: usize, out: &mut [f64])
     }
 }
 
-// `Mask::fill` at the d frames of one state, for several components: the next values of each lane where the state is voiced, `none` where it is not.
-fn fill_state(
-    voiced: bool,
-    d: usize,
-    none: f64,
-    work: &[f64],
-    from: usize,
-    size: usize,
-    c: Group,
-    p: usize,
-    out: &mut [f64],
-)
-    requires { ⌜ (c .v ≤ 64) × (c .lanes ≤ c .v) × (from + count (replicate d voiced) ≤ size) × (c .lanes * size ≤ length (now work)) × (p + d * c .v + c .lanes ≤ length (now out) + c .v) ⌝ }
-    ensures { λ _. ⌜ now (out .exit) ≡ setsLanes (c .v) p (λ l. fill none (replicate d voiced) (drop (from + l * size) (now (work .entry)))) (c .lanes) (now (out .entry)) ⌝ }
-{
-    if voiced {
-        put_lanes(work, from, size, d, c, p, out);
-        return;
-    }
-    spread_lanes(none, d, c, p, out);
-}
-
-// The values of each component are filled back into the trajectory, state by state, so that a frame's numbers are written together.
+// `Mask::fill`: the values of each component are filled back into the trajectory, state by state, so that a frame's numbers are written together.
 pub(crate) fn fill_group(
     none: f64,
     durations: &[u32],
@@ -120,12 +98,17 @@ pub(crate) fn fill_group(
     let mut k = 0;
     let mut p = c.first;
     while s < durations.len() {
-        let d = lists::wide(durations[s]);
+        let d = frames_at(durations, s);
         let voiced = goes_on(flags, f, d);
-        fill_state(voiced, d, none, work, values + k, size, c, p, out);
-        k += closed_of(voiced, d);
+        let to = p;
         p += d * v;
         f += d;
         s += 1;
+        if voiced {
+            put_lanes(work, values + k, size, d, c, to, out);
+            k += d;
+        } else {
+            spread_lanes(none, d, c, to, out);
+        }
     }
 }

@@ -1,7 +1,7 @@
 // The frames' flags, read state by state: a state's frames are voiced where the flag of its first frame says so.
 ghost use mathlib.Core.Path.{_≡_};
-ghost use Prim.Native.Nat.{_+_, _≤_};
-ghost use lib.ListN.{length, replicate};
+ghost use Prim.Native.Nat.{_+_, _<_, _≤_};
+ghost use lib.ListN.{length, getD, replicate};
 ghost use lib.Seq.{sets};
 ghost use Rattle.lists.specs.Totals.{total};
 ghost use Rattle.lists.specs.Frames.{expand, select, count};
@@ -15,6 +15,14 @@ pub(crate) fn frames_in(durations: &[u32]) -> usize
     ensures { λ r. ⌜ r ≡ total (now (durations .entry)) ⌝ }
 {
     lists::total_u32(durations) as usize
+}
+
+// How many frames state s has.
+pub(crate) fn frames_at(durations: &[u32], s: usize) -> usize
+    requires { ⌜ s < length (now durations) ⌝ }
+    ensures { λ r. ⌜ r ≡ getD (now (durations .entry)) s 0 ⌝ }
+{
+    lists::wide(durations[s])
 }
 
 // Whether there are no more states and frames than allowed, and so many flags are enough.
@@ -42,11 +50,12 @@ pub(crate) fn goes_on(flags: &[u32], f: usize, d: usize) -> bool
     true
 }
 
-// How many of a state's d frames are voiced: all or none.
-pub(crate) fn closed_of(voiced: bool, d: usize) -> usize
-    ensures { λ r. ⌜ r ≡ count (replicate d voiced) ⌝ }
+// How many of them are voiced: all or none.
+fn voiced_in(flags: &[u32], f: usize, d: usize) -> usize
+    requires { ⌜ f + d ≤ length (now flags) ⌝ }
+    ensures { λ r. ⌜ r ≡ count (replicate d (goesOn (now (flags .entry)) f d)) ⌝ }
 {
-    if voiced {
+    if goes_on(flags, f, d) {
         return d;
     }
     0
@@ -61,8 +70,8 @@ pub(crate) fn count_voiced(durations: &[u32], flags: &[u32]) -> usize
     let mut f = 0;
     let mut n = 0;
     while s < durations.len() {
-        let d = lists::wide(durations[s]);
-        n += closed_of(goes_on(flags, f, d), d);
+        let d = frames_at(durations, s);
+        n += voiced_in(flags, f, d);
         f += d;
         s += 1;
     }
@@ -84,8 +93,8 @@ pub(crate) fn put_switches(durations: &[u32], switches: &[u8], frames: usize, fl
     let mut f = 0;
     let mut k = 0;
     while s < durations.len() {
-        let d = lists::wide(durations[s]);
-        let closed = closed_of(goes_on(flags, f, d), d);
+        let d = frames_at(durations, s);
+        let closed = voiced_in(flags, f, d);
         let from = frames + k;
         let to = from + closed;
         let x = wide_u8(switches[s]);

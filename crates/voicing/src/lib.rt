@@ -1,7 +1,8 @@
 // Which frames of a stream are voiced, and what follows: the voiced frames are closed up for the solver, and their values are filled back.
 ghost use mathlib.Core.Path.{_≡_};
 ghost use lib.ListN.{length};
-ghost use Rattle.voicing.specs.Space.{componentsFit, grouped, closes, MarkSays, SwitchesSay, CloseSays, FillSays};
+ghost use Rattle.voicing.specs.Space.{componentsFit, grouped, MarkSays, SwitchesSay, CloseSays, FillSays};
+ghost use Rattle.voicing.specs.Inner.Fits.{pairsFit};
 use closing::close_group;
 use filling::fill_group;
 use flags::count_voiced;
@@ -69,24 +70,20 @@ fn grouped(durations: &[u32], flags: &[u32], g: Layout, c: Group, floats: usize)
     voiced & components_fit(c) & g.fits(c.lanes, floats)
 }
 
-// Whether, moreover, records of so many numbers have the pairs of so many windows.
-fn closes(
+// Whether there is a record a state, of so many numbers, with the pairs of so many windows.
+fn pairs_fit(
     size: usize,
-    records: &[f64],
-    widths: &[u32],
-    durations: &[u32],
-    flags: &[u32],
+    records: usize,
+    windows: usize,
+    states: usize,
     g: Layout,
-    c: Group,
-    floats: usize,
+    v: usize,
 ) -> bool
-    ensures { λ r. ⌜ r ≡ closes size (now (records .entry)) (now (widths .entry)) (now (durations .entry)) (now (flags .entry)) g c floats ⌝ }
+    ensures { λ r. ⌜ r ≡ pairsFit size records windows states g v ⌝ }
 {
-    let windows = widths.len();
-    let lies = grouped(durations, flags, g, c, floats);
-    let paired = lists::has_room(windows + windows, c.v, size);
-    let recorded = lists::has_room(durations.len(), size, records.len());
-    lies & (windows == lists::small(g.windows)) & (windows <= 4) & paired & recorded
+    let paired = lists::has_room(windows, v, size / 2);
+    let recorded = lists::has_room(states, size, records);
+    (windows == lists::small(g.windows)) & (windows <= 4) & paired & recorded
 }
 
 // The pairs of the voiced frames, closed up in the regions of a group, and zeroed near the ends of runs. Where the lists don't fit, nothing.
@@ -102,11 +99,10 @@ pub fn close_up(
 )
     ensures { λ _. ⌜ CloseSays size (now (records .entry)) (now (widths .entry)) (now (durations .entry)) (now (flags .entry)) g c (now (work .entry)) (now (work .exit)) ⌝ }
 {
-    let floats = work.len();
-    if !closes(size, records, widths, durations, flags, g, c, floats) {
-        return;
+    let lies = grouped(durations, flags, g, c, work.len());
+    if lies & pairs_fit(size, records.len(), widths.len(), durations.len(), g, c.v) {
+        close_group(size, records, widths, durations, flags, g, c, work);
     }
-    close_group(size, records, widths, durations, flags, g, c, work);
 }
 
 // The values of a group's regions, filled back into the trajectory: `none` at unvoiced frames. Where the lists don't fit, nothing.

@@ -4,14 +4,15 @@ ghost use mathlib.Core.List.{map};
 ghost use Prim.Native.Nat.{_+_, _*_, _≤_, _<_};
 ghost use lib.ListN.{length};
 ghost use Rattle.lists.specs.Totals.{total};
-ghost use Rattle.model.specs.declared.voice.model.Weight.the-variants.{Given};
 ghost use Rattle.model.specs.Weight.{voicedAt};
 ghost use Rattle.lists.specs.Flags.{flag, isOn};
 ghost use Rattle.voicing.specs.Mask.{maskOf, weightAt, weightsOf};
 ghost use Rattle.voicing.specs.Boundaries.{lefts, rights};
 ghost use Rattle.lists.specs.Ends.{filledOf};
-ghost use Rattle.voicing.specs.Promise.{framesRefusal, MaskSays, DistancesSays, MaskedDistancesSays};
+ghost use Rattle.voicing.specs.Promise.{MaskSays, DistancesSays, MaskedDistancesSays};
+ghost use Rattle.voicing.specs.Inner.Fits.{roomRefusal};
 use super::Voicing;
+use super::flags::frames_at;
 use lists::Filled;
 use model::voice::model::msd;
 
@@ -42,22 +43,13 @@ pub(crate) fn mark_states(records: &[f64], u: Voicing, durations: &[u32], out: &
     let mut s = 0;
     let mut f = 0;
     while s < durations.len() {
-        let d = lists::wide(durations[s]);
+        let d = frames_at(durations, s);
         let e = f + d;
         let x = flag_of(voiced_at(records, u, s));
         lists::fill_u32(&mut out[f..e], d, x);
         f = e;
         s += 1;
     }
-}
-
-// The same of states that have a weight alone.
-fn mark_frames(weights: &[f64], threshold: f64, durations: &[u32], out: &mut [u32])
-    requires { ⌜ (length (now weights) ≡ length (now durations)) × (total (now durations) ≡ length (now out)) ⌝ }
-    ensures { λ _. ⌜ now (out .exit) ≡ map flag (maskOf threshold (map Given (now (weights .entry))) (now (durations .entry))) ⌝ }
-{
-    let u = Voicing { size: 1, threshold };
-    mark_states(weights, u, durations, out);
 }
 
 // The left distances of flags.
@@ -99,9 +91,9 @@ fn right_distances(flags: &[u32], right: &mut [u32])
     }
 }
 
-// How many frames the states have, as far as 3, 4 and 5 allow.
-fn frames_of(weights: usize, durations: &[u32]) -> Filled
-    ensures { λ r. ⌜ r ≡ filledOf (framesRefusal weights (now (durations .entry))) (total (now (durations .entry))) ⌝ }
+// How many frames the states have, as far as 3, 4, 5 and room for so many allow.
+fn frames_of(weights: usize, durations: &[u32], room: usize) -> Filled
+    ensures { λ r. ⌜ r ≡ filledOf (roomRefusal weights (now (durations .entry)) room) (total (now (durations .entry))) ⌝ }
 {
     if 4096 < durations.len() {
         return Filled::Refused(3);
@@ -113,6 +105,9 @@ fn frames_of(weights: usize, durations: &[u32]) -> Filled
     if 65_536 < frames {
         return Filled::Refused(5);
     }
+    if (room as u64) < frames {
+        return Filled::Refused(6);
+    }
     Filled::Done(frames as u32)
 }
 
@@ -120,15 +115,13 @@ fn frames_of(weights: usize, durations: &[u32]) -> Filled
 pub fn mask(weights: &[f64], threshold: f64, durations: &[u32], voiced: &mut [u32]) -> Filled
     ensures { λ r. ⌜ MaskSays (now (weights .entry)) threshold (now (durations .entry)) (now (voiced .entry)) r (now (voiced .exit)) ⌝ }
 {
-    let framed = frames_of(weights.len(), durations);
+    let framed = frames_of(weights.len(), durations, voiced.len());
     let Filled::Done(frames) = framed else {
         return framed;
     };
     let n = lists::wide(frames);
-    if voiced.len() < n {
-        return Filled::Refused(6);
-    }
-    mark_frames(weights, threshold, durations, &mut voiced[..n]);
+    let u = Voicing { size: 1, threshold };
+    mark_states(weights, u, durations, &mut voiced[..n]);
     framed
 }
 
@@ -140,7 +133,7 @@ pub fn boundary_distances(voiced: &[u32], left: &mut [u32], right: &mut [u32]) -
     if 65_536 < n {
         return Filled::Refused(5);
     }
-    if (left.len() < n) | (right.len() < n) {
+    if lists::least(left.len(), right.len()) < n {
         return Filled::Refused(6);
     }
     left_distances(voiced, &mut left[..n]);
@@ -160,14 +153,12 @@ pub fn mask_with_distances(
     ensures { λ r. ⌜ MaskedDistancesSays (now (weights .entry)) threshold (now (durations .entry)) (now (voiced .entry)) (now (left .entry)) (now (right .entry))
         r (now (voiced .exit)) (now (left .exit)) (now (right .exit)) ⌝ }
 {
-    let framed = frames_of(weights.len(), durations);
+    let room = lists::least(voiced.len(), lists::least(left.len(), right.len()));
+    let framed = frames_of(weights.len(), durations, room);
     let Filled::Done(frames) = framed else {
         return framed;
     };
     let n = lists::wide(frames);
-    if (voiced.len() < n) | (left.len() < n) | (right.len() < n) {
-        return Filled::Refused(6);
-    }
     mask(weights, threshold, durations, voiced);
     boundary_distances(&voiced[..n], left, right)
 }

@@ -20,52 +20,49 @@ Inv-loop size records widths durations flags work₀ p first s₀ f₀ k₀ begi
 abbrev μ-loop : tie.MeasureT-loop
 μ-loop size records widths durations flags work₀ p first s₀ f₀ k₀ begin₀ end₀ work s f k begin end = length durations - s
 
-module _ (c : tie.After-wide Inv-loop μ-loop) where
+module _ (c : tie.After-frames-at Inv-loop μ-loop) where
   abbrev turn : tie.At-loop Inv-loop μ-loop
-  turn = c .before .before .before
+  turn = c .before .before
 
   abbrev entry : tie.Start Inv-loop μ-loop
   entry = turn .before .before .before .before .before .before .before
 
   -- the state's frames are frames of the stream
-  fits : turn .loop .f + c .wide .result ≤ total (entry .args .durations .now)
-  fits = passed-fits (turn .loop .inv .passed) (c .before .before .loop-test .taken) (c .wide .ensures)
+  fits : turn .loop .f + c .frames-at .result ≤ total (entry .args .durations .now)
+  fits = passed-fits (turn .loop .inv .passed) (c .before .loop-test .taken) (c .frames-at .ensures)
 
 module _ (c : tie.After-run-end Inv-loop μ-loop) where
-  abbrev state : tie.After-wide Inv-loop μ-loop
+  abbrev state : tie.After-frames-at Inv-loop μ-loop
   state = c .before .before .before
 
-  abbrev start : tie.Start Inv-loop μ-loop
-  start = entry state
+  fit : Planned (entry state .args .size) (length (entry state .args .records .now)) (entry state .args .widths .now) (entry state .args .durations .now) (entry state .args .flags .now) (turn state .before .plan-of .result) (entry state .args .c .first) (length (entry state .args .work .now))
+  fit = planned (entry state .pre) (turn state .before .plan-of .ensures)
 
-  fit : Planned (start .args .size) (length (start .args .records .now)) (start .args .widths .now) (start .args .durations .now) (start .args .flags .now) (turn state .before .plan-of .result) (start .args .c .first) (length (start .args .work .now))
-  fit = planned (start .pre) (turn state .before .plan-of .ensures)
-
-  voiced : true ≡ goesOn (start .args .flags .now) (turn state .loop .f) (state .wide .result)
+  voiced : true ≡ goesOn (entry state .args .flags .now) (turn state .loop .f) (state .frames-at .result)
   voiced = sym (c .before .if1 .taken) ∙ c .before .before .goes-on .ensures
 
   -- the run ends behind them
-  ends : turn state .loop .f + state .wide .result ≤ c .run-end .result
-  ends = gathering-ends _ _ _ _ _ _ _ (turn state .loop .inv) (state .before .before .loop-test .taken) (state .wide .ensures) fit voiced (c .run-end .ensures)
+  ends : turn state .loop .f + state .frames-at .result ≤ c .run-end .result
+  ends = gathering-ends _ _ _ _ _ _ _ (turn state .loop .inv) (state .before .loop-test .taken) (state .frames-at .ensures) fit voiced (c .run-end .ensures)
 
   -- and the state has its record
-  recorded : turn state .loop .s * start .args .size + start .args .size ≤ length (start .args .records .now)
-  recorded = omega (arith, start .pre .recorded, row-fits (start .args .size) (turn state .loop .s) (length (start .args .durations .now)) (state .before .before .loop-test .taken))
+  recorded : turn state .loop .s * entry state .args .size + entry state .args .size ≤ length (entry state .args .records .now)
+  recorded = omega (arith, entry state .pre .recorded, row-fits (entry state .args .size) (turn state .loop .s) (length (entry state .args .durations .now)) (state .before .loop-test .taken))
 
 run-end-requires : tie.Need-run-end-requires Inv-loop μ-loop
 run-end-requires c κs = let i = turn (c .before .before) .loop .inv in (entry (c .before .before) .pre .lies .framed, i .passed .within, i .passed .frames, i .run .after)
 
 close-state-requires : tie.Need-close-state-requires Inv-loop μ-loop
-close-state-requires c κs = let r = c .before in let q = state r in gathering-state _ _ _ _ _ _ _ (turn q .loop .inv) (q .before .before .loop-test .taken) (q .wide .ensures) (fit r) (voiced r) (r .run-end .ensures)
+close-state-requires c κs = let r = c .before in let q = state r in gathering-state _ _ _ _ _ _ _ (turn q .loop .inv) (q .before .loop-test .taken) (q .frames-at .ensures) (fit r) (voiced r) (r .run-end .ensures)
 
 loop-again : tie.Need-loop-again Inv-loop μ-loop
-loop-again c = let r = c .before .before .before .before in let q = state r in gathering-next _ _ _ _ _ _ _ (turn q .loop .inv) (q .before .before .loop-test .taken) (q .wide .ensures) (fit r) (voiced r) (r .run-end .ensures) _ (c .before .before .close-state .ensures)
+loop-again c = let r = c .before .before .before .before in let q = state r in gathering-next _ _ _ _ _ _ _ (turn q .loop .inv) (q .before .loop-test .taken) (q .frames-at .ensures) (fit r) (voiced r) (r .run-end .ensures) _ (c .before .before .close-state .ensures)
 
 loop-again-2 : tie.Need-loop-again-2 Inv-loop μ-loop
-loop-again-2 c = let q = c .before .before in gathering-unvoiced _ _ _ _ _ _ _ (turn q .loop .inv) (q .before .before .loop-test .taken) (q .wide .ensures) (sym (c .if1 .left) ∙ c .before .goes-on .ensures)
+loop-again-2 c = let q = c .before .before in gathering-unvoiced _ _ _ _ _ _ _ (turn q .loop .inv) (q .before .loop-test .taken) (q .frames-at .ensures) (sym (c .if1 .left) ∙ c .before .goes-on .ensures)
 
 add-k : tie.Need-add-k Inv-loop μ-loop
-add-k c = let r = c .before .before .before .before in let q = state r in omega (arith, passed-few (turn q .loop .inv .passed) (q .before .before .loop-test .taken) (q .wide .ensures) (voiced r) (sym (count-all (q .wide .result))), start r .pre .lies .framed .frames)
+add-k c = let r = c .before .before .before .before in let q = state r in omega (arith, passed-few (turn q .loop .inv .passed) (q .before .loop-test .taken) (q .frames-at .ensures) (voiced r) (sym (count-all (q .frames-at .result))), entry q .pre .lies .framed .frames)
 
 returns : tie.Need-returns Inv-loop μ-loop
 returns c = let s = c .before .before .before .before .before .before .before .before in let a = s .args in gathered (a .size) (a .records .now) (a .widths .now) (a .durations .now) (a .flags .now) (a .g) (a .c) (a .work .now) _ (s .pre) (rw (c .before .before .plan-of .ensures) at (c .before .loop .inv)) (c .loop-test .left)
@@ -78,16 +75,14 @@ close-group-spec =
     μ-loop
     (λ c κs. (c .before .before .before .before .before .pre .most, c .before .before .before .before .before .pre .lies .most-v))
     (λ c. gathering _ _ _ _ _ _ _ _)
-    (λ c. search needs)
-    (λ c. search needs)
     (λ c κs. search needs)
     (λ c. omega (arith, fits c, entry c .pre .lies .framed .frames))
     (λ c κs. omega (arith, fits c, entry c .pre .lies .framed .room))
     run-end-requires
     (λ c. turn (state c) .loop .inv .run .begun)
     ends
-    (λ c. record { fits = omega (arith, recorded c, start c .good) })
-    (λ c. omega (arith, recorded c, start c .good, start c .pre .lies .some, start c .pre .lies .most-v))
+    (λ c. record { fits = omega (arith, recorded c, entry (state c) .good) })
+    (λ c. omega (arith, recorded c, entry (state c) .good, entry (state c) .pre .lies .some, entry (state c) .pre .lies .most-v))
     close-state-requires
     add-k
     (λ c. search needs)

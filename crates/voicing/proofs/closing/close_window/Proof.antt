@@ -1,10 +1,12 @@
 -- `voicing::closing::close_window` meets its contract: l components have their pairs.
-use mathlib.Core.Path.{_≡_, _∙_}
+use mathlib.Core.Path.{_≡_, ap, _∙_}
 use Prim.Native.Nat.{_+_, _-_, _≤_}
 use native.Mathlib.Omega.{arith}
+use borrow.Rule.Slice.PartMut.{midOf}
 use lib.ListN.{length, getD}
 use lib.Ieee.{nan}
 use Rattle.model.specs.Pair.{ivarOf}
+use Rattle.model.specs.declared.mean_vari.MeanVari.{MeanVari}
 use Rattle.voicing.specs.Inner.States.{putPair}
 use Rattle.region.proofs.Across.{Passing, passing-none, passing-fits, passing-long, passing-next, passing-done}
 use borrow.Author.Needs.{needs}
@@ -28,15 +30,18 @@ module _ (c : tie.In-loop Inv-loop μ-loop) where
 
 put-pair-requires : tie.Need-put-pair-requires Inv-loop μ-loop
 put-pair-requires c κs =
-    let i = c .before .before in
+    let i = c .before .before .before .before in
     let n = passing-long (i .before .loop .inv) (i .loop-test .taken) in
     (rw n (entry i .pre .1), rw n (entry i .pre .2))
 
 loop-again : tie.Need-loop-again Inv-loop μ-loop
 loop-again c =
-    let i = c .before .before .before .before .before in
-    let p = c .before .before .before .before .pair-at .ensures in
-    passing-next (i .before .loop .inv) (i .loop-test .taken) _ (c .before .before .put-pair .kept .1 .1 .1 .1 .0) (c .before .before .put-pair .ensures ∙ rw (p .0, p .1))
+    let i = c .before .before .before .before .before .before .before in
+    let s = entry i .args in
+    let l = i .before .loop in
+    passing-next (l .inv) (i .loop-test .taken) _ (c .before .before .put-pair .kept .1 .1 .1 .1 .0)
+    (c .before .before .put-pair .ensures
+    ∙ ap (λ (x : MeanVari). putPair (s .e) (s .at) (s .p .ivars + s .at) (x .0) (x .1) (midOf (l .from) (l .from + s .p .size - l .from) (l .work))) (c .before .before .before .before .with-ivar .ensures))
 
 pub close-window-spec : {M : Type 1} → statement M
 close-window-spec =
@@ -50,11 +55,15 @@ close-window-spec =
     (λ c. omega (arith, entry c .good, c .before .loop .inv .stepped .long, fits c))
     (λ c. search needs)
     (λ c. search needs)
+    (λ c. search needs)
+    (λ c. search needs)
+    (λ c. search needs)
+    (λ c. search needs)
     (λ c κs. search needs)
-    (λ c. omega (arith, entry (c .before) .good, c .before .before .loop .inv .stepped .long, fits (c .before)))
+    (λ c. omega (arith, entry (c .before .before .before) .good, c .before .before .before .before .loop .inv .stepped .long, fits (c .before .before .before)))
     (λ c. search needs)
     (λ c. search needs)
-    (λ c. fits (c .before))
+    (λ c. fits (c .before .before .before))
     put-pair-requires
     (λ c. search needs)
     (λ c. search needs)

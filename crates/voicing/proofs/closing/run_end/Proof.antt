@@ -21,14 +21,14 @@ abbrev μ-loop : tie.MeasureT-loop
 μ-loop end durations flags s f i₀ e₀ i e = length durations - i
 
 -- the state's frames are frames of the stream
-fits : (c : tie.After-wide Inv-loop μ-loop) → c .before .before .before .loop .e + c .wide .result ≤ total (c .before .before .before .before .before .before .before .args .durations .now)
-fits c = walking-fits (c .before .before .before .loop .inv) (c .before .before .loop-test .taken) (c .wide .ensures)
+fits : (c : tie.After-frames-at Inv-loop μ-loop) → c .before .before .loop .e + c .frames-at .result ≤ total (c .before .before .before .before .before .before .args .durations .now)
+fits c = walking-fits (c .before .before .loop .inv) (c .before .loop-test .taken) (c .frames-at .ensures)
 
 returns-2 : tie.Need-returns-2 Inv-loop μ-loop
-returns-2 c = walking-off (c .before .before .before .before .before .loop .inv) (c .before .before .before .before .loop-test .taken) (c .before .before .wide .ensures) (sym (not-true _ (c .if2 .taken)) ∙ c .before .goes-on .ensures)
+returns-2 c = walking-off (c .before .before .before .before .loop .inv) (c .before .before .before .loop-test .taken) (c .before .before .frames-at .ensures) (sym (not-true _ (c .if2 .taken)) ∙ c .before .goes-on .ensures)
 
 loop-again : tie.Need-loop-again Inv-loop μ-loop
-loop-again c = walking-on (c .before .before .before .before .before .loop .inv) (c .before .before .before .before .loop-test .taken) (c .before .before .wide .ensures) (sym (not-false _ (c .if2 .left)) ∙ c .before .goes-on .ensures)
+loop-again c = walking-on (c .before .before .before .before .loop .inv) (c .before .before .before .loop-test .taken) (c .before .before .frames-at .ensures) (sym (not-false _ (c .if2 .left)) ∙ c .before .goes-on .ensures)
 
 pub run-end-spec : {M : Type 1} → statement M
 run-end-spec =
@@ -38,12 +38,10 @@ run-end-spec =
     μ-loop
     (λ c. sym (c .before .before .before .pre .3 (c .if1 .taken)))
     (λ c. walking (c .before .before .before .pre .1) (c .before .before .before .pre .2))
-    (λ c. search needs)
-    (λ c. search needs)
     (λ c κs. search needs)
-    (λ c κs. omega (arith, fits c, c .before .before .before .before .before .before .before .pre .0 .room))
+    (λ c κs. omega (arith, fits c, c .before .before .before .before .before .before .pre .0 .room))
     returns-2
-    (λ c. omega (arith, fits (c .before .before), c .before .before .before .before .before .before .before .before .before .pre .0 .frames))
+    (λ c. omega (arith, fits (c .before .before), c .before .before .before .before .before .before .before .before .pre .0 .frames))
     (λ c. search needs)
     (λ c. search needs)
     loop-again

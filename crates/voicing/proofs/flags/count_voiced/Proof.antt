@@ -1,4 +1,5 @@
 -- `voicing::flags::count_voiced` meets its contract.
+use mathlib.Core.Path.{refl}
 use Prim.Native.Nat.{_-_}
 use native.Mathlib.Omega.{arith}
 use lib.ListN.{length}
@@ -13,20 +14,17 @@ Inv-loop durations flags s₀ f₀ n₀ s f n = Passed durations flags s f n
 abbrev μ-loop : tie.MeasureT-loop
 μ-loop durations flags s₀ f₀ n₀ s f n = length durations - s
 
-abbrev head : tie.After-closed-of Inv-loop μ-loop → tie.At-loop Inv-loop μ-loop
-head c = c .before .before .before .before .before
-
-goes-on-requires : tie.Need-goes-on-requires Inv-loop μ-loop
-goes-on-requires c κs = omega (arith, passed-fits (c .before .before .before .loop .inv) (c .before .before .loop-test .taken) (c .wide .ensures), c .before .before .before .before .before .before .pre .room)
+voiced-in-requires : tie.Need-voiced-in-requires Inv-loop μ-loop
+voiced-in-requires c κs = omega (arith, passed-fits (c .before .before .loop .inv) (c .before .loop-test .taken) (c .frames-at .ensures), c .before .before .before .before .before .pre .room)
 
 add-n : tie.Need-add-n Inv-loop μ-loop
-add-n c = omega (arith, passed-few (head c .loop .inv) (c .before .before .before .before .loop-test .taken) (c .before .before .wide .ensures) (c .before .goes-on .ensures) (c .closed-of .ensures), head c .before .before .before .pre .frames)
+add-n c = omega (arith, passed-few (c .before .before .before .loop .inv) (c .before .before .loop-test .taken) (c .before .frames-at .ensures) refl (c .voiced-in .ensures), c .before .before .before .before .before .before .pre .frames)
 
 add-f : tie.Need-add-f Inv-loop μ-loop
-add-f c = omega (arith, passed-fits (head c .loop .inv) (c .before .before .before .before .loop-test .taken) (c .before .before .wide .ensures), head c .before .before .before .pre .frames)
+add-f c = omega (arith, passed-fits (c .before .before .before .loop .inv) (c .before .before .loop-test .taken) (c .before .frames-at .ensures), c .before .before .before .before .before .before .pre .frames)
 
 loop-again : tie.Need-loop-again Inv-loop μ-loop
-loop-again c = passed-next (head c .loop .inv) (c .before .before .before .before .loop-test .taken) (c .before .before .wide .ensures) (c .before .goes-on .ensures) (c .closed-of .ensures)
+loop-again c = passed-next (c .before .before .before .loop .inv) (c .before .before .loop-test .taken) (c .before .frames-at .ensures) refl (c .voiced-in .ensures)
 
 returns : tie.Need-returns Inv-loop μ-loop
 returns c = passed-all (c .before .loop .inv) (c .loop-test .left)
@@ -38,11 +36,8 @@ count-voiced-spec =
     Inv-loop
     μ-loop
     (λ c. passed-none)
-    (λ c. search needs)
-    (λ c. search needs)
     (λ c κs. search needs)
-    goes-on-requires
-    (λ c κs. search needs)
+    voiced-in-requires
     add-n
     add-f
     (λ c. search needs)

@@ -16,31 +16,32 @@ Inv-loop durations switches frames flags₀ s₀ f₀ k₀ flags s f k = Switchi
 abbrev μ-loop : tie.MeasureT-loop
 μ-loop durations switches frames flags₀ s₀ f₀ k₀ flags s f k = length durations - s
 
--- the state's frames are frames of the stream
-fits : (c : tie.After-wide Inv-loop μ-loop) → c .before .before .before .loop .f + c .wide .result ≤ total (c .before .before .before .before .before .before .before .args .durations .now)
-fits c = passed-fits (c .before .before .before .loop .inv .passed) (c .before .before .loop-test .taken) (c .wide .ensures)
+module _ (c : tie.After-voiced-in Inv-loop μ-loop) where
+  abbrev turn : tie.At-loop Inv-loop μ-loop
+  turn = c .before .before .before .before
 
-module _ (c : tie.After-closed-of Inv-loop μ-loop) where
-  begins : c .before .before .before .before .before .before .before .before .before .before .args .frames + c .before .before .before .before .before .before .loop .k ≡ total (c .before .before .before .before .before .before .before .before .before .before .args .durations .now) + c .before .before .before .before .before .before .loop .k
-  begins = ap (λ (n : ℕ). n + c .before .before .before .before .before .before .loop .k) (c .before .before .before .before .before .before .before .before .before .before .pre .1)
+  abbrev entry : tie.Start Inv-loop μ-loop
+  entry = turn .before .before .before .before
+
+  -- the state's frames are frames of the stream
+  fits : turn .loop .f + c .before .before .frames-at .result ≤ total (entry .args .durations .now)
+  fits = passed-fits (turn .loop .inv .passed) (c .before .before .before .loop-test .taken) (c .before .before .frames-at .ensures)
+
+  begins : entry .args .frames + turn .loop .k ≡ total (entry .args .durations .now) + turn .loop .k
+  begins = ap (λ (n : ℕ). n + turn .loop .k) (entry .pre .1)
 
   -- and there is room for its switches
-  room : c .before .before .before .before .before .before .before .before .before .before .args .frames + c .before .before .before .before .before .before .loop .k + c .closed-of .result ≤ length (c .before .before .before .before .before .before .loop .flags)
-  room = switching-room (c .before .before .before .before .before .before .loop .inv) (c .before .before .before .before .before .loop-test .taken) (c .before .before .before .wide .ensures) (c .before .before .before .before .before .before .before .before .before .before .pre .0) (c .before .goes-on .ensures) (c .closed-of .ensures) begins
+  room : entry .args .frames + turn .loop .k + c .voiced-in .result ≤ length (turn .loop .flags)
+  room = switching-room (turn .loop .inv) (c .before .before .before .loop-test .taken) (c .before .before .frames-at .ensures) (entry .pre .0) refl (c .voiced-in .ensures) begins
 
-goes-on-requires : tie.Need-goes-on-requires Inv-loop μ-loop
-goes-on-requires c κs = omega (arith, fits (c .before), c .before .before .before .before .before .before .before .before .pre .0 .framed .room, c .before .before .before .before .loop .inv .long)
+  within : entry .args .frames + turn .loop .k + c .voiced-in .result ≤ length (entry .args .flags .now)
+  within = omega (arith, room, turn .loop .inv .long)
 
-add-k : tie.Need-add-k Inv-loop μ-loop
-add-k c = omega (arith, room (c .before .before .before .before .before .before), c .before .before .before .before .before .before .before .before .before .before .before .before .before .before .before .before .good, c .before .before .before .before .before .before .before .before .before .before .before .before .loop .inv .long)
-
-add-f : tie.Need-add-f Inv-loop μ-loop
-add-f c = omega (arith, fits (c .before .before .before .before .before .before .before .before .before), c .before .before .before .before .before .before .before .before .before .before .before .before .before .before .before .before .pre .0 .framed .frames)
+voiced-in-requires : tie.Need-voiced-in-requires Inv-loop μ-loop
+voiced-in-requires c κs = omega (arith, passed-fits (c .before .before .before .loop .inv .passed) (c .before .before .loop-test .taken) (c .before .frames-at .ensures), c .before .before .before .before .before .before .before .pre .0 .framed .room, c .before .before .before .loop .inv .long)
 
 loop-again : tie.Need-loop-again Inv-loop μ-loop
-loop-again c =
-    switching-next (c .before .before .before .before .before .before .before .before .before .before .before .before .loop .inv) (c .before .before .before .before .before .before .before .before .before .before .before .loop-test .taken) (c .before .before .before .before .before .before .before .before .before .wide .ensures) (c .before .before .before .before .before .before .before .before .before .before .before .before .before .before .before .before .pre .0) (c .before .before .before .before .before .before .before .goes-on .ensures) (c .before .before .before .before .before .before .closed-of .ensures) (begins (c .before .before .before .before .before .before)) _ _
-    (c .before .before .before .before .wide-u8 .ensures) (c .before .before .fill-u32 .ensures)
+loop-again c = let q = c .before .before .before .before .before .before in switching-next (turn q .loop .inv) (q .before .before .before .loop-test .taken) (q .before .before .frames-at .ensures) (entry q .pre .0) refl (q .voiced-in .ensures) (begins q) _ _ (c .before .before .before .before .wide-u8 .ensures) (c .before .before .fill-u32 .ensures)
 
 returns : tie.Need-returns Inv-loop μ-loop
 returns c = rw (c .before .before .before .before .before .pre .1) (switched (c .before .loop .inv) (c .loop-test .left))
@@ -52,22 +53,19 @@ put-switches-spec =
     Inv-loop
     μ-loop
     (λ c. switching _ _ _)
-    (λ c. search needs)
-    (λ c. search needs)
     (λ c κs. search needs)
-    goes-on-requires
+    voiced-in-requires
+    (λ c. omega (arith, within c, entry c .good))
+    (λ c. omega (arith, within c, entry c .good))
+    (λ c. omega (arith, c .before .before .before .before .loop-test .taken, c .before .before .before .before .before .before .before .before .before .pre .0 .each))
     (λ c κs. search needs)
-    (λ c. omega (arith, room c, c .before .before .before .before .before .before .before .before .before .before .good, c .before .before .before .before .before .before .loop .inv .long))
-    (λ c. omega (arith, room c, c .before .before .before .before .before .before .before .before .before .before .good, c .before .before .before .before .before .before .loop .inv .long))
-    (λ c. omega (arith, c .before .before .before .before .before .before .loop-test .taken, c .before .before .before .before .before .before .before .before .before .before .before .pre .0 .each))
-    (λ c κs. search needs)
-    (λ c. omega (arith, room (c .before .before), c .before .before .before .before .before .before .before .before .before .before .before .before .good, c .before .before .before .before .before .before .before .before .loop .inv .long))
+    (λ c. omega (arith, within (c .before .before), entry (c .before .before) .good))
     (λ c. search needs)
     (λ c. search needs)
     (λ c. room (c .before .before))
     (λ c κs. search needs)
-    add-k
-    add-f
+    (λ c. omega (arith, within (c .before .before .before .before .before .before), entry (c .before .before .before .before .before .before) .good))
+    (λ c. omega (arith, fits (c .before .before .before .before .before .before), entry (c .before .before .before .before .before .before) .pre .0 .framed .frames))
     (λ c. search needs)
     (λ c. search needs)
     loop-again

@@ -1,42 +1,38 @@
 -- `voicing::mask::mask` meets its contract.
 use mathlib.Core.Path.{_≡_, sym, _∙_}
+use Prim.Native.Nat.{_≤_}
+use native.Mathlib.Omega.{arith}
 use lib.ListN.{length}
 use lib.Seq.{length-take-le}
-use native.Mathlib.Omega.{arith}
 use Rattle.lists.specs.Totals.{total}
-use Rattle.voicing.specs.Promise.{framesRefusal}
 use Rattle.lists.proofs.Ends.{passed}
-use Rattle.voicing.proofs.Ways.{framed, mask-stops, mask-6, mask-done}
+use Rattle.voicing.specs.Promise.{maskRefusal}
+use Rattle.voicing.proofs.Ways.{mask-stops, mask-framed, mask-room, mask-done}
 use borrow.Author.Needs.{needs}
 use Rattle.voicing.proofs.mask.mask.Statement.{statement}
 use Rattle.voicing.proofs.mask.mask.Tie as tie
 
-abbrev entry : tie.After-known-told → tie.Start
-entry c = c .before .before .before .before .before .before .before
+module _ (c : tie.After-wide) where
+  abbrev entry : tie.Start
+  entry = c .before .before .before .before .before .before .before .before
 
--- nothing of 3, 4 and 5 is given
-ok : (c : tie.After-known-told) → let a = entry c .args in (framesRefusal (length (a .weights .now)) (a .durations .now) ≡ 0) × (total (a .durations .now) ≡ c .before .framed .given .0 .0)
-ok c = passed _ _ _ (sym (c .before .before .before .frames-of .ensures) ∙ c .before .framed .given .1)
+  -- nothing is refused
+  ok : (maskRefusal (entry .args .weights .now) (entry .args .durations .now) (entry .args .voiced .now) ≡ 0) × (total (entry .args .durations .now) ≡ c .before .before .framed .given .0 .0)
+  ok = passed _ _ _ (sym (c .before .before .before .before .frames-of .ensures) ∙ c .before .before .framed .given .1)
+
+  room : c .wide .result ≤ length (entry .args .voiced .now)
+  room = omega (arith, c .wide .ensures, ok .1, mask-room (entry .args .weights .now) (entry .args .threshold) (entry .args .durations .now) (entry .args .voiced .now) (ok .0))
 
 returns : tie.Need-returns
 returns c = let s = c .before .before .before .before .before .before .args in mask-stops (s .weights .now) (s .threshold) (s .durations .now) (s .voiced .now) _ _ (c .before .before .frames-of .ensures) (c .enum-told .given .1)
 
+mark-states-requires : tie.Need-mark-states-requires
+mark-states-requires c κs =
+    let q = c .before in let s = entry q .args in
+    (omega (arith, mask-framed (s .weights .now) (s .threshold) (s .durations .now) (s .voiced .now) (ok q .0) .agree), ok q .1 ∙ sym (q .wide .ensures) ∙ sym (length-take-le _ _ (room q)))
+
 returns-2 : tie.Need-returns-2
-returns-2 c =
-    let s = entry (c .before .before) .args in
-    let k = ok (c .before .before) in
-    mask-6 (s .weights .now) (s .threshold) (s .durations .now) (s .voiced .now) (k .0) (omega (arith, k .1, c .before .wide .ensures, c .if1 .taken))
-
-mark-frames-requires : tie.Need-mark-frames-requires
-mark-frames-requires c κs =
-    let k = ok (c .before .before .before) in
-    (framed _ _ (k .0) .agree, k .1 ∙ sym (c .before .before .wide .ensures) ∙ sym (length-take-le _ _ (c .before .if1 .left)))
-
-returns-3 : tie.Need-returns-3
-returns-3 c =
-    let s = entry (c .before .before .before .before .before .before) .args in
-    let k = ok (c .before .before .before .before .before .before) in
-    mask-done (s .weights .now) (s .threshold) (s .durations .now) (s .voiced .now) (k .0) _ _ _ (k .1) (c .before .before .before .before .before .wide .ensures) (c .before .before .before .before .if1 .left) (c .before .before .mark-frames .ensures)
+returns-2 c = let q = c .before .before .before .before in let s = entry q .args in mask-done (s .weights .now) (s .threshold) (s .durations .now) (s .voiced .now) (ok q .0) _ _ _ (ok q .1) (q .wide .ensures) (c .before .before .mark-states .ensures)
 
 pub mask-spec : {M : Type 1} → statement M
 mask-spec =
@@ -47,9 +43,8 @@ mask-spec =
     (λ c. search needs)
     returns
     (λ c κs. search needs)
-    returns-2
+    room
+    (λ c. sym (length-take-le _ _ (room (c .before))))
+    mark-states-requires
     (λ c. search needs)
-    (λ c. sym (length-take-le _ _ (c .before .if1 .left)))
-    mark-frames-requires
-    (λ c. search needs)
-    returns-3)
+    returns-2)
