@@ -1,13 +1,13 @@
 -- Laws of parts of a list into which numbers are stored, as of a region of a work space.
 use mathlib.Core.Path.{_≡_, refl, sym, ap, _∙_}
 use mathlib.Core.List.{List, [], _∷_, _++_, append-assoc, append-nil}
-use Prim.Native.Nat.{ℕ, zero, suc, _+_, _-_, _<_, _≤_}
+use Prim.Native.Nat.{ℕ, suc, _+_, _-_, _<_, _≤_}
 use native.Mathlib.Numerals.{add-one}
 use native.Mathlib.Omega.{arith}
-use native.Mathlib.Nat.{add-zero, add-suc, suc-add, add-sub-cancel-left}
+use native.Mathlib.Nat.{add-sub-cancel-left}
 use borrow.Rule.Slice.PartMut.{midOf, putMid, post-is}
 use lib.ListN.{length, set, take, drop, getD, replicate, length-drop, length-set, length-replicate}
-use lib.Seq.{sets, sets-eq, set-set, set-comm, drop-set-add, drop-set-lt, take-set-le, take-set-lt, take-suc-set, getD-take, getD-drop, length-take-le, append-snoc}
+use lib.Seq.{sets, sets-eq, drop-set-add, drop-set-lt, take-set-le, take-set-lt, take-suc-set, getD-take, getD-drop, length-take-le, append-snoc}
 use Rattle.lists.specs.Build.{build}
 use Rattle.lists.proofs.Fills.{build-length}
 use Rattle.lists.proofs.Stores.{sets-append}
@@ -67,21 +67,6 @@ module _ {A : Type 0} where
   -- number t of those that were stored
   pub read-within : (vs l : List A) (i t : ℕ) (z : A) → t < length vs → i + length vs ≤ length l → getD (sets l i vs) (i + t) z ≡ getD vs t z
   read-within vs l i t z h k = sym (getD-take (length vs) _ t z h ∙ getD-drop i (sets l i vs) t z) ∙ ap (λ (x : List A). getD x t z) (stored-whole vs l i (length vs) refl k)
-
-  -- stores within what was stored
-  set-front : (xs l : List A) (i j : ℕ) (y : A) → i < j → set (sets l j xs) i y ≡ sets (set l i y) j xs
-  set-front [] l i j y h = refl
-  set-front (x ∷ xs) l i j y h = set-front xs (set l j x) i (suc j) y (omega arith) ∙ ap (λ (m : List A). sets m (suc j) xs) (set-comm l j i x y (λ e. omega arith))
-
-  set-within : (xs l : List A) (o i : ℕ) (y : A) → i < length xs → set (sets l o xs) (o + i) y ≡ sets l o (set xs i y)
-  set-within [] l o i y h = absurd (omega arith)
-  set-within (x ∷ xs) l o zero y h = rw (add-zero, set-front xs (set l o x) o (suc o) y (omega arith), set-set)
-  set-within (x ∷ xs) l o (suc i) y h = ap (λ (j : ℕ). set (sets (set l o x) (suc o) xs) j y) (add-suc o i ∙ sym (suc-add o i)) ∙ set-within xs (set l o x) (suc o) i y (omega arith)
-
-  pub sets-over : (ys xs l : List A) (o i : ℕ) → i + length ys ≤ length xs → sets (sets l o xs) (o + i) ys ≡ sets l o (sets xs i ys)
-  sets-over [] xs l o i h = refl
-  sets-over (y ∷ ys) xs l o i h =
-      rw (set-within xs l o i y (omega arith), ← add-suc o i) (sets-over ys (set xs i y) l o (suc i) (rw length-set (omega arith)))
 
   -- one more number by a rule
   pub stored-rule : (f : ℕ → A) (d g : List A) (e t : ℕ) (v : A) → v ≡ f t → g ≡ sets d e (build f t) → set g (e + t) v ≡ sets d e (build f (t + 1))

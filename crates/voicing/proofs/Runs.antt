@@ -1,29 +1,32 @@
 -- The frames of a voiced state are part of one run: their distances go by ones, and so only the state's ends are set to 0.
 use mathlib.Core.Path.{_≡_, refl, sym, ap, _∙_}
 use mathlib.Core.Bool.{Bool, true, false}
-use mathlib.Core.List.{List, [], _∷_, _++_}
+use mathlib.Core.List.{List, [], _∷_, _++_, append-nil}
 use mathlib.Core.Logic.{⊎-elim}
 use Prim.Native.Nat.{ℕ, zero, suc, _+_, _-_, _<_, _≤_, min}
-use native.Mathlib.Nat.{add-zero}
+use native.Mathlib.Nat.{add-sub-cancel-left}
 use native.Mathlib.Omega.{arith}
 use borrow.Author.Tests.{le-ltb, lt-ltb}
+use borrow.Rule.Slice.PartMut.{midOf, putMid}
 use lib.ListN.{length, take, drop, getD, replicate, length-drop, length-replicate, getD-replicate, List·getD-append}
-use lib.Seq.{sets, length-take-le, length-sets, drop-drop, getD-take, getD-drop}
+use lib.Seq.{sets, length-take-le, length-sets, drop-length, drop-drop, getD-take, getD-drop}
 use lib.Dec.{ltb}
 use lib.Ieee.{Float, nan}
 use Rattle.lists.specs.Totals.{total}
 use Rattle.lists.specs.Build.{build}
 use Rattle.lists.proofs.Builds.{build-is}
+use Rattle.lists.proofs.Expansions.{part-length}
 use Rattle.lists.proofs.Fills.{build-length}
 use Rattle.lists.proofs.Numbers.{le-or-lt}
-use Rattle.lists.proofs.Regions.{read-within, sets-over}
+use Rattle.lists.proofs.Regions.{returned, lent-filled, read-within}
+use Rattle.lists.proofs.Stores.{filled}
 use Rattle.floats.specs.Numbers.{nought}
 use Rattle.region.specs.Rows.{elem}
 use Rattle.region.proofs.Readings.{read-under, read-beyond}
 use Rattle.voicing.specs.Boundaries.{ahead, lefts, rights, shut, shutAll}
 use Rattle.voicing.specs.Mask.{maskIn}
 use Rattle.voicing.specs.Inner.Fits.{frame, goesOn}
-use Rattle.voicing.specs.Inner.States.{shutEnds}
+use Rattle.voicing.specs.Inner.States.{shutEnds, putPair}
 use Rattle.voicing.specs.declared.closing.Ends.{Ends}
 use Rattle.voicing.proofs.Theory.{lefts-length, rights-length}
 use Rattle.voicing.proofs.Masks.{frame-next, frame-fits, Run, goes-some, mask-run, mask-end}
@@ -80,15 +83,28 @@ module _ (e : Ends) (v : Float) where
       (le-or-lt p j))
       (le-or-lt (d - q) j))
 
-  -- d places of which all are filled, and then the ends
-  module _ (l a : List Float) (at : ℕ) (o : a ≡ sets l at (replicate (e .d) v)) (p q : ℕ) (x : p ≡ min (e .before) (e .d)) (y : q ≡ min (e .after) (e .d)) where
-    pub filled-same : p + q ≡ 0 → a ≡ sets l at (shutEnds e v)
-    filled-same z = o ∙ ap (sets l at) (ends-none (omega arith))
+  -- a list of which all is filled, and then its ends, the last part lent
+  module _ (l a : List Float) (n : length l ≡ e .d) (o : a ≡ sets l 0 (replicate (e .d) v)) (p q : ℕ) (x : p ≡ min (e .before) (e .d)) (y : q ≡ min (e .after) (e .d)) where
+    whole : a ≡ replicate (e .d) v
+    whole = o ∙ filled (e .d) v l (omega arith) ∙ rw (← n, drop-length l, append-nil)
 
-    pub filled-ends : (b c : List Float) → b ≡ sets a at (replicate p nought) → c ≡ sets b (at + (e .d - q)) (replicate q nought) → c ≡ sets l at (shutEnds e v)
-    filled-ends b c r z =
-        let f : b ≡ sets l at (sets (replicate (e .d) v) 0 (replicate p nought)) = r ∙ rw o (rw add-zero at (sets-over (replicate p nought) (replicate (e .d) v) l at 0 (simp length-replicate (omega arith)))) in
-        z ∙ rw (f, sets-over (replicate q nought) (sets (replicate (e .d) v) 0 (replicate p nought)) l at (e .d - q) (simp (length-sets, length-replicate) (omega arith)), x, y, ends-zeroed)
+    pub filled-same : p + q ≡ 0 → a ≡ shutEnds e v
+    filled-same z = whole ∙ ends-none (omega arith)
+
+    pub filled-ends : (b w : List Float) → b ≡ sets a 0 (replicate p nought) → w ≡ sets (midOf (e .d - q) (e .d - (e .d - q)) b) 0 (replicate q nought)
+        → putMid (e .d - q) (e .d - (e .d - q)) b w ≡ shutEnds e v
+    filled-ends b w r z =
+        let m : length b ≡ e .d = ap length r ∙ length-sets a 0 (replicate p nought) ∙ ap length whole ∙ length-replicate (e .d) v in
+        lent-filled b w (e .d - q) (e .d) q nought (omega arith) (omega arith) z ∙ rw (r, whole, x, y) ends-zeroed
+
+-- a mean and an inverse variance at a state's places, lent one after the other
+pub pair-put : (l a w : List Float) (place ivars : ℕ) (e : Ends) (x y : Float) → place + e .d ≤ length l → ivars + e .d ≤ length l
+    → a ≡ sets (midOf place (place + e .d - place) l) 0 (replicate (e .d) x) → w ≡ shutEnds e y
+    → putMid ivars (ivars + e .d - ivars) (putMid place (place + e .d - place) l a) w ≡ putPair e place ivars x y l
+pair-put l a w place ivars e x y h g o q =
+    let m : putMid place (place + e .d - place) l a ≡ sets l place (replicate (e .d) x) = lent-filled l a place (place + e .d) (e .d) x refl h o in
+    let k : ivars + e .d ≤ length (sets l place (replicate (e .d) x)) = rw length-sets g in
+    rw (m, q) (returned ivars (ivars + e .d) _ (shutEnds e y) (omega arith) k (ends-length e y ∙ sym (add-sub-cancel-left ivars (e .d))))
 
 -- ---- the distances in a run
 

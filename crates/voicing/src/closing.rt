@@ -1,8 +1,7 @@
 // Closing up, state by state: a state's frames are voiced or unvoiced together, so that its numbers are read, and its variances inverted, once.
 ghost use mathlib.Core.Path.{_≡_};
 ghost use Prim.Native.Nat.{_+_, _-_, _*_, _<_, _≤_};
-ghost use lib.ListN.{length, drop, getD, replicate};
-ghost use lib.Seq.{sets};
+ghost use lib.ListN.{length, drop, getD};
 ghost use lib.Ieee.{nan};
 ghost use Rattle.lists.specs.Totals.{total};
 ghost use Rattle.model.specs.Pair.{ivarOf};
@@ -60,29 +59,21 @@ struct Ends {
     after: usize,
 }
 
-// d numbers from place `at` on, all x.
-fn fill_part(x: f64, d: usize, at: usize, region: &mut [f64])
-    requires { ⌜ at + d ≤ length (now region) ⌝ }
-    ensures { λ _. ⌜ now (region .exit) ≡ sets (now (region .entry)) at (replicate d x) ⌝ }
-{
-    let end = at + d;
-    lists::fill_f64(&mut region[at..end], d, x);
-}
-
-// A state's inverse variance at each of its frames, from place `at` on, but 0 near the ends.
-fn fill_ivars(ivar: f64, e: Ends, at: usize, region: &mut [f64])
-    requires { ⌜ at + e .d ≤ length (now region) ⌝ }
-    ensures { λ _. ⌜ now (region .exit) ≡ sets (now (region .entry)) at (shutEnds e ivar) ⌝ }
+// A state's inverse variance at each of its frames, but 0 near the ends.
+fn fill_ivars(ivar: f64, e: Ends, out: &mut [f64])
+    requires { ⌜ length (now out) ≡ e .d ⌝ }
+    ensures { λ _. ⌜ now (out .exit) ≡ shutEnds e ivar ⌝ }
 {
     let d = e.d;
-    fill_part(ivar, d, at, region);
+    lists::fill_f64(out, d, ivar);
     let first = lists::least(e.before, d);
     let last = lists::least(e.after, d);
     if first + last == 0 {
         return;
     }
-    fill_part(0.0, first, at, region);
-    fill_part(0.0, last, at + (d - last), region);
+    lists::fill_f64(out, first, 0.0);
+    let from = d - last;
+    lists::fill_f64(&mut out[from..d], last, 0.0);
 }
 
 // A component's pair of a state and a window at the state's frames: the mean from place `at` of the region on, and from place `ivars` on the inverse variance.
@@ -90,8 +81,11 @@ fn put_pair(pair: MeanVari, e: Ends, at: usize, ivars: usize, region: &mut [f64]
     requires { ⌜ (at + e .d ≤ length (now region)) × (ivars + e .d ≤ length (now region)) ⌝ }
     ensures { λ _. ⌜ now (region .exit) ≡ putPair e at ivars (pair .0) (pair .1) (now (region .entry)) ⌝ }
 {
-    fill_part(pair.0, e.d, at, region);
-    fill_ivars(pair.1, e, ivars, region);
+    let d = e.d;
+    let means_end = at + d;
+    lists::fill_f64(&mut region[at..means_end], d, pair.0);
+    let ivars_end = ivars + d;
+    fill_ivars(pair.1, e, &mut region[ivars..ivars_end]);
 }
 
 // What the pairs of all states have in common: components side by side, some of v; a variance stands `half` numbers behind its mean in a record; a region
