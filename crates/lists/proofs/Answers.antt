@@ -1,9 +1,9 @@
 -- Laws of answers, and of lent lists at exit.
-use mathlib.Core.Path.{_≡_, refl, sym, ap}
+use mathlib.Core.Path.{_≡_, refl, sym, ap, _∙_}
 use mathlib.Core.List.{List, [], _∷_, _++_}
-use Prim.Native.Nat.{ℕ, zero, suc}
+use Prim.Native.Nat.{ℕ, zero, suc, _≤_}
 use native.Mathlib.Omega.{arith}
-use lib.ListN.{length, drop}
+use lib.ListN.{length, drop, length-append, length-drop}
 use Rattle.lists.specs.Answers.{Answer, given, answerOf, written}
 
 -- the answer of a refusal
@@ -42,6 +42,11 @@ accepted q xs values z e = rw (z, e)
 -- and has written its lists
 pub in-front : {A : Type 0} (q n : ℕ) (new w old : List A) → q ≡ 0 → w ≡ new → length new ≡ n → w ++ drop n old ≡ written q new old
 in-front q n new w old z e l = rw (z, e, l)
+
+-- a list that a call was lent is as long as it was, where there was room
+pub written-long : {A : Type 0} (q : ℕ) (new old : List A) → length new ≤ length old → length (written q new old) ≡ length old
+written-long zero new old h = length-append new (drop (length new) old) ∙ simp length-drop (omega arith)
+written-long (suc q) new old h = refl
 
 -- an answer without a value is a refusal
 pub refused-is : (m k v : ℕ) (vs : List ℕ) → refusing m ≡ answerOf k (v ∷ vs) → (k ≡ m) × (k ≡ 0 → ⊥)

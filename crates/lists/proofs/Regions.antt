@@ -4,14 +4,12 @@ use mathlib.Core.List.{List, [], _∷_, _++_, append-assoc, append-nil}
 use Prim.Native.Nat.{ℕ, suc, _+_, _-_, _<_, _≤_}
 use native.Mathlib.Numerals.{add-one}
 use native.Mathlib.Omega.{arith}
-use native.Mathlib.Nat.{add-sub-cancel-left}
-use borrow.Rule.Slice.PartMut.{midOf, putMid, post-is}
-use lib.ListN.{length, set, take, drop, getD, replicate, length-drop, length-set, length-replicate}
-use lib.Seq.{sets, sets-eq, drop-set-add, drop-set-lt, take-set-le, take-set-lt, take-suc-set, getD-take, getD-drop, length-take-le, append-snoc}
+use borrow.Rule.Slice.PartMut.{midOf, postOf, putMid, post-is, mid-len}
+use lib.ListN.{length, set, take, drop, getD, replicate, length-drop, length-set, length-replicate, take-append-drop}
+use lib.Seq.{sets, sets-eq, drop-append-le, drop-drop, drop-set-add, drop-set-lt, take-set-le, take-set-lt, take-suc-set, getD-take, getD-drop, length-take-le, append-snoc}
 use Rattle.lists.specs.Build.{build}
 use Rattle.lists.proofs.Fills.{build-length}
 use Rattle.lists.proofs.Stores.{sets-append}
-use Rattle.lists.proofs.Expansions.{part-filled}
 
 module _ {A : Type 0} where
   abbrev cut : ℕ → ℕ → List A → List A
@@ -79,9 +77,17 @@ module _ {A : Type 0} where
       let z : a + length x ≡ e = omega arith in
       sym (sets-eq x l a (omega arith) ∙ rw (z, post-is a e l h, append-assoc))
 
-  -- and so does one of which d places were filled with x
+  -- and so does one over whose front something was stored
+  pub lent-stored : (a e : ℕ) (l w vs : List A) → a ≤ e → e ≤ length l → length vs ≤ e - a → w ≡ sets (midOf a (e - a) l) 0 vs → putMid a (e - a) l w ≡ sets l a vs
+  lent-stored a e l w vs h g k q =
+      let n : ℕ = length vs in
+      let m : List A = midOf a (e - a) l in
+      let z : 0 + n ≡ n = omega arith in
+      let c : n ≤ length m = omega (arith, mid-len a e l g) in
+      let f : w ≡ vs ++ drop n m = q ∙ sets-eq vs m 0 (omega arith) ∙ rw z in
+      let d : drop n m ++ postOf a (e - a) l ≡ drop (a + n) l = sym (drop-append-le n m (postOf a (e - a) l) c) ∙ ap (drop n) (take-append-drop (e - a) (drop a l)) ∙ drop-drop n a l in
+      ap (λ (x : List A). putMid a (e - a) l x) f ∙ rw (append-assoc vs (drop n m) (postOf a (e - a) l), d) (sym (sets-eq vs l a (omega arith) ∙ append-assoc (take a l) vs (drop (a + n) l)))
+
+  -- as one of which d places were filled with x
   pub lent-filled : (out w : List A) (f e d : ℕ) (x : A) → e ≡ f + d → e ≤ length out → w ≡ sets (midOf f (e - f) out) 0 (replicate d x) → putMid f (e - f) out w ≡ sets out f (replicate d x)
-  lent-filled out w f e d x o h q =
-      let l : f + d ≤ length out = omega arith in
-      let r : w ≡ sets (midOf f (f + d - f) out) 0 (replicate d x) = rw o at q in
-      rw (o, part-filled out w f d x l r) (returned f (f + d) out (replicate d x) (omega arith) l (length-replicate d x ∙ sym (add-sub-cancel-left f d)))
+  lent-filled out w f e d x o h q = lent-stored f e out w (replicate d x) (omega arith) h (omega (arith, length-replicate d x)) q

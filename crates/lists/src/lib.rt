@@ -63,6 +63,18 @@ pub fn copy_u32(src: &[u32], n: usize, dst: &mut [u32])
     }
 }
 
+// The first n bytes of src, over those of dst.
+pub fn copy_u8(src: &[u8], n: usize, dst: &mut [u8])
+    ensures { λ _. ⌜ now (dst .exit) ≡ sets (now (dst .entry)) 0 (take n (now (src .entry))) ⌝ }
+{
+    let end = least(least(n, src.len()), dst.len());
+    let mut i = 0;
+    while i < end {
+        dst[i] = src[i];
+        i += 1;
+    }
+}
+
 // The first n floats of src, over those of dst.
 pub fn copy_f64(src: &[f64], n: usize, dst: &mut [f64])
     ensures { λ _. ⌜ now (dst .exit) ≡ sets (now (dst .entry)) 0 (take n (now (src .entry))) ⌝ }
