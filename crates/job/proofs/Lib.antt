@@ -6,3 +6,7 @@ pub mod Answers
 pub mod Outcomes
 pub mod Written
 pub mod Rewritten
+pub mod Memory
+pub mod LinkWays
+pub mod LinkOutcomes
+pub mod Linking

@@ -25,7 +25,7 @@ use Rattle.job.specs.Promise.{JobSays}
 abbrev worked : Job
 worked = record { speed = ofBits binary64 0x3fe0_0000_0000_0000; means = number 2 ∷ number 3 ∷ []; varis = number 1 ∷ number 1 ∷ [] }
 
-abbrev bytes : List ℕ
+abbrev pub bytes : List ℕ
 bytes =
     83 ∷ 80 ∷ 74 ∷ 1 ∷ 0 ∷ 2 ∷ 0 ∷
     0 ∷ 0 ∷ 0 ∷ 0 ∷ 0 ∷ 0 ∷ 224 ∷ 63 ∷
@@ -40,10 +40,10 @@ unfolding bytesOfJob bytesOfHeading bytesOfPairs bytesOf toBits ofBits ofInt
 worked-bytes = refl
 
 -- an output and a work space of three numbers
-abbrev sevens : List ℕ
+abbrev pub sevens : List ℕ
 sevens = 7 ∷ 7 ∷ 7 ∷ []
 
-abbrev nines : List ℕ
+abbrev pub nines : List ℕ
 nines = 9 ∷ 9 ∷ 9 ∷ []
 
 -- RULES, Job file: it comes to 2 states and 10 frames after 1 change: 4 and 6

@@ -24,10 +24,14 @@ jobFit j = fitAt (j .means) (j .varis) (j .speed)
 abbrev pub jobRefusal : Job → List ℕ → List ℕ → ℕ
 jobRefusal j out work = orElse (refusalOfLists (length (j .means)) (length (j .varis)) (length out) (length work)) (refusalAt (j .means) (j .varis) (j .speed))
 
--- RULES, Refusals: of a job 9 comes first, whatever else applies
-abbrev pub JobSays : List ℕ → List ℕ → List ℕ → Answered → List ℕ → List ℕ → Type 0
-JobSays bytes out work r =
+-- RULES, Refusals: of a job 9 comes first, whatever else applies; here behind a number k that comes before it, 0 for none
+abbrev pub JobSaysAfter : ℕ → List ℕ → List ℕ → List ℕ → Answered → List ℕ → List ℕ → Type 0
+JobSaysAfter k bytes out work r =
     let j = jobOf bytes in
     let n = length (j .means) in
     let o = jobFit j in
-    Says (orElse (formatRefusal bytes) (jobRefusal j out work)) (n ∷ total (o .durations) ∷ o .changes ∷ []) (o .durations) n out work (answered r)
+    Says (orElse k (orElse (formatRefusal bytes) (jobRefusal j out work))) (n ∷ total (o .durations) ∷ o .changes ∷ []) (o .durations) n out work (answered r)
+
+-- the whole file
+abbrev pub JobSays : List ℕ → List ℕ → List ℕ → Answered → List ℕ → List ℕ → Type 0
+JobSays = JobSaysAfter 0

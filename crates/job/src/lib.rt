@@ -10,6 +10,8 @@ ghost use Rattle.job.specs.Inner.Reading.{headed, StatesFitted};
 ghost use Rattle.job.specs.Promise.{JobSays};
 use duration::Fitted;
 
+pub mod link;
+
 pub const MOST_STATES: usize = 1024;
 
 pub enum Answered {

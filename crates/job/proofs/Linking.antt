@@ -1,0 +1,170 @@
+-- However a job is cut, the serial link answers it as the whole file is answered; and after an end nothing but begin is taken.
+use mathlib.Core.Path.{_≡_, refl, sym, ap, _∙_}
+use mathlib.Core.Bool.{true, false}
+use mathlib.Core.Logic.{⊎-elim}
+use mathlib.Core.List.{List, [], _∷_, _++_, append-assoc, append-nil, map, flatten}
+use Prim.Native.Nat.{ℕ, zero, suc, _≤_, _<_}
+use native.Mathlib.Omega.{arith}
+use lib.ListN.{length, take, drop, length-take}
+use lib.Seq.{take-all, length-take-le}
+use Rattle.lists.proofs.Numbers.{le-or-lt}
+use Rattle.lists.proofs.Answers.{same, written-long}
+use Rattle.lists.proofs.Bytes.{bytes-length}
+use Rattle.duration.specs.Promise.{workOf}
+use Rattle.job.specs.declared.Answered.{Answered}
+use Rattle.job.specs.declared.Answered.the-variants.{Refused as Answered·Refused}
+use Rattle.job.specs.declared.link.Linked.{Linked}
+use Rattle.job.specs.declared.link.Linked.the-variants.{Taken, Refused}
+use Rattle.job.specs.Format.{IsJob, formatRefusal}
+use Rattle.job.specs.Promise.{JobSays}
+use Rattle.job.specs.Link.{headBytes, room, linkBytes, idle, underWay, hasEnded, cameIn, linkRefusal}
+use Rattle.job.specs.LinkPromise.{LinkBeginSays, LinkPartSays, LinkEndSays}
+use Rattle.job.specs.Linking.{Call, part, end, Outcome, taken, refused11, Calls, none, part-then, end-then, JobInParts, AsWhole}
+use Rattle.job.proofs.Departures.{no-job-9}
+use Rattle.job.proofs.Answers.{damaged}
+use Rattle.job.proofs.Outcomes.{answered-one, job-one, job-9}
+use Rattle.job.proofs.Memory.{is-long, is-open, open-long, held-came, held-open, idle-ended, ended-11, open-0}
+
+-- ---- the room is enough
+
+no-job : (bytes : List ℕ) → room ≤ length bytes → IsJob bytes → ⊥
+no-job bytes h j = omega (arith, j .whole, j .few)
+
+module _ (bytes : List ℕ) where
+  front-full : room ≤ length bytes → room ≤ length (take room bytes)
+  front-full h = omega (arith, length-take-le room bytes h)
+
+  -- the format's verdict is that on the first 16,400 bytes
+  pub room-enough : formatRefusal bytes ≡ formatRefusal (take room bytes)
+  room-enough = ⊎-elim
+      (λ (h : room ≤ length bytes). no-job-9 bytes (no-job bytes h) ∙ sym (no-job-9 (take room bytes) (no-job (take room bytes) (front-full h))))
+      (λ (h : length bytes < room). ap formatRefusal (sym (take-all room bytes (omega arith))))
+      (le-or-lt room (length bytes))
+
+  module _ (out work : List ℕ) (r : Answered) (out′ work′ : List ℕ) where
+    -- and so is the job's outcome
+    pub room-says : JobSays (take room bytes) out work r out′ work′ → JobSays bytes out work r out′ work′
+    room-says f = ⊎-elim
+        (λ (h : room ≤ length bytes).
+        let d = job-9 (take room bytes) out work r out′ work′ f (no-job (take room bytes) (front-full h)) in
+        rw (d .0, d .1, d .2) (damaged bytes out work (no-job-9 bytes (no-job bytes h))))
+        (λ (h : length bytes < room). rw (take-all room bytes (omega arith)) at f)
+        (le-or-lt room (length bytes))
+
+    pub says-room : JobSays bytes out work r out′ work′ → JobSays (take room bytes) out work r out′ work′
+    says-room f = ⊎-elim
+        (λ (h : room ≤ length bytes).
+        let d = job-9 bytes out work r out′ work′ f (no-job bytes h) in
+        rw (d .0, d .1, d .2) (damaged (take room bytes) out work (no-job-9 (take room bytes) (no-job (take room bytes) (front-full h)))))
+        (λ (h : length bytes < room). rw (take-all room bytes (omega arith)) f)
+        (le-or-lt room (length bytes))
+
+-- ---- begin and parts
+
+-- what is kept of a front that was kept, and more
+kept-more : (n : ℕ) (a b : List ℕ) → take n (take n a ++ b) ≡ take n (a ++ b)
+kept-more zero a b = refl
+kept-more (suc n) [] b = refl
+kept-more (suc n) (x ∷ a) b = ap (λ (l : List ℕ). x ∷ l) (kept-more n a b)
+
+-- a job is under way, and these are its bytes so far, of which as many have come as there is room for
+record Coming (bytes link : List ℕ) : Type 0 where
+  taking : linkRefusal link ≡ 0
+  came : cameIn link ≡ take room bytes
+
+module _ (link : List ℕ) (h : linkBytes ≤ length link) (r : Linked) (link′ : List ℕ) where
+  begin-comes : LinkBeginSays link r link′ → (r ≡ Taken) × Coming [] link′
+  begin-comes p =
+      let z = is-long link h in
+      let m : link′ ≡ underWay [] ++ drop (length (underWay [])) link = rw z at (p .memory) in
+      (rw z at (p .answer), record { taking = rw m (held-open [] link (omega arith) h); came = rw m (held-came [] link (omega arith) h) })
+
+  -- a clean start, whatever the memory held: a job is under way, and no bytes have come
+  pub begin-clean : LinkBeginSays link r link′ → (r ≡ Taken) × (hasEnded link′ ≡ false) × (cameIn link′ ≡ [])
+  begin-clean p = let s = begin-comes p in (s .0, is-open link′ (s .1 .taking), s .1 .came)
+
+module _ (link bytes so-far : List ℕ) (r : Linked) (link′ : List ℕ) (c : Coming so-far link) where
+  part-comes : LinkPartSays link bytes r link′ → (r ≡ Taken) × Coming (so-far ++ bytes) link′
+  part-comes p =
+      let z = c .taking in
+      let b : List ℕ = take room (cameIn link ++ bytes) in
+      let few : length b ≤ room = rw (length-take room (cameIn link ++ bytes)) (omega arith) in
+      let h = open-long link z in
+      let m : link′ ≡ underWay b ++ drop (length (underWay b)) link = rw z at (p .memory) in
+      let n : b ≡ take room (so-far ++ bytes) = ap (λ (l : List ℕ). take room (l ++ bytes)) (c .came) ∙ kept-more room so-far bytes in
+      (rw z at (p .answer), record { taking = rw m (held-open b link few h); came = rw m (held-came b link few h) ∙ n })
+
+parts-come : (parts : List (List ℕ)) (link so-far : List ℕ) (outcomes : List Outcome) (link′ : List ℕ) → Coming so-far link → Calls link (map part parts) outcomes link′
+    → (outcomes ≡ map taken parts) × Coming (so-far ++ flatten parts) link′
+unfolding flatten
+parts-come [] link so-far outcomes link′ c none = (refl, rw (append-nil so-far) c)
+parts-come (bytes ∷ parts) link so-far outcomes link′ c (part-then p cs) =
+    let s = part-comes link bytes so-far _ _ c p in
+    let t = parts-come parts _ (so-far ++ bytes) _ link′ (s .1) cs in
+    (rw (s .0, t .0), rw (append-assoc so-far bytes (flatten parts)) at (t .1))
+
+-- ---- a job in parts
+
+module _ (link : List ℕ) (h : linkBytes ≤ length link) (parts : List (List ℕ)) (out work : List ℕ) (r : Answered) (link′ out′ work′ : List ℕ) (j : JobInParts link parts out work r link′ out′ work′) where
+  pub link-whole : AsWhole j
+  link-whole =
+      let b = begin-comes link h (j .begun) (j .clean) (j .begins) in
+      let p = parts-come parts (j .clean) [] (j .outcomes) (j .full) (b .1) (j .comes) in
+      let c = p .1 in
+      let s : JobSays (take room (flatten parts)) out work r out′ work′ = rw (c .taking, c .came) at (j .ends .job) in
+      record { starts = b .0; takes = p .0; answers = room-says (flatten parts) out work r out′ work′ s }
+
+-- two cuttings of the same bytes, over any two memories
+pub cuttings-agree : (link₁ link₂ : List ℕ) → linkBytes ≤ length link₁ → linkBytes ≤ length link₂ → (parts₁ parts₂ : List (List ℕ)) → flatten parts₁ ≡ flatten parts₂
+    → (out work : List ℕ) (r s : Answered) (l₁ o₁ w₁ l₂ o₂ w₂ : List ℕ) → JobInParts link₁ parts₁ out work r l₁ o₁ w₁ → JobInParts link₂ parts₂ out work s l₂ o₂ w₂ → (r ≡ s) × (o₁ ≡ o₂) × (w₁ ≡ w₂)
+cuttings-agree link₁ link₂ h₁ h₂ parts₁ parts₂ e out work r s l₁ o₁ w₁ l₂ o₂ w₂ j k =
+    let p = link-whole link₁ h₁ parts₁ out work r l₁ o₁ w₁ j .answers in
+    let q = link-whole link₂ h₂ parts₂ out work s l₂ o₂ w₂ k .answers in
+    job-one (flatten parts₂) out work o₁ o₂ w₁ w₂ r s (rw e at p) q
+
+-- ---- after the end
+
+module _ (link : List ℕ) (e : hasEnded link ≡ true) where
+  part-11 : (bytes : List ℕ) (r : Linked) (link′ : List ℕ) → LinkPartSays link bytes r link′ → (r ≡ Refused 11) × (link′ ≡ link)
+  part-11 bytes r link′ p = let k = ended-11 link e in (rw k at (p .answer), rw k at (p .memory))
+
+  end-11 : (out work : List ℕ) (r : Answered) (link′ out′ work′ : List ℕ) → LinkEndSays link out work r link′ out′ work′ → (r ≡ Answered·Refused 11) × (link′ ≡ link) × (out′ ≡ out) × (work′ ≡ work)
+  unfolding workOf
+  end-11 out work r link′ out′ work′ p =
+      let k = ended-11 link e in
+      let s = rw k at (p .job) in
+      (answered-one r (Answered·Refused 11) (same (s .answer)), rw k at (p .memory), s .output, s .workspace)
+
+all-refused : (calls : List Call) (link : List ℕ) (outcomes : List Outcome) (link′ : List ℕ) → hasEnded link ≡ true → Calls link calls outcomes link′ → (outcomes ≡ map refused11 calls) × (link′ ≡ link)
+all-refused [] link outcomes link′ e none = (refl, refl)
+all-refused (part bytes ∷ calls) link outcomes link′ e (part-then p cs) =
+    let s = part-11 link e bytes _ _ p in
+    let t = all-refused calls _ _ link′ (rw (s .1) e) cs in
+    (rw (s .0, t .0), t .1 ∙ s .1)
+all-refused (end out work ∷ calls) link outcomes link′ e (end-then p cs) =
+    let s = end-11 link e out work _ _ _ _ p in
+    let t = all-refused calls _ _ link′ (rw (s .1) e) cs in
+    (rw (s .0, s .2, s .3, t .0), t .1 ∙ s .1)
+
+-- an end, accepted or refused, over a memory that is long enough, whatever it holds
+module _ (link : List ℕ) (h : linkBytes ≤ length link) (out work : List ℕ) (r : Answered) (link′ out′ work′ : List ℕ) (f : LinkEndSays link out work r link′ out′ work′) where
+  pub end-ends : hasEnded link′ ≡ true
+  end-ends =
+      (elim (hasEnded link) as (λ s. hasEnded link ≡ s → hasEnded link′ ≡ true) [
+        | true ↦ λ e. let m : link′ ≡ link = rw (ended-11 link e) at (f .memory) in rw m e
+        | false ↦ λ e. let m : link′ ≡ idle ++ drop (length idle) link = rw (open-0 link e h) at (f .memory) in rw m (idle-ended link)
+      ])
+      refl
+
+  end-long : linkBytes ≤ length link′
+  end-long = let e : length link′ ≡ length link = ap length (f .memory) ∙ written-long (linkRefusal link) idle link (omega (arith, bytes-length headBytes 0)) in omega arith
+
+  -- calls after it, of parts and ends in any order
+  module _ (calls : List Call) (outcomes : List Outcome) (link₂ : List ℕ) (cs : Calls link′ calls outcomes link₂) where
+    -- each is refused with 11, and memory, output and work space are as they were
+    pub link-after : (outcomes ≡ map refused11 calls) × (link₂ ≡ link′)
+    link-after = all-refused calls link′ outcomes link₂ end-ends cs
+
+    -- and the next job is answered as the file of its own bytes is: nothing is seen of what came before
+    pub link-again : (parts : List (List ℕ)) (o w : List ℕ) (s : Answered) (link₃ o′ w′ : List ℕ) (j : JobInParts link₂ parts o w s link₃ o′ w′) → AsWhole j
+    link-again parts o w s link₃ o′ w′ j = link-whole link₂ (rw (link-after .1) end-long) parts o w s link₃ o′ w′ j
