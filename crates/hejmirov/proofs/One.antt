@@ -14,9 +14,11 @@ use Rattle.band.proofs.Ways.{band-one}
 use Rattle.mlpg_adjust.proofs.One.{create-one}
 use Rattle.job.specs.Promise.{answered}
 use Rattle.job.proofs.Outcomes.{job-one}
+use Rattle.job.specs.LinkPromise.{linkedNumber}
+use Rattle.job.proofs.LinkOutcomes.{link-begin-one, link-part-one, link-end-one}
 use Rattle.spool.specs.Promise.{placed, spanned}
 use Rattle.spool.proofs.One.{place-one, span-one}
-use Rattle.hejmirov.specs.Promise.{handed, HandsOne, HandsTwo, HandsThree, streamOf, FitCallSays, SpeedCallSays, AlignCallSays, MaskCallSays, BandCallSays, TrajectoryCallSays, PlaceCallSays, ExcerptCallSays, JobCallSays}
+use Rattle.hejmirov.specs.Promise.{handed, HandsOne, HandsTwo, HandsThree, streamOf, FitCallSays, SpeedCallSays, AlignCallSays, MaskCallSays, BandCallSays, TrajectoryCallSays, PlaceCallSays, ExcerptCallSays, JobCallSays, LinkBeginCallSays, LinkPartCallSays, LinkEndCallSays}
 
 -- one answer gives one number and one value
 hands-one : (a b : Answer) (old r s x y : ℕ) → a ≡ b → HandsOne a old r x → HandsOne b old s y → (r ≡ s) × (x ≡ y)
@@ -88,3 +90,21 @@ job-call-one bytes out work states frames changes r s o₁ w₁ o₂ w₂ x₀ x
     let t = job-one bytes out work o₁ o₂ w₁ w₂ (f .answer) (g .answer) (f .says) (g .says) in
     let h = hands-three (answered (f .answer)) (answered (g .answer)) states frames changes r s x₀ x₁ x₂ y₀ y₁ y₂ (ap answered (t .0)) (f .gives) (g .gives) in
     (h .0, t .1, t .2, h .1, h .2, h .3)
+
+pub link-begin-call-one : (link : List ℕ) (r s : ℕ) (l₁ l₂ : List ℕ) → LinkBeginCallSays link r l₁ → LinkBeginCallSays link s l₂ → (r ≡ s) × (l₁ ≡ l₂)
+link-begin-call-one link r s l₁ l₂ f g =
+    let t = link-begin-one link (f .answer) (g .answer) l₁ l₂ (f .says) (g .says) in
+    (f .gives ∙ ap linkedNumber (t .0) ∙ sym (g .gives), t .1)
+
+pub link-part-call-one : (link bytes : List ℕ) (r s : ℕ) (l₁ l₂ : List ℕ) → LinkPartCallSays link bytes r l₁ → LinkPartCallSays link bytes s l₂ → (r ≡ s) × (l₁ ≡ l₂)
+link-part-call-one link bytes r s l₁ l₂ f g =
+    let t = link-part-one link bytes (f .answer) (g .answer) l₁ l₂ (f .says) (g .says) in
+    (f .gives ∙ ap linkedNumber (t .0) ∙ sym (g .gives), t .1)
+
+pub link-end-call-one : (link out work : List ℕ) (states frames changes r s : ℕ) (l₁ o₁ w₁ l₂ o₂ w₂ : List ℕ) (x₀ x₁ x₂ y₀ y₁ y₂ : ℕ)
+    → LinkEndCallSays link out work states frames changes r l₁ o₁ w₁ x₀ x₁ x₂ → LinkEndCallSays link out work states frames changes s l₂ o₂ w₂ y₀ y₁ y₂
+    → (r ≡ s) × (l₁ ≡ l₂) × (o₁ ≡ o₂) × (w₁ ≡ w₂) × (x₀ ≡ y₀) × (x₁ ≡ y₁) × (x₂ ≡ y₂)
+link-end-call-one link out work states frames changes r s l₁ o₁ w₁ l₂ o₂ w₂ x₀ x₁ x₂ y₀ y₁ y₂ f g =
+    let t = link-end-one link out work (f .answer) (g .answer) l₁ o₁ w₁ l₂ o₂ w₂ (f .says) (g .says) in
+    let h = hands-three (answered (f .answer)) (answered (g .answer)) states frames changes r s x₀ x₁ x₂ y₀ y₁ y₂ (ap answered (t .0)) (f .gives) (g .gives) in
+    (h .0, t .1, t .2, t .3, h .1, h .2, h .3)

@@ -21,6 +21,8 @@ use Rattle.mlpg_adjust.specs.declared.Created.{Created}
 use Rattle.lists.specs.declared.Filled.{Filled}
 use Rattle.job.specs.Promise.{answered, JobSays}
 use Rattle.job.specs.declared.Answered.{Answered}
+use Rattle.job.specs.LinkPromise.{linkedNumber, LinkBeginSays, LinkPartSays, LinkEndSays}
+use Rattle.job.specs.declared.link.Linked.{Linked}
 use Rattle.spool.specs.Promise.{placed, spanned, PlaceSays, SpanSays}
 use Rattle.spool.specs.declared.Placed.{Placed}
 use Rattle.spool.specs.declared.Span.{Span}
@@ -108,4 +110,22 @@ pub record ExcerptCallSays (trajectory : List Float) (durations : List ℕ) (v s
 pub record JobCallSays (bytes out work : List ℕ) (states frames changes r : ℕ) (out′ work′ : List ℕ) (states′ frames′ changes′ : ℕ) : Type 0 where
   pub answer : Answered
   pub says : JobSays bytes out work answer out′ work′
+  pub gives : HandsThree (answered answer) states frames changes r states′ frames′ changes′
+
+-- `hejmirov_link_begin`
+pub record LinkBeginCallSays (link : List ℕ) (r : ℕ) (link′ : List ℕ) : Type 0 where
+  pub answer : Linked
+  pub says : LinkBeginSays link answer link′
+  pub gives : r ≡ linkedNumber answer
+
+-- `hejmirov_link_part`
+pub record LinkPartCallSays (link bytes : List ℕ) (r : ℕ) (link′ : List ℕ) : Type 0 where
+  pub answer : Linked
+  pub says : LinkPartSays link bytes answer link′
+  pub gives : r ≡ linkedNumber answer
+
+-- `hejmirov_link_end`
+pub record LinkEndCallSays (link out work : List ℕ) (states frames changes r : ℕ) (link′ out′ work′ : List ℕ) (states′ frames′ changes′ : ℕ) : Type 0 where
+  pub answer : Answered
+  pub says : LinkEndSays link out work answer link′ out′ work′
   pub gives : HandsThree (answered answer) states frames changes r states′ frames′ changes′

@@ -5,7 +5,7 @@ ghost use Rattle.duration.specs.Promise.{fitted, aligned};
 ghost use Rattle.lists.specs.Ends.{filled};
 ghost use Rattle.spool.specs.Promise.{placed, spanned};
 ghost use Rattle.job.specs.Promise.{answered};
-ghost use Rattle.hejmirov.specs.Promise.{HandsOne, HandsTwo, HandsThree, varianceOf, FitCallSays, SpeedCallSays, AlignCallSays, MaskCallSays, BandCallSays, TrajectoryCallSays, PlaceCallSays, ExcerptCallSays, JobCallSays};
+ghost use Rattle.hejmirov.specs.Promise.{HandsOne, HandsTwo, HandsThree, varianceOf, FitCallSays, SpeedCallSays, AlignCallSays, MaskCallSays, BandCallSays, TrajectoryCallSays, PlaceCallSays, ExcerptCallSays, JobCallSays, LinkBeginCallSays, LinkPartCallSays, LinkEndCallSays};
 use duration::Aligned;
 use duration::Fitted;
 use job::Answered;
@@ -283,4 +283,38 @@ fn hand_out_job(answer: Answered, states: &mut u32, frames: &mut u32, changes: &
         }
         Answered::Refused(number) => number as u32,
     }
+}
+
+// Starts a job over a serial link, whatever its memory holds.
+#[no_mangle]
+pub extern "C" fn hejmirov_link_begin(link: &mut [u8]) -> u32
+    ensures { λ r. ⌜ LinkBeginCallSays (now (link .entry)) r (now (link .exit)) ⌝ }
+{
+    let answer = job::link::begin(link);
+    answer.number() as u32
+}
+
+// Takes a part of the job, of any length and cut anywhere.
+#[no_mangle]
+pub extern "C" fn hejmirov_link_part(link: &mut [u8], part: &[u8]) -> u32
+    ensures { λ r. ⌜ LinkPartCallSays (now (link .entry)) (now (part .entry)) r (now (link .exit)) ⌝ }
+{
+    let answer = job::link::part(link, part);
+    answer.number() as u32
+}
+
+// Ends the job, and answers it as the file of its bytes is answered.
+#[no_mangle]
+pub extern "C" fn hejmirov_link_end(
+    link: &mut [u8],
+    out: &mut [u32],
+    work: &mut [u32],
+    states: &mut u32,
+    frames: &mut u32,
+    changes: &mut u32,
+) -> u32
+    ensures { λ r. ⌜ LinkEndCallSays (now (link .entry)) (now (out .entry)) (now (work .entry)) (now (states .entry)) (now (frames .entry)) (now (changes .entry)) r (now (link .exit)) (now (out .exit)) (now (work .exit)) (now (states .exit)) (now (frames .exit)) (now (changes .exit)) ⌝ }
+{
+    let answer = job::link::end(link, out, work);
+    hand_out_job(answer, states, frames, changes)
 }

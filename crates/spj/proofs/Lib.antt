@@ -1,2 +1,3 @@
--- The law that the proofs of reading cite.
+-- The laws that the proofs of reading and printing cite.
 pub mod Reading
+pub mod Printing

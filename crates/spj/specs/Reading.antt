@@ -7,3 +7,7 @@ use Rattle.spj.specs.declared.Input.the-variants.{Bytes, Failed}
 abbrev pub Within : Input → ℕ → Type 0
 Within (Bytes n) room = n ≤ room
 Within Failed room = Unit {0}
+
+-- the most that is read of a link at once
+abbrev pub pieceBytes : ℕ
+pieceBytes = 512

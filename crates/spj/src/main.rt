@@ -1,13 +1,15 @@
-// Answers the job file that its argument names, or standard input.
+// Answers the job file that its argument names, or standard input, as a file or as a serial link.
 ghost use lib.ListN.{length};
-ghost use Rattle.spj.specs.Reading.{Within};
+ghost use Rattle.spj.specs.Reading.{Within, pieceBytes};
+ghost use Rattle.spj.specs.Printing.{StatesWithin};
 use job::Answered;
+use job::link::ROOM;
 use libc::STDERR_FILENO;
 use libc::STDIN_FILENO;
 use libc::STDOUT_FILENO;
 
-// One byte more than the largest job has, which is 15 + 16 * 1,024.
-const ROOM: usize = 16_400;
+// The most that is read of a link at once.
+const PIECE: usize = 512;
 
 // How many bytes were read, unless a read failed.
 enum Input {
@@ -70,10 +72,11 @@ fn print_done(states: u32, frames: u32, changes: u32, durations: &[u32]) -> bool
         && print_each(durations)
 }
 
-fn print_answer(bytes: &[u8]) -> bool {
-    let mut out = [0u32; job::MOST_STATES];
-    let mut work = [0u32; job::MOST_STATES];
-    match job::answer(bytes, &mut out, &mut work) {
+// An answer, whose durations stand at the front of the output.
+fn print_answered(answer: Answered, out: &[u32]) -> bool
+    requires { ⌜ StatesWithin answer (length (now out)) ⌝ }
+{
+    match answer {
         Answered::Refused(number) => print_named(b"refused ", number as u32),
         Answered::Done {
             states,
@@ -86,13 +89,27 @@ fn print_answer(bytes: &[u8]) -> bool {
     }
 }
 
+fn print_answer(bytes: &[u8]) -> bool {
+    let mut out = [0u32; job::MOST_STATES];
+    let mut work = [0u32; job::MOST_STATES];
+    let answer = job::answer(bytes, &mut out, &mut work);
+    print_answered(answer, &out)
+}
+
+fn print_end(link: &mut [u8]) -> bool {
+    let mut out = [0u32; job::MOST_STATES];
+    let mut work = [0u32; job::MOST_STATES];
+    let answer = job::link::end(link, &mut out, &mut work);
+    print_answered(answer, &out)
+}
+
 // Says on standard error what failed, with errno's text: a write that goes through leaves errno as it was.
 fn fail(what: &[u8]) {
     io::write_all(STDERR_FILENO, b"spj: ");
     os::fail(what);
 }
 
-// Answers the job that is read from a descriptor; name is what a message calls it. A file larger than any job fills the room, and is refused by its length.
+// Answers the job that is read from a descriptor; name is what a message calls it. A file larger than any job fills the room, which has one byte more than the largest, and is refused by its length.
 fn answer_from(fd: i32, name: &[u8]) {
     let mut room = [0u8; ROOM];
     let Input::Bytes(n) = read_all(fd, &mut room) else {
@@ -100,6 +117,46 @@ fn answer_from(fd: i32, name: &[u8]) {
         return;
     };
     if !print_answer(&room[..n]) {
+        fail(b"standard output");
+    }
+}
+
+// Reads once, and hands what was read to the link as a part of the job.
+fn take_part(fd: i32, link: &mut [u8]) -> Input
+    ensures { λ r. ⌜ Within r pieceBytes ⌝ }
+{
+    let mut piece = [0u8; PIECE];
+    let Input::Bytes(n) = read_some(fd, &mut piece) else {
+        return Input::Failed;
+    };
+    job::link::part(link, &piece[..n]);
+    Input::Bytes(n)
+}
+
+// Takes the job in whatever pieces it comes, until the input ends or no more would be kept; whether every read went through.
+fn take_parts(fd: i32, link: &mut [u8]) -> bool {
+    let mut n = 0;
+    while n < ROOM {
+        let Input::Bytes(more) = take_part(fd, link) else {
+            return false;
+        };
+        if more == 0 {
+            return true;
+        }
+        n += more;
+    }
+    true
+}
+
+// Answers the job that comes over standard input as a serial link.
+fn answer_link() {
+    let mut link = [0u8; job::link::BYTES];
+    job::link::begin(&mut link);
+    if !take_parts(STDIN_FILENO, &mut link) {
+        fail(b"standard input");
+        return;
+    }
+    if !print_end(&mut link) {
         fail(b"standard output");
     }
 }
@@ -121,7 +178,7 @@ fn answer_file(path: &[u8]) {
 fn print_help() {
     let printed = io::write_all(
         STDOUT_FILENO,
-        b"usage: spj [FILE]\n\nAnswers a job file, or standard input where FILE is - or is not given. It prints the\nnumber of states, of frames and of unit changes, and then each state's frames, one to a\nline; or one line such as 'refused 9' where the job is refused. What can't be read or\nwritten is said on standard error. The exit status is 0 in any case.\n",
+        b"usage: spj [FILE]\n       spj --link\n\nAnswers a job file, or standard input where FILE is - or is not given. With --link standard\ninput is a serial link: the job is taken in whatever pieces it comes, and answered at its end\nas the file is. It prints the number of states, of frames and of unit changes, and then each\nstate's frames, one to a line; or one line such as 'refused 9' where the job is refused. What\ncan't be read or written is said on standard error. The exit status is 0 in any case.\n",
     );
     if !printed {
         fail(b"standard output");
@@ -145,6 +202,10 @@ fn answer_word(word: &[u8]) {
         print_help();
         return;
     }
+    if is(word, b"--link") {
+        answer_link();
+        return;
+    }
     if is(word, b"-") {
         answer_input();
         return;
@@ -159,7 +220,10 @@ fn answer_word(word: &[u8]) {
 fn main() {
     let words = os::arg_count();
     if words > 2 {
-        io::write_all(STDERR_FILENO, b"spj: one FILE at most; see spj --help\n");
+        io::write_all(
+            STDERR_FILENO,
+            b"spj: one FILE at most, and none with --link; see spj --help\n",
+        );
         return;
     }
     if words < 2 {
