@@ -18,7 +18,7 @@ use Rattle.job.specs.declared.Answered.{Answered}
 use Rattle.job.specs.declared.Answered.the-variants.{Refused as Answered·Refused}
 use Rattle.job.specs.declared.link.Linked.the-variants.{Taken, Refused}
 use Rattle.job.specs.Promise.{JobSaysAfter, JobSays}
-use Rattle.job.specs.Link.{headBytes, room, linkBytes, stage, idle, underWay, stageOf, hasEnded, cameIn, beginRefusal, linkRefusal}
+use Rattle.job.specs.Link.{headBytes, linkRoom, linkBytes, stage, idle, underWay, stageOf, hasEnded, cameIn, beginRefusal, linkRefusal}
 use Rattle.job.specs.LinkPromise.{linkedOf, LinkBeginSays, LinkPartSays, LinkEndSays}
 use Rattle.job.proofs.Memory.{long-enough, open-long, came-long, came-few, begun, ended, part-kept}
 
@@ -45,7 +45,7 @@ pub begin-refused : (link : List ℕ) (k : ℕ) → k ≡ beginRefusal link → 
 begin-refused link k e z = record { answer = refusing k z ∙ ap linkedOf e; memory = left-so k (beginRefusal link) (underWay []) link e z }
 
 pub part-refused : (link bytes : List ℕ) (k : ℕ) → k ≡ linkRefusal link → (k ≡ 0 → ⊥) → LinkPartSays link bytes (Refused k) link
-part-refused link bytes k e z = record { answer = refusing k z ∙ ap linkedOf e; memory = left-so k (linkRefusal link) (underWay (take room (cameIn link ++ bytes))) link e z }
+part-refused link bytes k e z = record { answer = refusing k z ∙ ap linkedOf e; memory = left-so k (linkRefusal link) (underWay (take linkRoom (cameIn link ++ bytes))) link e z }
 
 -- neither 6 nor 11 clears the work space
 work-left : (a b : Bool) (k n : ℕ) (work : List ℕ) → k ≡ orElse (cond a 11 0) (cond b 6 0) → (k ≡ 0 → ⊥) → work ≡ workOf k n work
@@ -79,13 +79,13 @@ begin-taken link n link′ z e q =
 
 module _ (link : List ℕ) (z : linkRefusal link ≡ 0) (came : ℕ) (e : came ≡ stageOf link - 1) where
   -- where a part's bytes go, and where the job's end
-  pub came-room : came ≤ room
+  pub came-room : came ≤ linkRoom
   came-room = omega (arith, came-long link z, came-few link z)
 
   pub came-within : headBytes + came ≤ length link
   came-within = omega (arith, came-room, open-long link z)
 
-  pub part-taken : (bytes : List ℕ) (more n : ℕ) (w link′ : List ℕ) → more ≡ min (length bytes) (room - came) → n ≡ stage true (came + more)
+  pub part-taken : (bytes : List ℕ) (more n : ℕ) (w link′ : List ℕ) → more ≡ min (length bytes) (linkRoom - came) → n ≡ stage true (came + more)
       → w ≡ sets (midOf (headBytes + came) (length link - (headBytes + came)) link) 0 (take more bytes)
       → link′ ≡ sets (putMid (headBytes + came) (length link - (headBytes + came)) link w) 0 (bytesOf headBytes n) → LinkPartSays link bytes Taken link′
   part-taken bytes more n w link′ f g q p =

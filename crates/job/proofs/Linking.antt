@@ -17,9 +17,9 @@ use Rattle.job.specs.declared.link.Linked.{Linked}
 use Rattle.job.specs.declared.link.Linked.the-variants.{Taken, Refused}
 use Rattle.job.specs.Format.{IsJob, formatRefusal}
 use Rattle.job.specs.Promise.{JobSays}
-use Rattle.job.specs.Link.{headBytes, room, linkBytes, idle, underWay, hasEnded, cameIn, linkRefusal}
+use Rattle.job.specs.Link.{headBytes, linkRoom, linkBytes, idle, underWay, hasEnded, cameIn, linkRefusal}
 use Rattle.job.specs.LinkPromise.{LinkBeginSays, LinkPartSays, LinkEndSays}
-use Rattle.job.specs.Linking.{Call, part, end, Outcome, taken, refused11, Calls, none, part-then, end-then, JobInParts, AsWhole}
+use Rattle.job.specs.Linking.{Call, partOf, endWith, CallOutcome, taken, refused11, Calls, none, part-then, end-then, JobInParts, AsWhole}
 use Rattle.job.proofs.Departures.{no-job-9}
 use Rattle.job.proofs.Answers.{damaged}
 use Rattle.job.proofs.Outcomes.{answered-one, job-one, job-9}
@@ -27,37 +27,37 @@ use Rattle.job.proofs.Memory.{is-long, is-open, open-long, held-came, h
 
 -- ---- the room is enough
 
-no-job : (bytes : List ℕ) → room ≤ length bytes → IsJob bytes → ⊥
+no-job : (bytes : List ℕ) → linkRoom ≤ length bytes → IsJob bytes → ⊥
 no-job bytes h j = omega (arith, j .whole, j .few)
 
 module _ (bytes : List ℕ) where
-  front-full : room ≤ length bytes → room ≤ length (take room bytes)
-  front-full h = omega (arith, length-take-le room bytes h)
+  front-full : linkRoom ≤ length bytes → linkRoom ≤ length (take linkRoom bytes)
+  front-full h = omega (arith, length-take-le linkRoom bytes h)
 
   -- the format's verdict is that on the first 16,400 bytes
-  pub room-enough : formatRefusal bytes ≡ formatRefusal (take room bytes)
+  pub room-enough : formatRefusal bytes ≡ formatRefusal (take linkRoom bytes)
   room-enough = ⊎-elim
-      (λ (h : room ≤ length bytes). no-job-9 bytes (no-job bytes h) ∙ sym (no-job-9 (take room bytes) (no-job (take room bytes) (front-full h))))
-      (λ (h : length bytes < room). ap formatRefusal (sym (take-all room bytes (omega arith))))
-      (le-or-lt room (length bytes))
+      (λ (h : linkRoom ≤ length bytes). no-job-9 bytes (no-job bytes h) ∙ sym (no-job-9 (take linkRoom bytes) (no-job (take linkRoom bytes) (front-full h))))
+      (λ (h : length bytes < linkRoom). ap formatRefusal (sym (take-all linkRoom bytes (omega arith))))
+      (le-or-lt linkRoom (length bytes))
 
   module _ (out work : List ℕ) (r : Answered) (out′ work′ : List ℕ) where
     -- and so is the job's outcome
-    pub room-says : JobSays (take room bytes) out work r out′ work′ → JobSays bytes out work r out′ work′
+    pub room-says : JobSays (take linkRoom bytes) out work r out′ work′ → JobSays bytes out work r out′ work′
     room-says f = ⊎-elim
-        (λ (h : room ≤ length bytes).
-        let d = job-9 (take room bytes) out work r out′ work′ f (no-job (take room bytes) (front-full h)) in
+        (λ (h : linkRoom ≤ length bytes).
+        let d = job-9 (take linkRoom bytes) out work r out′ work′ f (no-job (take linkRoom bytes) (front-full h)) in
         rw (d .0, d .1, d .2) (damaged bytes out work (no-job-9 bytes (no-job bytes h))))
-        (λ (h : length bytes < room). rw (take-all room bytes (omega arith)) at f)
-        (le-or-lt room (length bytes))
+        (λ (h : length bytes < linkRoom). rw (take-all linkRoom bytes (omega arith)) at f)
+        (le-or-lt linkRoom (length bytes))
 
-    pub says-room : JobSays bytes out work r out′ work′ → JobSays (take room bytes) out work r out′ work′
+    pub says-room : JobSays bytes out work r out′ work′ → JobSays (take linkRoom bytes) out work r out′ work′
     says-room f = ⊎-elim
-        (λ (h : room ≤ length bytes).
+        (λ (h : linkRoom ≤ length bytes).
         let d = job-9 bytes out work r out′ work′ f (no-job bytes h) in
-        rw (d .0, d .1, d .2) (damaged (take room bytes) out work (no-job-9 (take room bytes) (no-job (take room bytes) (front-full h)))))
-        (λ (h : length bytes < room). rw (take-all room bytes (omega arith)) f)
-        (le-or-lt room (length bytes))
+        rw (d .0, d .1, d .2) (damaged (take linkRoom bytes) out work (no-job-9 (take linkRoom bytes) (no-job (take linkRoom bytes) (front-full h)))))
+        (λ (h : length bytes < linkRoom). rw (take-all linkRoom bytes (omega arith)) f)
+        (le-or-lt linkRoom (length bytes))
 
 -- ---- begin and parts
 
@@ -70,7 +70,7 @@ kept-more (suc n) (x ∷ a) b = ap (λ (l : List ℕ). x ∷ l) (kept-more n a b
 -- a job is under way, and these are its bytes so far, of which as many have come as there is room for
 record Coming (bytes link : List ℕ) : Type 0 where
   taking : linkRefusal link ≡ 0
-  came : cameIn link ≡ take room bytes
+  came : cameIn link ≡ take linkRoom bytes
 
 module _ (link : List ℕ) (h : linkBytes ≤ length link) (r : Linked) (link′ : List ℕ) where
   begin-comes : LinkBeginSays link r link′ → (r ≡ Taken) × Coming [] link′
@@ -87,14 +87,14 @@ module _ (link bytes so-far : List ℕ) (r : Linked) (link′ : List ℕ) (c : C
   part-comes : LinkPartSays link bytes r link′ → (r ≡ Taken) × Coming (so-far ++ bytes) link′
   part-comes p =
       let z = c .taking in
-      let b : List ℕ = take room (cameIn link ++ bytes) in
-      let few : length b ≤ room = rw (length-take room (cameIn link ++ bytes)) (omega arith) in
+      let b : List ℕ = take linkRoom (cameIn link ++ bytes) in
+      let few : length b ≤ linkRoom = rw (length-take linkRoom (cameIn link ++ bytes)) (omega arith) in
       let h = open-long link z in
       let m : link′ ≡ underWay b ++ drop (length (underWay b)) link = rw z at (p .memory) in
-      let n : b ≡ take room (so-far ++ bytes) = ap (λ (l : List ℕ). take room (l ++ bytes)) (c .came) ∙ kept-more room so-far bytes in
+      let n : b ≡ take linkRoom (so-far ++ bytes) = ap (λ (l : List ℕ). take linkRoom (l ++ bytes)) (c .came) ∙ kept-more linkRoom so-far bytes in
       (rw z at (p .answer), record { taking = rw m (held-open b link few h); came = rw m (held-came b link few h) ∙ n })
 
-parts-come : (parts : List (List ℕ)) (link so-far : List ℕ) (outcomes : List Outcome) (link′ : List ℕ) → Coming so-far link → Calls link (map part parts) outcomes link′
+parts-come : (parts : List (List ℕ)) (link so-far : List ℕ) (outcomes : List CallOutcome) (link′ : List ℕ) → Coming so-far link → Calls link (map partOf parts) outcomes link′
     → (outcomes ≡ map taken parts) × Coming (so-far ++ flatten parts) link′
 unfolding flatten
 parts-come [] link so-far outcomes link′ c none = (refl, rw (append-nil so-far) c)
@@ -111,7 +111,7 @@ module _ (link : List ℕ) (h : linkBytes ≤ length link) (parts : List (List �
       let b = begin-comes link h (j .begun) (j .clean) (j .begins) in
       let p = parts-come parts (j .clean) [] (j .outcomes) (j .full) (b .1) (j .comes) in
       let c = p .1 in
-      let s : JobSays (take room (flatten parts)) out work r out′ work′ = rw (c .taking, c .came) at (j .ends .job) in
+      let s : JobSays (take linkRoom (flatten parts)) out work r out′ work′ = rw (c .taking, c .came) at (j .ends .job) in
       record { starts = b .0; takes = p .0; answers = room-says (flatten parts) out work r out′ work′ s }
 
 -- two cuttings of the same bytes, over any two memories
@@ -135,13 +135,13 @@ module _ (link : List ℕ) (e : hasEnded link ≡ true) where
       let s = rw k at (p .job) in
       (answered-one r (Answered·Refused 11) (same (s .answer)), rw k at (p .memory), s .output, s .workspace)
 
-all-refused : (calls : List Call) (link : List ℕ) (outcomes : List Outcome) (link′ : List ℕ) → hasEnded link ≡ true → Calls link calls outcomes link′ → (outcomes ≡ map refused11 calls) × (link′ ≡ link)
+all-refused : (calls : List Call) (link : List ℕ) (outcomes : List CallOutcome) (link′ : List ℕ) → hasEnded link ≡ true → Calls link calls outcomes link′ → (outcomes ≡ map refused11 calls) × (link′ ≡ link)
 all-refused [] link outcomes link′ e none = (refl, refl)
-all-refused (part bytes ∷ calls) link outcomes link′ e (part-then p cs) =
+all-refused (partOf bytes ∷ calls) link outcomes link′ e (part-then p cs) =
     let s = part-11 link e bytes _ _ p in
     let t = all-refused calls _ _ link′ (rw (s .1) e) cs in
     (rw (s .0, t .0), t .1 ∙ s .1)
-all-refused (end out work ∷ calls) link outcomes link′ e (end-then p cs) =
+all-refused (endWith out work ∷ calls) link outcomes link′ e (end-then p cs) =
     let s = end-11 link e out work _ _ _ _ p in
     let t = all-refused calls _ _ link′ (rw (s .1) e) cs in
     (rw (s .0, s .2, s .3, t .0), t .1 ∙ s .1)
@@ -160,7 +160,7 @@ module _ (link : List ℕ) (h : linkBytes ≤ length link) (out work : List ℕ)
   end-long = let e : length link′ ≡ length link = ap length (f .memory) ∙ written-long (linkRefusal link) idle link (omega (arith, bytes-length headBytes 0)) in omega arith
 
   -- calls after it, of parts and ends in any order
-  module _ (calls : List Call) (outcomes : List Outcome) (link₂ : List ℕ) (cs : Calls link′ calls outcomes link₂) where
+  module _ (calls : List Call) (outcomes : List CallOutcome) (link₂ : List ℕ) (cs : Calls link′ calls outcomes link₂) where
     -- each is refused with 11, and memory, output and work space are as they were
     pub link-after : (outcomes ≡ map refused11 calls) × (link₂ ≡ link′)
     link-after = all-refused calls link′ outcomes link₂ end-ends cs

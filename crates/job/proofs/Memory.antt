@@ -18,7 +18,7 @@ use Rattle.lists.proofs.Parts.{take-min}
 use Rattle.lists.proofs.Refusals.{or-none}
 use Rattle.lists.proofs.Regions.{lent-stored}
 use Rattle.duration.proofs.Refusals.{cond-none}
-use Rattle.job.specs.Link.{headBytes, room, linkBytes, idle, underWay, stageOf, hasEnded, cameIn, beginRefusal, linkRefusal}
+use Rattle.job.specs.Link.{headBytes, linkRoom, linkBytes, idle, underWay, stageOf, hasEnded, cameIn, beginRefusal, linkRefusal}
 use Rattle.job.proofs.Frames.{neither}
 
 -- ---- a memory with a job under way, in which a part and an end are taken
@@ -43,23 +43,23 @@ module _ (link : List ℕ) (z : linkRefusal link ≡ 0) where
   open-long = long-enough link (open-parts .1)
 
   -- the number is 1 to 16,401
-  pub open-stage : (0 < stageOf link) × (stageOf link ≤ room + 1)
+  pub open-stage : (0 < stageOf link) × (stageOf link ≤ linkRoom + 1)
   unfolding hasEnded
   open-stage =
-      let n = neither (eqb (stageOf link) 0) (ltb (room + 1) (stageOf link)) is-open in
+      let n = neither (eqb (stageOf link) 0) (ltb (linkRoom + 1) (stageOf link)) is-open in
       let p : stageOf link ≡ 0 → ⊥ = eqb-false (stageOf link) 0 (n .0) in
-      (omega arith, ltb-false (room + 1) (stageOf link) (n .1))
+      (omega arith, ltb-false (linkRoom + 1) (stageOf link) (n .1))
 
   pub came-long : length (cameIn link) ≡ stageOf link - 1
   unfolding cameIn
   came-long = length-take-le (stageOf link - 1) (drop headBytes link) (simp length-drop (omega (arith, open-stage .1, open-long)))
 
-  pub came-few : length (cameIn link) ≤ room
+  pub came-few : length (cameIn link) ≤ linkRoom
   came-few = omega (arith, came-long, open-stage .1)
 
 -- ---- a memory in which these bytes have come
 
-module _ (b link : List ℕ) (few : length b ≤ room) (long : linkBytes ≤ length link) where
+module _ (b link : List ℕ) (few : length b ≤ linkRoom) (long : linkBytes ≤ length link) where
   abbrev number : ℕ
   number = length b + 1
 
@@ -95,7 +95,7 @@ module _ (b link : List ℕ) (few : length b ≤ room) (long : linkBytes ≤ len
   held-open =
       let n : number ≡ 0 → ⊥ = λ e. omega arith in
       let g : linkBytes ≤ length held = omega (arith, held-long) in
-      rw (held-stage, ne-eqb number 0 n, le-ltb (room + 1) number (omega arith)) (is-long held g)
+      rw (held-stage, ne-eqb number 0 n, le-ltb (linkRoom + 1) number (omega arith)) (is-long held g)
 
 -- ---- a memory in which a job has ended
 
@@ -127,14 +127,14 @@ pub ended : (link : List ℕ) → linkBytes ≤ length link → sets link 0 idle
 ended link h = numbered 0 link h ∙ rw (bytes-length headBytes 0)
 
 -- a part of which more bytes have room behind those that came
-module _ (link bytes : List ℕ) (z : linkRefusal link ≡ 0) (came more : ℕ) (e : came ≡ stageOf link - 1) (f : more ≡ min (length bytes) (room - came)) where
+module _ (link bytes : List ℕ) (z : linkRefusal link ≡ 0) (came more : ℕ) (e : came ≡ stageOf link - 1) (f : more ≡ min (length bytes) (linkRoom - came)) where
   abbrev joined : List ℕ
-  joined = take room (cameIn link ++ bytes)
+  joined = take linkRoom (cameIn link ++ bytes)
 
   joined-is : joined ≡ cameIn link ++ take more bytes
   joined-is =
-      let n : room ≡ length (cameIn link) + (room - came) = omega (arith, came-long link z, came-few link z) in
-      ap (λ (k : ℕ). take k (cameIn link ++ bytes)) n ∙ take-append-add (cameIn link) bytes (room - came) ∙ ap (λ (l : List ℕ). cameIn link ++ l) (sym (take-min (room - came) bytes) ∙ ap (λ (k : ℕ). take k bytes) (min-comm (room - came) (length bytes) ∙ sym f))
+      let n : linkRoom ≡ length (cameIn link) + (linkRoom - came) = omega (arith, came-long link z, came-few link z) in
+      ap (λ (k : ℕ). take k (cameIn link ++ bytes)) n ∙ take-append-add (cameIn link) bytes (linkRoom - came) ∙ ap (λ (l : List ℕ). cameIn link ++ l) (sym (take-min (linkRoom - came) bytes) ∙ ap (λ (k : ℕ). take k bytes) (min-comm (linkRoom - came) (length bytes) ∙ sym f))
 
   more-long : length (take more bytes) ≡ more
   more-long = length-take-le more bytes (omega arith)

@@ -13,11 +13,11 @@ use Rattle.job.specs.Format.{lengthOf}
 abbrev pub headBytes : ℕ
 headBytes = 8
 
-abbrev pub room : ℕ
-room = lengthOf mostJobStates + 1
+abbrev pub linkRoom : ℕ
+linkRoom = lengthOf mostJobStates + 1
 
 abbrev pub linkBytes : ℕ
-linkBytes = headBytes + room
+linkBytes = headBytes + linkRoom
 
 -- RULES, Serial link: the number is 0 where no job is under way, else one more than that of the bytes that have come
 abbrev pub stage : Bool → ℕ → ℕ
@@ -37,7 +37,7 @@ stageOf link = little (take headBytes link)
 
 -- RULES, Serial link: 0, and also a number above 16,401, says that no job is under way
 unfoldable pub hasEnded : List ℕ → Bool
-hasEnded link = eqb (stageOf link) 0 || ltb (stage true room) (stageOf link)
+hasEnded link = eqb (stageOf link) 0 || ltb (stage true linkRoom) (stageOf link)
 
 -- the bytes that have come
 unfoldable pub cameIn : List ℕ → List ℕ

@@ -20,7 +20,7 @@ use Rattle.duration.specs.Promise.{workOf, refusalOfLists}
 use Rattle.job.specs.declared.Answered.the-variants.{Done, Refused}
 use Rattle.job.specs.declared.link.Linked.the-variants.{Taken, Refused as Linked·Refused}
 use Rattle.job.specs.Format.{floatsAt, formatRefusal}
-use Rattle.job.specs.Link.{room, linkBytes, idle, underWay, hasEnded, cameIn, beginRefusal, linkRefusal}
+use Rattle.job.specs.Link.{linkRoom, linkBytes, idle, underWay, hasEnded, cameIn, beginRefusal, linkRefusal}
 use Rattle.job.specs.LinkPromise.{LinkPartSays, LinkEndSays}
 use Rattle.job.specs.Linking.{none, part-then, taken, JobInParts}
 use Rattle.job.specs.Cases.{bytes, sevens, nines}
@@ -61,7 +61,7 @@ end-after-end = record { job = record { answer = refl; output = refl; workspace 
 
 -- RULES, Serial link: the numbers 1 and 16,401 are of a job that is under way, 0 and 16,402 of none
 abbrev numbered : ℕ → List ℕ
-numbered n = bytesOf 8 n ++ replicate room 0
+numbered n = bytesOf 8 n ++ replicate linkRoom 0
 
 pub numbers-under-way : (hasEnded (numbered 0) ≡ true) × (hasEnded (numbered 1) ≡ false) × (hasEnded (numbered 16401) ≡ false) × (hasEnded (numbered 16402) ≡ true)
 unfolding underWay hasEnded cameIn beginRefusal linkRefusal little bytesOf

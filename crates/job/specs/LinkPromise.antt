@@ -8,7 +8,7 @@ use Rattle.job.specs.declared.Answered.{Answered}
 use Rattle.job.specs.declared.link.Linked.{Linked}
 use Rattle.job.specs.declared.link.Linked.the-variants.{Taken, Refused}
 use Rattle.job.specs.Promise.{JobSaysAfter}
-use Rattle.job.specs.Link.{room, idle, underWay, cameIn, beginRefusal, linkRefusal}
+use Rattle.job.specs.Link.{linkRoom, idle, underWay, cameIn, beginRefusal, linkRefusal}
 
 -- RULES, Forms: the number of an answer of begin and part, which have no value
 abbrev pub linkedNumber : Linked → ℕ
@@ -28,7 +28,7 @@ pub record LinkBeginSays (link : List ℕ) (r : Linked) (link′ : List ℕ) : T
 -- RULES, Serial link: a part's bytes are put behind those that have come, as far as there is room
 pub record LinkPartSays (link bytes : List ℕ) (r : Linked) (link′ : List ℕ) : Type 0 where
   pub answer : r ≡ linkedOf (linkRefusal link)
-  pub memory : link′ ≡ written (linkRefusal link) (underWay (take room (cameIn link ++ bytes))) link
+  pub memory : link′ ≡ written (linkRefusal link) (underWay (take linkRoom (cameIn link ++ bytes))) link
 
 -- RULES, Serial link: at the end the job that has come is answered as a job file is, and no job is under way
 pub record LinkEndSays (link out work : List ℕ) (r : Answered) (link′ out′ work′ : List ℕ) : Type 0 where

@@ -2,7 +2,7 @@
 ghost use mathlib.Core.Path.{_≡_};
 ghost use Prim.Native.Nat.{_-_, _≤_};
 ghost use Rattle.job.specs.declared.link.Linked.the-variants.{Taken};
-ghost use Rattle.job.specs.Link.{room, stage, stageOf, hasEnded, beginRefusal, linkRefusal};
+ghost use Rattle.job.specs.Link.{linkRoom, stage, stageOf, hasEnded, beginRefusal, linkRefusal};
 ghost use Rattle.job.specs.LinkPromise.{linkedNumber, LinkBeginSays, LinkPartSays, LinkEndSays};
 use crate::Answered;
 
@@ -34,7 +34,7 @@ impl Linked {
 
 // The number that stands in front.
 fn stage(under_way: bool, came: usize) -> u64
-    requires { ⌜ came ≤ room ⌝ }
+    requires { ⌜ came ≤ linkRoom ⌝ }
     ensures { λ r. ⌜ r ≡ stage «under_way» came ⌝ }
 {
     if under_way {

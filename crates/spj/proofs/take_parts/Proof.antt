@@ -4,7 +4,7 @@ use Prim.Native.Nat.{_-_}
 use native.Mathlib.Omega.{arith}
 use borrow.Author.Needs.{needs}
 use lib.ListN.{length}
-use Rattle.job.specs.Link.{room}
+use Rattle.job.specs.Link.{linkRoom}
 use Rattle.spj.specs.Reading.{pieceBytes}
 use Rattle.spj.proofs.Reading.{within}
 use Rattle.spj.proofs.take_parts.Statement.{statement}
@@ -14,7 +14,7 @@ abbrev Inv-loop : tie.InvT-loop
 Inv-loop fd link₀ n₀ link n = length link ≡ length link₀
 
 abbrev μ-loop : tie.MeasureT-loop
-μ-loop fd link₀ n₀ link n = room - n
+μ-loop fd link₀ n₀ link n = linkRoom - n
 
 same-length : tie.Need-same-length Inv-loop μ-loop
 same-length c = c .before .before .before .before .take-part .kept .1 .0 ∙ c .before .before .before .before .before .before .before .loop .inv
