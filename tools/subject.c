@@ -14,6 +14,7 @@
 #define BYTES(name) const uint8_t *name, size_t n_##name
 #define OUT_DOUBLES(name) double *name, size_t n_##name
 #define OUT_WHOLES(name) uint32_t *name, size_t n_##name
+#define OUT_BYTES(name) uint8_t *name, size_t n_##name
 
 #pragma weak hejmirov_fit
 uint32_t hejmirov_fit(DOUBLES(means), DOUBLES(varis), double frame_length, OUT_WHOLES(out),
@@ -45,10 +46,21 @@ uint32_t hejmirov_excerpt(DOUBLES(trajectory), WHOLES(durations), uint32_t v, ui
 uint32_t hejmirov_job(BYTES(bytes), OUT_WHOLES(out), OUT_WHOLES(work), uint32_t *states,
                       uint32_t *frames, uint32_t *changes);
 
-enum { FIT = 3, SPEED, ALIGN, MASK, BAND, TRAJECTORY, PLACE, EXCERPT, JOB };
-enum { ANSWERED = 0, NO_SUCH_CALL = 3, STRAYED = 4 };
+#pragma weak hejmirov_link_begin
+uint32_t hejmirov_link_begin(OUT_BYTES(link));
+#pragma weak hejmirov_link_part
+uint32_t hejmirov_link_part(OUT_BYTES(link), BYTES(part));
+#pragma weak hejmirov_link_end
+uint32_t hejmirov_link_end(OUT_BYTES(link), OUT_WHOLES(out), OUT_WHOLES(work), uint32_t *states,
+                           uint32_t *frames, uint32_t *changes);
 
-/* Numbers behind each lent list that must stay as they are. */
+enum { FIT = 3, SPEED, ALIGN, MASK, BAND, TRAJECTORY, PLACE, EXCERPT, JOB, LINK };
+enum { ANSWERED = 0, NO_SUCH_CALL = 3, STRAYED = 4, PARTED = 5 };
+
+/* The calls on a link's memory, as a case names them. */
+enum { LINK_BEGIN, LINK_PART, LINK_END };
+
+/* Numbers on both sides of each lent list that must stay as they are. */
 enum { GUARD = 8 };
 
 /* At most this many lists of one case. */
@@ -58,17 +70,23 @@ static const uint8_t *cursor;
 static uint32_t case_number;
 
 typedef struct {
-    uint8_t *numbers; /* what the call is given, in memory of its own */
+    uint8_t *room; /* memory of its own */
+    uint8_t *numbers; /* what the call is given of it */
     const uint8_t *before; /* an input's numbers at entry; null for a marked list */
-    size_t first_marked; /* from here on the marks must stay */
+    size_t first_marked; /* from here on the marks must stay, and before the numbers */
     size_t count, size, element;
 } List;
 
 static List lists[MAX_LISTS];
 static size_t n_lists;
 
-static uint8_t *answer;
-static size_t answer_size, answer_room;
+typedef struct {
+    uint8_t *bytes;
+    size_t size, room;
+} Buffer;
+
+static uint8_t status;
+static Buffer answer;
 
 static void *room_for(size_t bytes) {
     void *memory = malloc(bytes ? bytes : 1);
@@ -96,31 +114,34 @@ static double take_f64(void) {
     return number;
 }
 
-static void put(const void *bytes, size_t size) {
-    if (answer_size + size > answer_room) {
-        answer_room = 2 * (answer_size + size);
-        answer = realloc(answer, answer_room);
-        if (!answer) exit(2);
+static void append(Buffer *buffer, const void *bytes, size_t size) {
+    if (buffer->size + size > buffer->room) {
+        buffer->room = 2 * (buffer->size + size);
+        buffer->bytes = realloc(buffer->bytes, buffer->room);
+        if (!buffer->bytes) exit(2);
     }
-    memcpy(answer + answer_size, bytes, size);
-    answer_size += size;
+    if (size) memcpy(buffer->bytes + buffer->size, bytes, size);
+    buffer->size += size;
 }
 
+static void put(const void *bytes, size_t size) { append(&answer, bytes, size); }
 static void put_u32(uint32_t number) { put(&number, sizeof number); }
 static void put_u64(uint64_t number) { put(&number, sizeof number); }
 
 /* An input list: its numbers are copied, so that they are aligned and can be compared at exit. */
-static List *input(size_t element) {
+static List *input_of(size_t element, size_t count) {
     List *list = &lists[n_lists++];
     list->element = element;
-    list->count = take_u32();
-    list->size = list->count * element;
+    list->count = count;
+    list->size = count * element;
     list->before = cursor;
-    list->numbers = room_for(list->size);
+    list->room = list->numbers = room_for(list->size);
     memcpy(list->numbers, cursor, list->size);
     cursor += list->size;
     return list;
 }
+
+static List *input(size_t element) { return input_of(element, take_u32()); }
 
 static void mark(uint8_t *number, size_t element, size_t place) {
     double marked = -1e6 - (double)place;
@@ -128,40 +149,61 @@ static void mark(uint8_t *number, size_t element, size_t place) {
     memcpy(number, element == sizeof marked ? (void *)&marked : (void *)&marked_whole, element);
 }
 
-/* A list of marked numbers with a guard behind them. */
-static List *marked(size_t element) {
+/* A list of marked numbers with a guard on both sides; the front one's marks go on from the other's. */
+static List *marked_of(size_t element, size_t count) {
     List *list = &lists[n_lists++];
     list->element = element;
-    list->count = take_u32();
-    list->size = list->count * element;
+    list->count = count;
+    list->size = count * element;
     list->before = NULL;
     list->first_marked = 0;
-    list->numbers = room_for(list->size + GUARD * element);
-    for (size_t place = 0; place < list->count + GUARD; place++)
+    list->room = room_for(list->size + 2 * GUARD * element);
+    list->numbers = list->room + GUARD * element;
+    for (size_t place = 0; place < count + GUARD; place++)
         mark(list->numbers + place * element, element, place);
+    for (size_t place = 0; place < GUARD; place++)
+        mark(list->room + place * element, element, count + GUARD + place);
     return list;
 }
 
+static List *marked(size_t element) { return marked_of(element, take_u32()); }
+
 /* A lent list: its own numbers may change, and are told whole. */
-static List *lent(size_t element) {
-    List *list = marked(element);
-    list->first_marked = list->count;
+static List *lent_of(size_t element, size_t count) {
+    List *list = marked_of(element, count);
+    list->first_marked = count;
     return list;
 }
+
+static List *lent(size_t element) { return lent_of(element, take_u32()); }
 
 /* A list of length 0 may come with a null pointer: every other case does. */
 static void *pointer(const List *list) {
     return list->count == 0 && case_number % 2 == 1 ? NULL : list->numbers;
 }
 
+static bool is_marked(const List *list, const uint8_t *number, size_t place) {
+    uint8_t expected[sizeof(double)];
+    mark(expected, list->element, place);
+    return memcmp(expected, number, list->element) == 0;
+}
+
 static bool stayed(const List *list) {
     if (list->before) return memcmp(list->numbers, list->before, list->size) == 0;
-    for (size_t place = list->first_marked; place < list->count + GUARD; place++) {
-        uint8_t number[sizeof(double)];
-        mark(number, list->element, place);
-        if (memcmp(number, list->numbers + place * list->element, list->element)) return false;
-    }
+    for (size_t place = list->first_marked; place < list->count + GUARD; place++)
+        if (!is_marked(list, list->numbers + place * list->element, place)) return false;
+    for (size_t place = 0; place < GUARD; place++)
+        if (!is_marked(list, list->room + place * list->element, list->count + GUARD + place))
+            return false;
     return true;
+}
+
+/* Looks at the lists from the given one on, and gives them back. */
+static void close_lists(size_t first) {
+    for (; n_lists > first; n_lists--) {
+        if (!stayed(&lists[n_lists - 1])) status = STRAYED;
+        free(lists[n_lists - 1].room);
+    }
 }
 
 static void put_list(const List *list) {
@@ -174,6 +216,7 @@ static void put_list(const List *list) {
 #define IN_B(list) (const uint8_t *)pointer(list), list->count
 #define OUT_D(list) (double *)pointer(list), list->count
 #define OUT_W(list) (uint32_t *)pointer(list), list->count
+#define OUT_B(list) (uint8_t *)pointer(list), list->count
 
 static const uint32_t untouched = 0xA5A5A5A5u;
 static const uint64_t untouched_long = 0xA5A5A5A5A5A5A5A5u;
@@ -268,6 +311,114 @@ static void run_job(void) {
     put_list(work);
 }
 
+/* What the ends of a case left: the values through pointers, and the lists joined. */
+typedef struct {
+    Buffer refusals, states, frames, changes, out, work;
+} Left;
+
+/* What a link was given since a begin that was taken. */
+typedef struct {
+    bool under_way;
+    Buffer joined;
+} Given;
+
+/* Whether hejmirov_job on the joined bytes answers as an end did, and leaves the same. */
+static bool same_as_job(const Given *given, uint32_t refusal, const uint32_t values[3],
+                        const List *out, const List *work) {
+    List *own_out = lent_of(4, out->count), *own_work = lent_of(4, work->count);
+    uint32_t own[3] = {untouched, untouched, untouched};
+    uint32_t answered = hejmirov_job(given->joined.bytes, given->joined.size, OUT_W(own_out),
+                                     OUT_W(own_work), &own[0], &own[1], &own[2]);
+    return answered == refusal && memcmp(own, values, sizeof own) == 0 &&
+           memcmp(own_out->numbers, out->numbers, out->size) == 0 &&
+           memcmp(own_work->numbers, work->numbers, work->size) == 0;
+}
+
+static uint32_t end_link(const List *link, Given *given, size_t n_out, size_t n_work, Left *left) {
+    List *out = lent_of(4, n_out), *work = lent_of(4, n_work);
+    uint32_t values[3] = {untouched, untouched, untouched};
+    uint32_t refusal = hejmirov_link_end(OUT_B(link), OUT_W(out), OUT_W(work), &values[0],
+                                         &values[1], &values[2]);
+    if (given->under_way && !same_as_job(given, refusal, values, out, work)) status = PARTED;
+    given->under_way = false;
+    append(&left->states, &values[0], sizeof values[0]);
+    append(&left->frames, &values[1], sizeof values[1]);
+    append(&left->changes, &values[2], sizeof values[2]);
+    append(&left->out, out->numbers, out->size);
+    append(&left->work, work->numbers, work->size);
+    return refusal;
+}
+
+static uint32_t part_of_link(const List *link, Given *given, size_t length) {
+    List *part = input_of(1, length);
+    uint32_t refusal = hejmirov_link_part(OUT_B(link), IN_B(part));
+    append(&given->joined, part->numbers, part->size);
+    return refusal;
+}
+
+static uint32_t begin_link(const List *link, Given *given) {
+    uint32_t refusal = hejmirov_link_begin(OUT_B(link));
+    given->under_way = refusal == 0;
+    given->joined.size = 0;
+    return refusal;
+}
+
+static void put_wholes(const Buffer *buffer) {
+    put_u32((uint32_t)(buffer->size / sizeof(uint32_t)));
+    put(buffer->bytes, buffer->size);
+}
+
+/* A list of the case that no call is given as it is. */
+typedef struct {
+    const uint8_t *items;
+    uint32_t count;
+} View;
+
+static View view(size_t element) {
+    uint32_t count = take_u32();
+    View list = {cursor, count};
+    cursor += count * element;
+    return list;
+}
+
+static uint32_t next_u32(View *list) {
+    uint32_t number;
+    memcpy(&number, list->items, sizeof number);
+    list->items += sizeof number;
+    return number;
+}
+
+static void run_link(void) {
+    View memory = view(1), calls = view(1), lengths = view(4), bytes = view(1), outs = view(4),
+         works = view(4);
+    List *link = lent_of(1, memory.count);
+    memcpy(link->numbers, memory.items, memory.count);
+    cursor = bytes.items; /* the parts are taken from here */
+    Given given = {0};
+    Left left = {0};
+    for (uint32_t i = 0; i < calls.count; i++) {
+        size_t own = n_lists;
+        uint32_t refusal = 0;
+        switch (calls.items[i]) {
+        case LINK_BEGIN: refusal = begin_link(link, &given); break;
+        case LINK_PART: refusal = part_of_link(link, &given, next_u32(&lengths)); break;
+        case LINK_END:
+            refusal = end_link(link, &given, next_u32(&outs), next_u32(&works), &left);
+            break;
+        }
+        append(&left.refusals, &refusal, sizeof refusal);
+        close_lists(own);
+    }
+    Buffer *told[] = {&left.refusals, &left.states, &left.frames,
+                      &left.changes,  &left.out,    &left.work};
+    for (size_t i = 0; i < sizeof told / sizeof *told; i++) {
+        put_wholes(told[i]);
+        free(told[i]->bytes);
+    }
+    put_list(link);
+    free(given.joined.bytes);
+}
+
 static bool there(uint8_t kind) {
     switch (kind) {
     case FIT: return hejmirov_fit;
@@ -279,6 +430,8 @@ static bool there(uint8_t kind) {
     case PLACE: return hejmirov_place;
     case EXCERPT: return hejmirov_excerpt;
     case JOB: return hejmirov_job;
+    case LINK:
+        return hejmirov_link_begin && hejmirov_link_part && hejmirov_link_end && hejmirov_job;
     default: return false;
     }
 }
@@ -294,26 +447,23 @@ static void run(uint8_t kind) {
     case PLACE: run_place(); break;
     case EXCERPT: run_excerpt(); break;
     case JOB: run_job(); break;
+    case LINK: run_link(); break;
     }
 }
 
 static void answer_case(const uint8_t *bytes) {
-    uint8_t kind = bytes[0], status = ANSWERED;
+    uint8_t kind = bytes[0];
     cursor = bytes + 2; /* the flags are the oracle's */
     n_lists = 0;
-    answer_size = 0;
+    answer.size = 0;
+    status = there(kind) ? ANSWERED : NO_SUCH_CALL;
     put(&status, 1);
-    if (there(kind))
-        run(kind);
-    else
-        answer[0] = NO_SUCH_CALL;
-    for (size_t i = 0; i < n_lists; i++) {
-        if (!stayed(&lists[i])) answer[0] = STRAYED;
-        free(lists[i].numbers);
-    }
-    uint32_t size = (uint32_t)answer_size;
+    if (status == ANSWERED) run(kind);
+    close_lists(0);
+    answer.bytes[0] = status;
+    uint32_t size = (uint32_t)answer.size;
     fwrite(&size, sizeof size, 1, stdout);
-    fwrite(answer, 1, answer_size, stdout);
+    fwrite(answer.bytes, 1, answer.size, stdout);
     fflush(stdout); /* a later case may end the process */
 }
 
@@ -322,8 +472,8 @@ static void print_kinds(void) {
                                   [ALIGN] = "align", [MASK] = "mask",
                                   [BAND] = "band",   [TRAJECTORY] = "trajectory",
                                   [PLACE] = "place", [EXCERPT] = "excerpt",
-                                  [JOB] = "job"};
-    for (uint8_t kind = FIT; kind <= JOB; kind++)
+                                  [JOB] = "job",     [LINK] = "link"};
+    for (uint8_t kind = FIT; kind <= LINK; kind++)
         if (there(kind)) puts(names[kind]);
 }
 

@@ -3,16 +3,22 @@
 import struct
 from collections import Counter
 from dataclasses import dataclass, field
+from itertools import groupby
 
 from . import reading
-from .domain import Judge, answered, asked, judge_of
+from .domain import Judge, answered, judge_of, oracle_answers
 from .formats import KINDS, Case, Fields, decode, encode, encode_case
-from .programs import ANSWERED, PANICKED, STRAYED, Program
+from .programs import ANSWERED, PANICKED, PARTED, STRAYED, Program
+from .reading import links
 from .reading.durations import TooLong
+
+# As many equal bytes are told one by one.
+LONG_RUN = 8
 
 FAILURES = {
     PANICKED: "panicked",
     STRAYED: "wrote outside the lent lists, or into an input",
+    PARTED: "an end is not hejmirov_job's answer on the joined bytes",
 }
 
 
@@ -50,7 +56,13 @@ def shown(value: object) -> str:
         return repr(value) if value == value else f"NaN {struct.pack('>d', value).hex()}"
     if isinstance(value, list):
         return f"[{', '.join(map(shown, value))}]"
-    return value.hex(" ") if isinstance(value, bytes) else str(value)
+    return shown_bytes(value) if isinstance(value, bytes) else str(value)
+
+
+def shown_bytes(data: bytes) -> str:
+    """In hexadecimal, a long run of the same byte as its length."""
+    runs = [(f"{byte:02x}", len(list(run))) for byte, run in groupby(data)]
+    return " ".join(f"{byte}*{count}" if count > LONG_RUN else " ".join([byte] * count) for byte, count in runs)
 
 
 @dataclass
@@ -59,11 +71,20 @@ class Tally:
 
     judged: Counter = field(default_factory=Counter)
     refusals: Counter = field(default_factory=Counter)
+    # Over links: jobs that came to their end, and calls that were refused.
+    jobs: int = 0
+    link_refusals: Counter = field(default_factory=Counter)
 
     def __str__(self) -> str:
-        refused = ", ".join(f"{number}: {count}" for number, count in sorted(self.refusals.items()))
         judged = ", ".join(f"{count} by {judge}" for judge, count in self.judged.items())
-        return f"{judged}; refused {refused or 'none'}"
+        line = f"{judged}; refused {numbered(self.refusals)}"
+        if self.jobs:
+            line += f"; {self.jobs} jobs over links, calls refused {numbered(self.link_refusals)}"
+        return line
+
+
+def numbered(refusals: Counter) -> str:
+    return ", ".join(f"{number}: {count}" for number, count in sorted(refusals.items())) or "none"
 
 
 # Each case's refusal number and values; None where the reading would take too long.
@@ -98,6 +119,10 @@ class Comparison:
                 self.tally.refusals[refusal] += 1
             elif judge_of(case) == Judge.READING:
                 self.tally.judged["the reading alone"] += 1
+            if case.kind == "link":
+                followed = links.followed(case)
+                self.tally.jobs += sum(end.ended for end in followed.ends)
+                self.tally.link_refusals.update(number for number in followed.refusals if number)
 
     def against_oracles(self, cases: list[Case], answers: Answers) -> list[Difference]:
         """Compares values; fills in the oracle's where the reading has none."""
@@ -110,15 +135,16 @@ class Comparison:
         found = []
         accepted = [place for place, (refusal, _) in enumerate(answers) if refusal == 0]
         places = [place for place in accepted if judge_of(cases[place]) == judge]
-        given = oracle.answers([encode_case(asked(cases[place]), False) for place in places])
-        for place, answer in zip(places, given):
+        for place, given in zip(places, oracle_answers(oracle, [cases[place] for place in places])):
             case, values = cases[place], answers[place][1]
             alone = values is None
-            self.tally.judged[f"{oracle.name} alone" if alone else f"the reading and {oracle.name}"] += 1
-            if answer is None or answer[0] != ANSWERED:
-                found.append(Difference(case, oracle.name, values, failure(answer)))
+            both = f"the reading and {oracle.name}" if given else "the reading alone"
+            self.tally.judged[f"{oracle.name} alone" if alone else both] += 1
+            failed = [answer for answer in given if answer is None or answer[0] != ANSWERED]
+            if failed:
+                found.append(Difference(case, oracle.name, values, failure(failed[0])))
                 continue
-            schema, got = KINDS[case.kind].values, answered(case, answer[1:])
+            schema, got = KINDS[case.kind].values, answered(case, [answer[1:] for answer in given])
             if alone:
                 answers[place] = 0, got
             elif encode(schema, got) != encode(schema, values):

@@ -3,7 +3,7 @@
 from collections.abc import Callable
 from random import Random
 
-from .formats import KINDS, ROOM, Case
+from .formats import KINDS, ROOM, Case, LinkCall, link_calls, link_case
 from .reading.ieee import MAX_FRAMES, NAN
 from .reading.refusals import MAX_STATES, MAX_V, MAX_WIDTH
 
@@ -118,6 +118,42 @@ def changed_bytes(rng: Random, case: Case) -> Case:
     return case.with_fields(bytes=bytes(data))
 
 
+def other_memory(rng: Random, case: Case) -> Case:
+    """A link's memory cut, longer, or with another byte in its number."""
+    memory = bytearray(case["memory"])
+    how = rng.randrange(3)
+    if how == 0:
+        del memory[rng.choice([0, 1, 7, 8, len(memory) - 1, len(memory) // 2]) :]
+    elif how == 1 or not memory:
+        memory += rng.randbytes(rng.choice([1, 8, 100]))
+    else:
+        memory[rng.randrange(min(len(memory), 8))] = rng.randrange(256)
+    return case.with_fields(memory=bytes(memory))
+
+
+def other_calls(rng: Random, case: Case) -> Case:
+    """A link's call left out, made twice, moved, or changed."""
+    calls = link_calls(case)
+    place, how = rng.randrange(len(calls)), rng.randrange(4)
+    if how == 0:
+        del calls[place]
+    elif how == 1:
+        calls.insert(place, calls[place])
+    elif how == 2:
+        calls.insert(rng.randrange(len(calls)), calls.pop(place))
+    else:
+        calls[place] = changed_call(rng, calls[place])
+    return link_case(case["memory"], calls)
+
+
+def changed_call(rng: Random, call: LinkCall) -> LinkCall:
+    """With one byte of its part changed, and less room."""
+    part = bytearray(call.part)
+    if part:
+        part[rng.randrange(len(part))] = rng.randrange(256)
+    return LinkCall(call.call, bytes(part), rng.randint(0, call.out), rng.randint(0, call.work))
+
+
 GENERAL: list[Damage] = [other_length, short_room, number_out_of_range]
 BY_KIND: dict[str, list[Damage]] = {
     "fit": [*GENERAL, too_many_states],
@@ -129,6 +165,7 @@ BY_KIND: dict[str, list[Damage]] = {
     "place": [number_out_of_range],
     "excerpt": [*GENERAL, too_many_states, too_many_frames, longer_trajectory],
     "job": [short_room, changed_bytes, changed_bytes],
+    "link": [other_memory, other_calls, other_calls],
 }
 
 

@@ -1,9 +1,12 @@
 """Which program judges an accepted case, and what the Rust is asked."""
 
+from collections.abc import Iterator
 from enum import Enum, auto
+from itertools import islice
 
-from .formats import KINDS, Case, Fields, decode
-from .reading import ieee, jobs
+from .formats import KINDS, Case, Fields, decode, encode_case
+from .programs import Program
+from .reading import ieee, jobs, links
 from .reading.refusals import band_frames
 
 
@@ -13,7 +16,7 @@ class Judge(Enum):
     READING = auto()  # the second reading alone
 
 
-BY_RUST = ("float", "pair", "record", "fit", "speed", "align", "mask", "band", "trajectory", "job")
+BY_RUST = ("float", "pair", "record", "fit", "speed", "align", "mask", "band", "trajectory", "job", "link")
 
 
 def drops_nothing(case: Case) -> bool:
@@ -38,19 +41,40 @@ def judge_of(case: Case) -> Judge:
     return Judge.RUST
 
 
-def asked(case: Case) -> Case:
-    """The accepted case as the Rust takes it: a job is a speed over its pairs, and NaNs are one."""
-    fields = case.fields
+def speed_of(job: bytes) -> Case:
+    """A job as the Rust takes it: a speed over its pairs."""
+    parsed = jobs.parse(job)
+    return Case("speed", {"means": parsed.means, "varis": parsed.varis, "speed": parsed.speed, "out": 0, "work": 0})
+
+
+def asked(case: Case) -> list[Case]:
+    """What the Rust is asked of an accepted case: mostly the case, of a link each accepted end; NaNs are one."""
     if case.kind == "job":
-        job = jobs.parse(case["bytes"])
-        fields = {"means": job.means, "varis": job.varis, "speed": job.speed, "out": 0, "work": 0}
-    return Case("speed" if case.kind == "job" else case.kind, ieee.one_nan(fields))
+        questions = [speed_of(case["bytes"])]
+    elif case.kind == "link":
+        questions = [speed_of(end.job["bytes"]) for end in links.followed(case).accepted()]
+    else:
+        questions = [case]
+    return [Case(question.kind, ieee.one_nan(question.fields)) for question in questions]
 
 
-def answered(case: Case, answer: bytes) -> Fields:
-    """The case's values, from the Rust's answer to what it was asked."""
-    if case.kind != "job":
-        return decode(KINDS[case.kind].values, answer)
+def oracle_answers(oracle: Program, cases: list[Case]) -> Iterator[list[bytes | None]]:
+    """The oracle's answers to all that it is asked of each case."""
+    questions = [[encode_case(question, False) for question in asked(case)] for case in cases]
+    given = iter(oracle.answers([question for asking in questions for question in asking]))
+    for asking in questions:
+        yield list(islice(given, len(asking)))
+
+
+def job_answered(answer: bytes) -> Fields:
     values = decode(KINDS["speed"].values, answer)
     durations = values["durations"]
     return {"states": len(durations), "frames": sum(durations), **values}
+
+
+def answered(case: Case, answers: list[bytes]) -> Fields:
+    """The case's values, from the Rust's answers to what it was asked."""
+    if case.kind == "link":
+        return links.joined([job_answered(answer) for answer in answers])
+    (answer,) = answers
+    return job_answered(answer) if case.kind == "job" else decode(KINDS[case.kind].values, answer)

@@ -3,7 +3,7 @@
 from dataclasses import dataclass
 
 IEEE, PAIRS, DURATIONS = "ieee.py", "pairs.py", "durations.py"
-TRAJECTORY, PLACES, JOBS = "trajectory.py", "places.py", "jobs.py"
+TRAJECTORY, PLACES, JOBS, LINKS = "trajectory.py", "places.py", "jobs.py", "links.py"
 REFUSALS, EXITS = "refusals.py", "exits.py"
 
 
@@ -157,6 +157,41 @@ FAULTS = [
     Fault("a job's means, then its variances", JOBS,
           "    return Job(speed, numbers[0::2], numbers[1::2])",
           "    return Job(speed, numbers[:count], numbers[count:])"),
+    Fault("a part of no bytes ends the job", LINKS,
+          "            self.keep(self.came() + data)",
+          '            self.keep(self.came() + data) if data else self.write(0, b"")'),
+    Fault("a part after the end is kept", LINKS,
+          "        number = self.refusal()", "        number = self.refusal() % JOB_ENDED"),
+    Fault("a part that does not fit passed over", LINKS,
+          "        kept = job[:KEPT]", "        kept = job if len(job) <= KEPT else self.came()"),
+    Fault("the surplus byte of a job that is too long dropped", LINKS,
+          "        kept = job[:KEPT]", "        kept = job[: KEPT - 1]"),
+    Fault("a job's bytes counted in 16 bits", LINKS,
+          "        kept = job[:KEPT]", "        kept = job[: len(job) % 2**16][:KEPT]"),
+    Fault("a link's number in 16 bits", LINKS,
+          '        return int.from_bytes(self.memory[:NUMBER], "little")',
+          '        return int.from_bytes(self.memory[:2], "little")'),
+    Fault("begin keeps the old count", LINKS,
+          '        self.write(1, b"")', '        self.write(self.number() or 1, b"")'),
+    Fault("begin clears a link's memory", LINKS,
+          '        self.write(1, b"")', "        self.write(1, bytes(KEPT))"),
+    Fault("a refused end is no end", LINKS,
+          '        self.write(0, b"")', '        self.write(self.number() if answer(job)[0] else 0, b"")'),
+    Fault("a second end answers again", LINKS, '        self.write(0, b"")', "        pass"),
+    Fault("6 before 11", LINKS,
+          "        checks = {JOB_ENDED: self.has_ended(), TOO_LITTLE_ROOM: self.is_short()}",
+          "        checks = {TOO_LITTLE_ROOM: self.is_short(), JOB_ENDED: self.has_ended()}"),
+    Fault("a memory of zeros as a job of no bytes", LINKS,
+          "        return self.number() == 0 or self.number() > KEPT + 1",
+          "        return self.number() > KEPT + 1"),
+    Fault("any number but 0 as a job under way", LINKS,
+          "        return self.number() == 0 or self.number() > KEPT + 1",
+          "        return self.number() == 0"),
+    Fault("a full memory as ended", LINKS,
+          "        return self.number() == 0 or self.number() > KEPT + 1",
+          "        return self.number() == 0 or self.number() > KEPT"),
+    Fault("a memory of a byte too few taken", LINKS,
+          "        return len(self.memory) < SIZE", "        return len(self.memory) < SIZE - 1"),
     Fault("the largest refusal that applies", REFUSALS,
           "    return next((number for number in sorted(checks) if checks[number]()), 0)",
           "    return next((number for number in sorted(checks, reverse=True) if checks[number]()), 0)"),

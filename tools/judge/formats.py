@@ -112,6 +112,16 @@ KINDS = {
         [("states", "u32"), ("frames", "u32"), ("changes", "u32"), ("durations", "u32s")],
         [REFUSAL, ("states", "u32"), ("frames", "u32"), ("changes", "u32"), *FIT_EXIT],
     ),
+    "link": Kind(
+        12,
+        # One call a byte of `calls`; the parts' lengths and joined bytes; each end's rooms.
+        [("memory", "u8s"), ("calls", "u8s"), ("lengths", "u32s"), ("bytes", "u8s"), *FIT_EXIT],
+        # Of the accepted ends.
+        [("states", "u32s"), ("frames", "u32s"), ("changes", "u32s"), ("durations", "u32s")],
+        # A refusal a call; of every end the values through pointers, and its lists joined.
+        [("refusals", "u32s"), ("states", "u32s"), ("frames", "u32s"), ("changes", "u32s")]
+        + [*FIT_EXIT, ("memory", "u8s")],
+    ),
 }
 
 
@@ -125,6 +135,46 @@ class Case:
 
     def with_fields(self, **fields: Any) -> "Case":
         return Case(self.kind, {**self.fields, **fields})
+
+
+# The calls on a link's memory, as a case names them.
+BEGIN, PART, END = range(3)
+
+
+@dataclass(frozen=True)
+class LinkCall:
+    call: int
+    part: bytes = b""  # of a part
+    out: int = 0  # of an end
+    work: int = 0
+
+
+def link_case(memory: bytes, calls: list[LinkCall]) -> Case:
+    parts = [one.part for one in calls if one.call == PART]
+    ends = [one for one in calls if one.call == END]
+    return Case("link", {
+        "memory": memory,
+        "calls": bytes(one.call for one in calls),
+        "lengths": [len(part) for part in parts],
+        "bytes": b"".join(parts),
+        "out": [end.out for end in ends],
+        "work": [end.work for end in ends],
+    })
+
+
+def link_calls(case: Case) -> list[LinkCall]:
+    calls, first, part, end = [], 0, 0, 0
+    for call in case["calls"]:
+        if call == PART:
+            last = first + case["lengths"][part]
+            calls.append(LinkCall(PART, part=case["bytes"][first:last]))
+            first, part = last, part + 1
+        elif call == END:
+            calls.append(LinkCall(END, out=case["out"][end], work=case["work"][end]))
+            end += 1
+        else:
+            calls.append(LinkCall(BEGIN))
+    return calls
 
 
 def encode(schema: Schema, fields: Fields) -> bytes:

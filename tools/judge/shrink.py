@@ -2,7 +2,7 @@
 
 from collections.abc import Callable, Iterator
 
-from .formats import KINDS, ROOM, Case
+from .formats import KINDS, PART, ROOM, Case, LinkCall, link_calls, link_case
 
 # Which lists hold one number a state, so that a state leaves them all at once.
 STATE_LISTS = ("means", "varis", "weights", "durations", "switches")
@@ -127,10 +127,50 @@ def simpler(number: float) -> list[float]:
     return SIMPLE + rounded
 
 
+# From these bytes on a part is made zeros: all of it, or what is behind a job's mark, count or speed.
+PLAIN_FROM = [0, 3, 7, 15]
+
+
+def fewer_calls(case: Case) -> Iterator[Case]:
+    """A link's calls without half of them, or without one."""
+    calls = link_calls(case)
+    for size in sorted({len(calls) // 2, 1} - {0}, reverse=True) if calls else ():
+        for first in range(0, len(calls), size):
+            yield link_case(case["memory"], without(calls, first, size))
+
+
+def smaller_calls(case: Case) -> Iterator[Case]:
+    """A link's calls with two parts joined, a part that is shorter or has more zeros, or less room."""
+    calls = link_calls(case)
+    for place, one in enumerate(calls):
+        shorter = [LinkCall(one.call, part=one.part[:size]) for size in smaller_wholes(len(one.part))]
+        shorter += [LinkCall(one.call, part=one.part[:size] + bytes(len(one.part) - size)) for size in PLAIN_FROM]
+        shorter += [LinkCall(one.call, out=out, work=one.work) for out in smaller_wholes(one.out)]
+        shorter += [LinkCall(one.call, out=one.out, work=work) for work in smaller_wholes(one.work)]
+        for less in shorter:
+            yield link_case(case["memory"], [*calls[:place], less, *calls[place + 1 :]])
+        if one.call == PART and place and calls[place - 1].call == PART:
+            joined = LinkCall(PART, part=calls[place - 1].part + one.part)
+            yield link_case(case["memory"], [*calls[: place - 1], joined, *calls[place + 1 :]])
+
+
+def plainer_memory(case: Case) -> Iterator[Case]:
+    """A link's memory of zeros, all of it or behind some of its bytes, or shorter."""
+    memory = case["memory"]
+    for kept in [0, *(1 << power for power in range(15))]:
+        yield case.with_fields(memory=memory[:kept] + bytes(len(memory) - kept))
+    for length in smaller_wholes(len(memory)):
+        yield case.with_fields(memory=memory[:length])
+
+
+GENERAL = (without_states, narrower, shorter_lists, smaller_numbers)
+BY_KIND = {"link": (fewer_calls, smaller_calls, plainer_memory)}
+
+
 def smallest(case: Case, shows: Callable[[list[Case]], list[bool]]) -> Case:
     """`shows` says of each candidate whether it still differs."""
     while True:
-        for make in (without_states, narrower, shorter_lists, smaller_numbers):
+        for make in BY_KIND.get(case.kind, GENERAL):
             candidates = [smaller for smaller in make(case) if smaller != case]
             better = next((one for one, does in zip(candidates, shows(candidates)) if does), None)
             if better is not None:

@@ -5,7 +5,7 @@ from random import Random
 
 from .. import damage
 from ..formats import Case
-from . import durations, operations, spool, trajectories
+from . import durations, links, operations, spool, trajectories
 from .common import with_odd_nan
 
 GENERATORS: dict[str, Callable[[Random, bool], Case]] = {
@@ -21,6 +21,7 @@ GENERATORS: dict[str, Callable[[Random, bool], Case]] = {
     "place": spool.place_case,
     "excerpt": spool.excerpt_case,
     "job": spool.job_case,
+    "link": links.a_link,
 }
 
 # Fits with many steps to take and many ties.

@@ -5,7 +5,7 @@
 """
 
 from ..formats import Case, Fields
-from . import durations, exits, ieee, jobs, pairs, places, refusals, trajectory
+from . import durations, exits, ieee, jobs, links, pairs, places, refusals, trajectory
 from .durations import Refused
 
 at_exit = exits.at_exit
@@ -23,6 +23,7 @@ ANSWERS = {
     "place": places.place_values,
     "excerpt": places.excerpt_values,
     "job": jobs.job_values,
+    "link": links.link_values,
 }
 
 

@@ -1,7 +1,9 @@
 """What each call leaves: the number, the values through pointers, and every lent number."""
 
+from collections.abc import Iterator
+
 from ..formats import KINDS, UNTOUCHED_U32, UNTOUCHED_U64, Case, Fields, marked_f64, marked_u32
-from . import jobs
+from . import jobs, links
 from .refusals import WORK_FLOATS, WORK_MARKS
 
 ZEROING_REFUSALS = (7, 8)
@@ -59,6 +61,27 @@ def trajectory_exit(case: Case, values: Fields) -> Fields:
     }
 
 
+def separate(values: Fields) -> Iterator[Fields]:
+    """Each job's values, of a link's."""
+    first = 0
+    for states, frames, changes in zip(values["states"], values["frames"], values["changes"]):
+        durations = values["durations"][first : first + states]
+        first += states
+        yield {"states": states, "frames": frames, "changes": changes, "durations": durations}
+
+
+def link_exit(case: Case, values: Fields) -> Fields:
+    """An end leaves what the call of its job file does."""
+    followed, accepted = links.followed(case), separate(values)
+    ends = [at_exit(end.job, end.refusal, next(accepted) if end.refusal == 0 else {}) for end in followed.ends]
+    return {
+        "refusals": followed.refusals,
+        **{name: [end[name] for end in ends] for name in ("states", "frames", "changes")},
+        **{name: [number for end in ends for number in end[name]] for name in ("out", "work")},
+        "memory": followed.memory,
+    }
+
+
 EXITS = {
     "fit": duration_exit,
     "speed": duration_exit,
@@ -74,6 +97,8 @@ EXITS = {
 
 def at_exit(case: Case, refusal: int, values: Fields) -> Fields:
     """All that a C call leaves, from its refusal number or its values."""
+    if case.kind == "link":
+        return link_exit(case, values)
     fields = untouched(case)
     if refusal == 0:
         fields |= EXITS[case.kind](case, values)
