@@ -1,8 +1,8 @@
 /* hejmirov.h: the calls of libhejmirov.a, the numeric core of a talking-book renderer.
  *
  * Every call answers 0, or the number of the first refusal that applies (enum hejmirov_refusal). It
- * ends on any numbers and any lengths, allocates nothing, keeps nothing between calls, and may run
- * in any number of threads at once.
+ * ends on any numbers and any lengths, allocates nothing, keeps nothing between calls but in memory
+ * that it is lent, and may run in any number of threads at once.
  *
  * Lists. A list is a pointer and, right after it, how many items it has. A list of 0 items may come
  * with a null pointer. A list that is only read is `const`. A list that is written must not overlap
@@ -52,6 +52,7 @@ extern "C" {
 #define HEJMIROV_BYTES_A_NUMBER 8       /* bytes of one number in the spool */
 #define HEJMIROV_JOB_HEAD_BYTES 15      /* bytes of a job file before its first state */
 #define HEJMIROV_JOB_STATE_BYTES 16     /* bytes of each of its states */
+#define HEJMIROV_LINK_BYTES 16408       /* bytes of a link's memory: a job that comes in parts */
 
 /* An end that is open, for hejmirov_align: any number below 0, and NaN, says the same. */
 #define HEJMIROV_OPEN_END (-1.0)
@@ -64,11 +65,12 @@ enum hejmirov_refusal {
     HEJMIROV_BAD_SIZE = 3,          /* too many states, or states a label or v out of range */
     HEJMIROV_LISTS_DISAGREE = 4,    /* list lengths disagree */
     HEJMIROV_TOO_MANY_FRAMES = 5,   /* given durations total above 65,536 */
-    HEJMIROV_TOO_LITTLE_ROOM = 6,   /* output or work space too short */
+    HEJMIROV_TOO_LITTLE_ROOM = 6,   /* output, work space or a link's memory too short */
     HEJMIROV_TARGET_TOO_LONG = 7,   /* a rounded target length above 65,536 */
     HEJMIROV_ESTIMATE_TOO_LONG = 8, /* an estimate's or an alignment's total above 65,536 */
     HEJMIROV_JOB_DAMAGED = 9,       /* job file damaged */
-    HEJMIROV_NO_SUCH_PLACE = 10     /* no such frame, component or state */
+    HEJMIROV_NO_SUCH_PLACE = 10,    /* no such frame, component or state */
+    HEJMIROV_JOB_ENDED = 11         /* a part or an end of a job that has ended */
 };
 
 /* One line for a log. */
@@ -80,11 +82,12 @@ static inline const char *hejmirov_refusal_text(uint32_t refusal) {
     case HEJMIROV_BAD_SIZE: return "too many states, or states a label or v out of range";
     case HEJMIROV_LISTS_DISAGREE: return "list lengths disagree";
     case HEJMIROV_TOO_MANY_FRAMES: return "given durations total above 65,536";
-    case HEJMIROV_TOO_LITTLE_ROOM: return "output or work space too short";
+    case HEJMIROV_TOO_LITTLE_ROOM: return "output, work space or a link's memory too short";
     case HEJMIROV_TARGET_TOO_LONG: return "a rounded target length above 65,536";
     case HEJMIROV_ESTIMATE_TOO_LONG: return "an estimate's or an alignment's total above 65,536";
     case HEJMIROV_JOB_DAMAGED: return "job file damaged";
     case HEJMIROV_NO_SUCH_PLACE: return "no such frame, component or state";
+    case HEJMIROV_JOB_ENDED: return "a part or an end of a job that has ended";
     default: return "a refusal that this header doesn't know";
     }
 }
@@ -313,6 +316,65 @@ uint32_t hejmirov_job(const uint8_t *bytes, size_t n_bytes,
                       uint32_t *states,
                       uint32_t *frames,
                       uint32_t *changes);
+
+/* Serial link: a job that comes a few bytes at a time. Begin, its parts in order, end; however it
+ * is cut, the end answers what hejmirov_job answers on the joined bytes.
+ *
+ * What has come stands in the link's memory: HEJMIROV_LINK_BYTES bytes, lent to each call and in
+ * between left as they are. They may be kept anywhere, copied and moved, have no alignment, and
+ * need no giving back. Calls on one memory follow each other; calls on others may run at once.
+ *
+ * Every content of that memory has a meaning. Its first eight bytes are a number, the least byte
+ * first. From 1 to 16,401 it says that a job is under way: one byte less has come, and these bytes
+ * stand behind the number. Any other number, 0 too, says that no job is under way: the last one has
+ * ended. So memory in which nothing was begun, all zeros for instance, has ended.
+ */
+
+/* Begins a job. One that is under way is forgotten.
+ *
+ *   link           a link's memory, of any content; afterwards a job is under way of which nothing
+ *                  has come; all but its first eight bytes are as they were
+ *
+ * Refused with 6: n_link below HEJMIROV_LINK_BYTES. The memory is then as it was.
+ */
+uint32_t hejmirov_link_begin(uint8_t *link, size_t n_link);
+
+/* Takes the next part of the job that is under way.
+ *
+ *   link           a link's memory; afterwards the part's bytes stand behind those that have come
+ *   part           any number of bytes, 0 too, cut anywhere
+ *
+ * Of a job that is longer than the longest that there is, 16,399 bytes, one byte more is kept and
+ * counted and no others, so that any number may come: its end is refused with 9.
+ *
+ * Refused with 11, before all others: no job is under way. 6: n_link below HEJMIROV_LINK_BYTES. The
+ * memory is then as it was.
+ */
+uint32_t hejmirov_link_part(uint8_t *link, size_t n_link,
+                            const uint8_t *part, size_t n_part);
+
+/* Ends the job that is under way, and answers it: the durations of its states, at its speed.
+ *
+ *   link           a link's memory; afterwards no job is under way, also where the job is refused
+ *                  with 9, 6, 7 or 8; all but the first eight bytes are as they were
+ *   out            afterwards the n durations, each at least 1; n is the job's number of states, at
+ *                  most HEJMIROV_MAX_JOB_STATES
+ *   work           n numbers; afterwards n zeros
+ *   states         afterwards n
+ *   frames         afterwards the durations' total
+ *   changes        afterwards the changes of hejmirov_speed
+ *
+ * It needs about 16 KiB of stack.
+ *
+ * Refused with 11, before all others: no job is under way. 6: n_link below HEJMIROV_LINK_BYTES. The
+ * memory is then as it was. Then as hejmirov_job: 9, 6, 7, 8; the job has then ended.
+ */
+uint32_t hejmirov_link_end(uint8_t *link, size_t n_link,
+                           uint32_t *out, size_t n_out,
+                           uint32_t *work, size_t n_work,
+                           uint32_t *states,
+                           uint32_t *frames,
+                           uint32_t *changes);
 
 #ifdef __cplusplus
 }

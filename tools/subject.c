@@ -149,7 +149,7 @@ static void mark(uint8_t *number, size_t element, size_t place) {
     memcpy(number, element == sizeof marked ? (void *)&marked : (void *)&marked_whole, element);
 }
 
-/* A list of marked numbers with a guard on both sides; the front one's marks go on from the other's. */
+/* A list of marked numbers with a guard on both sides; the marks of the front one come last. */
 static List *marked_of(size_t element, size_t count) {
     List *list = &lists[n_lists++];
     list->element = element;

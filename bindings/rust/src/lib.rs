@@ -4,6 +4,7 @@
 //! |---|---|
 //! | [`fit`], [`speed`], [`align`] | states' durations in frames: to a length, at a speed, to labels' ends |
 //! | [`job`] | the same from a job file's bytes |
+//! | [`Link`] | the same from a job that comes in parts |
 //! | [`mask`] | which frames are voiced, and how far each is from the ends of its run |
 //! | [`band_rows`] | the equations of one component, before they are solved |
 //! | [`Stream::trajectory`] | a stream's numbers, frame after frame |
@@ -11,13 +12,14 @@
 //!
 //! Each call that writes lists has two forms: one that owns what it allocates, output and work
 //! space, and one ending in `_into` that takes the caller's and allocates nothing. Both answer the
-//! same.
+//! same. So do a [`Link`], which owns its memory, and [`link_begin`], [`link_part`] and
+//! [`link_end_into`], which take the caller's.
 //!
 //! No call panics, whatever its numbers and lengths; what the library doesn't take is a
 //! [`Refusal`]. After a refusal every output is as it was. Any `f64` is taken; a NaN that is handed
-//! out has the bits 0x7FF8000000000000. The calls keep nothing between them, and threads may make
-//! them at once. The answers are exact, to the bit, as long as nothing in the program makes the
-//! processor flush subnormal numbers to zero.
+//! out has the bits 0x7FF8000000000000. The calls keep nothing between them but what a link's memory
+//! holds, and threads may make them at once. The answers are exact, to the bit, as long as nothing in
+//! the program makes the processor flush subnormal numbers to zero.
 //!
 //! # Linking
 //!
@@ -26,6 +28,7 @@
 //! x86-64 Linux and needs nothing but the C library's `memset`.
 
 mod durations;
+mod link;
 mod refusal;
 mod spool;
 mod sys;
@@ -34,6 +37,7 @@ mod trajectory;
 pub use durations::{
     Aligned, Answered, Fitted, align, align_into, fit, fit_into, job, job_into, speed, speed_into,
 };
+pub use link::{Link, link_begin, link_end_into, link_part};
 pub use refusal::Refusal;
 pub use spool::{excerpt, excerpt_range, place};
 pub use trajectory::{
@@ -66,6 +70,8 @@ pub const BYTES_A_NUMBER: usize = 8;
 pub const JOB_HEAD_BYTES: usize = 15;
 /// Bytes of each state of a job file.
 pub const JOB_STATE_BYTES: usize = 16;
+/// Bytes of a link's memory: a job that comes in parts.
+pub const LINK_BYTES: usize = 16408;
 
 /// An end that is open, for [`align`]; any number below 0, and NaN, says the same.
 pub const OPEN_END: f64 = -1.0;

@@ -4,8 +4,8 @@ use std::error::Error;
 use std::fmt;
 
 /// Why a call refused: the first of these that applies, in the order of their numbers
-/// ([`JobDamaged`](Refusal::JobDamaged) before all others; between the two that are too long the
-/// work's order decides).
+/// ([`JobEnded`](Refusal::JobEnded) and then [`JobDamaged`](Refusal::JobDamaged) before all others;
+/// between the two that are too long the work's order decides).
 ///
 /// Every call's outputs are then as they were.
 ///
@@ -30,7 +30,7 @@ pub enum Refusal {
     ListsDisagree,
     /// 5: given durations total above 65,536.
     TooManyFrames,
-    /// 6: output or work space too short; only where the caller lends them.
+    /// 6: output, work space or a link's memory too short; only where the caller lends them.
     TooLittleRoom,
     /// 7: a rounded target length above 65,536.
     TargetTooLong,
@@ -40,6 +40,8 @@ pub enum Refusal {
     JobDamaged,
     /// 10: no such frame, component or state.
     NoSuchPlace,
+    /// 11: a part or an end of a job that has ended.
+    JobEnded,
     /// A number that these bindings don't know, of a newer library.
     Unknown(u32),
 }
@@ -59,6 +61,7 @@ impl Refusal {
             Refusal::EstimateTooLong => 8,
             Refusal::JobDamaged => 9,
             Refusal::NoSuchPlace => 10,
+            Refusal::JobEnded => 11,
             Refusal::Unknown(number) => number,
         }
     }
@@ -75,6 +78,7 @@ impl Refusal {
             8 => Refusal::EstimateTooLong,
             9 => Refusal::JobDamaged,
             10 => Refusal::NoSuchPlace,
+            11 => Refusal::JobEnded,
             other => Refusal::Unknown(other),
         }
     }
@@ -86,11 +90,12 @@ impl Refusal {
             Refusal::BadSize => "too many states, or states a label or v out of range",
             Refusal::ListsDisagree => "list lengths disagree",
             Refusal::TooManyFrames => "given durations total above 65,536",
-            Refusal::TooLittleRoom => "output or work space too short",
+            Refusal::TooLittleRoom => "output, work space or a link's memory too short",
             Refusal::TargetTooLong => "a rounded target length above 65,536",
             Refusal::EstimateTooLong => "an estimate's or an alignment's total above 65,536",
             Refusal::JobDamaged => "job file damaged",
             Refusal::NoSuchPlace => "no such frame, component or state",
+            Refusal::JobEnded => "a part or an end of a job that has ended",
             Refusal::Unknown(_) => "a refusal that these bindings don't know",
         }
     }
@@ -122,6 +127,7 @@ mod tests {
             assert_eq!(Refusal::of(number).number(), number);
         }
         assert_eq!(Refusal::or(0, "values"), Ok("values"));
-        assert_eq!(Refusal::or(11, ()), Err(Refusal::Unknown(11)));
+        assert_eq!(Refusal::or(11, ()), Err(Refusal::JobEnded));
+        assert_eq!(Refusal::or(12, ()), Err(Refusal::Unknown(12)));
     }
 }

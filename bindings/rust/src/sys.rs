@@ -124,4 +124,20 @@ unsafe extern "C" {
         frames: *mut u32,
         changes: *mut u32,
     ) -> u32;
+
+    pub fn hejmirov_link_begin(link: *mut u8, n_link: usize) -> u32;
+
+    pub fn hejmirov_link_part(link: *mut u8, n_link: usize, part: *const u8, n_part: usize) -> u32;
+
+    pub fn hejmirov_link_end(
+        link: *mut u8,
+        n_link: usize,
+        out: *mut u32,
+        n_out: usize,
+        work: *mut u32,
+        n_work: usize,
+        states: *mut u32,
+        frames: *mut u32,
+        changes: *mut u32,
+    ) -> u32;
 }

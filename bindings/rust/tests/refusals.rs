@@ -3,9 +3,9 @@
 #![allow(clippy::float_cmp)] // what is promised is exact
 
 use hejmirov::{
-    Aligned, Fitted, GlobalVariance, JOB_STATE_BYTES, MAX_FRAMES, MAX_JOB_STATES, MAX_NSTATE,
-    MAX_STATES, MAX_V, MAX_WIDTH, MAX_WINDOWS, OPEN_END, Refusal, Stream, WORK_FLOATS_A_FRAME,
-    WORK_MARKS_A_FRAME, Windows,
+    Aligned, Fitted, GlobalVariance, JOB_STATE_BYTES, LINK_BYTES, Link, MAX_FRAMES, MAX_JOB_STATES,
+    MAX_NSTATE, MAX_STATES, MAX_V, MAX_WIDTH, MAX_WINDOWS, OPEN_END, Refusal, Stream,
+    WORK_FLOATS_A_FRAME, WORK_MARKS_A_FRAME, Windows,
 };
 
 const MEANS: [f64; 2] = [2.0, 3.0];
@@ -261,13 +261,17 @@ fn label(nstate: usize) -> Result<Fitted, Refusal> {
     )
 }
 
-/// A job of so many states of one frame each.
-fn job(states: usize) -> Result<u64, Refusal> {
+/// The file of a job of so many states of one frame each.
+fn job_of(states: usize) -> Vec<u8> {
     let mut bytes = b"SPJ\x01\0".to_vec();
     bytes.extend(u16::try_from(states).unwrap().to_le_bytes());
     bytes.extend(1.0_f64.to_le_bytes());
     bytes.resize(bytes.len() + states * JOB_STATE_BYTES, 0);
-    hejmirov::job(&bytes).map(|fitted| fitted.frames())
+    bytes
+}
+
+fn job(states: usize) -> Result<u64, Refusal> {
+    hejmirov::job(&job_of(states)).map(|fitted| fitted.frames())
 }
 
 #[test]
@@ -302,6 +306,95 @@ fn limits_are_the_last_accepted() {
 
     assert_eq!(job(MAX_JOB_STATES), Ok(MAX_JOB_STATES as u64));
     assert_eq!(job(MAX_JOB_STATES + 1), Err(Refusal::JobDamaged));
+}
+
+#[test]
+fn a_link_that_has_ended_takes_nothing_but_begin() {
+    let job = job_of(2);
+    let (mut out, mut work) = ([7; 2], [7; 1]);
+    let mut memory = vec![0xff; LINK_BYTES + 1];
+    for (part, expected) in [
+        (&job[..], Err(Refusal::TooLittleRoom)), // a refused end is an end
+        (b"SPJ", Err(Refusal::JobDamaged)),
+        (&job_of(0), Ok(0)),
+    ] {
+        hejmirov::link_begin(&mut memory).unwrap();
+        hejmirov::link_part(&mut memory, part).unwrap();
+        let ended = hejmirov::link_end_into(&mut memory, &mut out, &mut work);
+        assert_eq!(ended.map(|answered| answered.states), expected);
+        let left = memory.clone();
+        assert_eq!(
+            hejmirov::link_part(&mut memory, &[]),
+            Err(Refusal::JobEnded)
+        );
+        assert_eq!(
+            hejmirov::link_part(&mut memory, &job),
+            Err(Refusal::JobEnded)
+        );
+        let again = hejmirov::link_end_into(&mut memory, &mut out, &mut work);
+        assert_eq!(again, Err(Refusal::JobEnded));
+        assert_eq!((&left, out, work), (&memory, [7; 2], [7; 1]));
+    }
+    assert_eq!(memory[..8], [0; 8]);
+    assert_eq!(memory[LINK_BYTES], 0xff);
+}
+
+#[test]
+fn memory_in_which_nothing_was_begun() {
+    for byte in [0, 0x01, 0xff] {
+        let mut memory = vec![byte; LINK_BYTES];
+        let refused = hejmirov::link_part(&mut memory, b"SPJ");
+        assert_eq!(refused, Err(Refusal::JobEnded));
+        assert!(memory.iter().all(|&left| left == byte));
+    }
+    // A number in front says that a job is under way, of one byte less.
+    let mut memory = vec![0; LINK_BYTES];
+    memory[..11].copy_from_slice(b"\x04\0\0\0\0\0\0\0SPJ");
+    hejmirov::link_part(&mut memory, &job_of(1)[3..]).unwrap();
+    let (mut out, mut work) = ([0; 1], [0; 1]);
+    let ended = hejmirov::link_end_into(&mut memory, &mut out, &mut work);
+    assert_eq!((ended.unwrap().frames, out), (1, [1]));
+}
+
+#[test]
+fn a_memory_that_is_too_short() {
+    let (mut out, mut work) = ([7; 1], [7; 1]);
+    for (first, expected) in [(0, Refusal::JobEnded), (1, Refusal::TooLittleRoom)] {
+        for bytes in [1, 8, LINK_BYTES - 1] {
+            let mut memory = vec![0; bytes];
+            memory[0] = first;
+            let left = memory.clone();
+            assert_eq!(
+                hejmirov::link_begin(&mut memory),
+                Err(Refusal::TooLittleRoom)
+            );
+            assert_eq!(hejmirov::link_part(&mut memory, b"SPJ"), Err(expected));
+            let ended = hejmirov::link_end_into(&mut memory, &mut out, &mut work);
+            assert_eq!((ended, &left), (Err(expected), &memory));
+        }
+    }
+    assert_eq!(hejmirov::link_begin(&mut []), Err(Refusal::TooLittleRoom));
+    assert_eq!(hejmirov::link_part(&mut [], b"SPJ"), Err(Refusal::JobEnded));
+}
+
+#[test]
+fn more_bytes_than_any_job_has() {
+    let largest = job_of(MAX_JOB_STATES);
+    let mut link = Link::default();
+    for part in largest.chunks(1_000) {
+        link.part(part).unwrap();
+    }
+    let ended = link.clone().end().unwrap();
+    assert_eq!(ended.durations, [1; MAX_JOB_STATES]);
+    for surplus in [1, 2, 16, 70_000] {
+        let mut longer = link.clone();
+        longer.part(&vec![0; surplus]).unwrap();
+        longer.part(&largest).unwrap();
+        assert_eq!(longer.end(), Err(Refusal::JobDamaged));
+        longer.begin();
+        longer.part(&largest).unwrap();
+        assert_eq!(longer.end(), Ok(ended.clone()));
+    }
 }
 
 #[test]

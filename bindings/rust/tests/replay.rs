@@ -8,7 +8,7 @@ use std::fs;
 use std::path::Path;
 use std::vec::IntoIter;
 
-use hejmirov::{GlobalVariance, Stream, Windows};
+use hejmirov::{Fitted, GlobalVariance, Link, Stream, Windows};
 
 /// The bytes that are left of the file.
 struct File {
@@ -139,10 +139,25 @@ fn alignments() {
     });
 }
 
+/// A job that comes in parts of so many bytes, with one of none before each.
+fn over(link: &mut Link, job: &[u8], bytes: usize) -> Fitted {
+    link.begin();
+    for part in job.chunks(bytes) {
+        link.part(&[]).unwrap();
+        link.part(part).unwrap();
+    }
+    link.end().unwrap()
+}
+
 #[test]
 fn jobs() {
+    let mut link = Link::new();
     replay(11, 4, |stored| {
-        let fitted = hejmirov::job(&stored.u8s()).unwrap();
+        let job = stored.u8s();
+        let fitted = hejmirov::job(&job).unwrap();
+        for bytes in [1, 2, 15, job.len()] {
+            assert_eq!(over(&mut link, &job, bytes), fitted);
+        }
         let (states, frames) = (fitted.durations.len(), fitted.frames());
         (states, frames, fitted.changes, fitted.durations)
             == (

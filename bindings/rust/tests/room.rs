@@ -1,7 +1,7 @@
 //! The forms that own their memory never lack room, whatever lengths and sizes they are given; and
 //! what is asked of a value is answered, whatever its fields are.
 
-use hejmirov::{Fitted, Refusal, Stream, Trajectory, Windows};
+use hejmirov::{Fitted, Link, Refusal, Stream, Trajectory, Windows};
 
 /// Whole numbers from a seed: splitmix64.
 struct Seed(u64);
@@ -35,6 +35,7 @@ fn has_room<T>(answer: Result<T, Refusal>) {
 #[test]
 fn durations() {
     let mut seed = Seed(1);
+    let mut link = Link::new();
     for _ in 0..2_000 {
         let numbers = seed.sizes().into_iter().map(f64::from).collect::<Vec<_>>();
         let length = f64::from(seed.size());
@@ -45,6 +46,9 @@ fn durations() {
         job.extend(u16::try_from(seed.below(5)).unwrap().to_le_bytes());
         job.resize(15 + 16 * usize::try_from(seed.below(5)).unwrap(), 1);
         has_room(hejmirov::job(&job));
+        link.begin();
+        has_room(link.part(&job));
+        has_room(link.end());
     }
 }
 
