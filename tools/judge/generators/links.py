@@ -23,7 +23,7 @@ BYTE_BY_BYTE = 80
 def a_job(rng: Random, small: bool) -> Case:
     """Good or damaged, with room or with too little."""
     shape = rng.random()
-    job = largest(rng) if shape < 0.02 else job_case(rng, small)
+    job = largest(rng) if shape < 0.02 else job_case(rng, small or rng.random() < 0.97)
     if shape < 0.04:
         return of_another_length(rng, job)
     if shape < 0.12:

@@ -1,9 +1,10 @@
 """RULES, Serial link: what a link's memory says, and what begin, part and end make of it."""
 
+from collections.abc import Iterator
 from dataclasses import dataclass
 from functools import lru_cache
 
-from ..formats import BEGIN, PART, Case, Fields, LinkCall, link_calls
+from ..formats import BEGIN, PART, Case, Fields
 from . import jobs, refusals
 from .durations import Refused, TooLong
 
@@ -25,15 +26,17 @@ class Link:
 
     def has_ended(self) -> bool:
         """No job is under way: the number is 0, or more than one of a job."""
-        return self.number() == 0 or self.number() > KEPT + 1
+        number = self.number()
+        return number == 0 or number > KEPT + 1
 
     def is_short(self) -> bool:
         return len(self.memory) < SIZE
 
     def refusal(self) -> int:
         """Of a part or an end, 0 for none."""
-        checks = {JOB_ENDED: self.has_ended(), TOO_LITTLE_ROOM: self.is_short()}
-        return next((number for number, applies in checks.items() if applies), 0)
+        if self.has_ended():
+            return JOB_ENDED
+        return TOO_LITTLE_ROOM if self.is_short() else 0
 
     def came(self) -> bytes:
         """The bytes of the job that is under way."""
@@ -105,21 +108,31 @@ class Followed:
 
 def followed(case: Case) -> Followed:
     """The case's calls, one after the other."""
-    return follow(case["memory"], tuple(link_calls(case)))
+    lists = (tuple(case[name]) for name in ("lengths", "out", "work"))
+    return follow(case["memory"], case["calls"], case["bytes"], *lists)
 
 
-@lru_cache(maxsize=1_000)  # it is asked of the same case in many places
-def follow(memory: bytes, calls: tuple[LinkCall, ...]) -> Followed:
+@lru_cache(maxsize=1_000)  # it is asked of a case in several places
+def follow(memory: bytes, calls: bytes, data: bytes, lengths: tuple, out: tuple, work: tuple) -> Followed:
     link, numbers, ends = Link(bytearray(memory)), [], []
-    for one in calls:
-        if one.call == BEGIN:
+    parts, rooms = split(data, lengths), zip(out, work)
+    for call in calls:
+        if call == BEGIN:
             numbers.append(link.begin())
-        elif one.call == PART:
-            numbers.append(link.part(one.part))
+        elif call == PART:
+            numbers.append(link.part(next(parts)))
         else:
-            ends.append(link.end(one.out, one.work))
+            ends.append(link.end(*next(rooms)))
             numbers.append(ends[-1].refusal)
     return Followed(numbers, ends, bytes(link.memory))
+
+
+def split(data: bytes, lengths: tuple) -> Iterator[bytes]:
+    """The parts that stand joined."""
+    first = 0
+    for length in lengths:
+        yield data[first : first + length]
+        first += length
 
 
 def joined(answers: list[Fields]) -> Fields:
