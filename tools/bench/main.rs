@@ -2,6 +2,7 @@
 //! runs; both answers are compared before they are timed.
 
 mod durations;
+mod links;
 mod trajectories;
 
 use std::time::{Duration, Instant};
@@ -60,7 +61,7 @@ pub fn row(what: &str, rust: Duration, ours: Duration) {
     println!("| {what} | {} | {} | {ratio:.1} |", shown(rust), shown(ours));
 }
 
-fn shown(time: Duration) -> String {
+pub fn shown(time: Duration) -> String {
     let nanoseconds = time.as_nanos() as f64;
     match nanoseconds {
         n if n < 1e4 => format!("{n:.0} ns"),
@@ -69,25 +70,28 @@ fn shown(time: Duration) -> String {
     }
 }
 
-type Group = (&'static str, fn());
+/// A group's name, its columns, and what prints its rows.
+type Group = (&'static str, &'static str, fn());
 
-const GROUPS: [Group; 4] = [
-    ("durations", durations::run),
-    ("trajectories", trajectories::run),
-    ("growth", trajectories::growth),
-    ("largest", trajectories::largest),
+const BOTH: &str = "Rust | Hejmirov | times as fast";
+const GROUPS: [Group; 5] = [
+    ("durations", BOTH, durations::run),
+    ("trajectories", BOTH, trajectories::run),
+    ("growth", BOTH, trajectories::growth),
+    ("largest", BOTH, trajectories::largest),
+    ("links", "as a file | over a link | of that a part", links::run),
 ];
 
 fn main() {
     let asked: Vec<String> = std::env::args().skip(1).collect();
-    if let Some(unknown) = asked.iter().find(|name| GROUPS.iter().all(|(group, _)| group != name)) {
-        let known: Vec<&str> = GROUPS.iter().map(|(group, _)| *group).collect();
+    if let Some(unknown) = asked.iter().find(|name| GROUPS.iter().all(|(group, ..)| group != name)) {
+        let known: Vec<&str> = GROUPS.iter().map(|(group, ..)| *group).collect();
         eprintln!("bench: no group {unknown}; there are {}", known.join(", "));
         std::process::exit(2);
     }
-    for (name, run) in GROUPS {
+    for (name, columns, run) in GROUPS {
         if asked.is_empty() || asked.iter().any(|one| one == name) {
-            println!("| {name} | Rust | Hejmirov | times as fast |\n|---|---|---|---|");
+            println!("| {name} | {columns} |\n|---|---|---|---|");
             run();
             println!();
         }
