@@ -77,6 +77,8 @@ def bad_windows(rng: Random, case: Case) -> Case:
     if not taps:
         return case
     taps[rng.randrange(len(taps))] = rng.choice([float("inf"), -float("inf"), NAN])
+    if rng.random() < 0.2:
+        taps = [*case["coefficients"], NAN]  # behind those that the widths count
     return case.with_fields(coefficients=taps)
 
 
