@@ -71,15 +71,16 @@ class Tally:
 
     judged: Counter = field(default_factory=Counter)
     refusals: Counter = field(default_factory=Counter)
-    # Over links: jobs that came to their end, and calls that were refused.
+    # Over links: jobs that came to their end, those of them that were accepted, and calls that were refused.
     jobs: int = 0
+    accepted: int = 0
     link_refusals: Counter = field(default_factory=Counter)
 
     def __str__(self) -> str:
         judged = ", ".join(f"{count} by {judge}" for judge, count in self.judged.items())
         line = f"{judged}; refused {numbered(self.refusals)}"
         if self.jobs:
-            line += f"; {self.jobs} jobs over links, calls refused {numbered(self.link_refusals)}"
+            line += f"; over links {self.jobs} jobs, {self.accepted} accepted, calls refused {numbered(self.link_refusals)}"
         return line
 
 
@@ -122,6 +123,7 @@ class Comparison:
             if case.kind == "link":
                 followed = links.followed(case)
                 self.tally.jobs += sum(end.ended for end in followed.ends)
+                self.tally.accepted += len(followed.accepted())
                 self.tally.link_refusals.update(number for number in followed.refusals if number)
 
     def against_oracles(self, cases: list[Case], answers: Answers) -> list[Difference]:
