@@ -136,13 +136,16 @@ def other_memory(rng: Random, case: Case) -> Case:
 def other_calls(rng: Random, case: Case) -> Case:
     """A link's call left out, made twice, moved, or changed."""
     calls = link_calls(case)
+    if not calls:
+        return case
     place, how = rng.randrange(len(calls)), rng.randrange(4)
     if how == 0:
         del calls[place]
     elif how == 1:
         calls.insert(place, calls[place])
     elif how == 2:
-        calls.insert(rng.randrange(len(calls)), calls.pop(place))
+        moved = calls.pop(place)
+        calls.insert(rng.randint(0, len(calls)), moved)
     else:
         calls[place] = changed_call(rng, calls[place])
     return link_case(case["memory"], calls)
