@@ -2,7 +2,7 @@
 
 from collections.abc import Callable, Iterator
 
-from .formats import KINDS, PART, ROOM, Case, LinkCall, link_calls, link_case
+from .formats import END, KINDS, PART, ROOM, Case, LinkCall, link_calls, link_case
 
 # Which lists hold one number a state, so that a state leaves them all at once.
 STATE_LISTS = ("means", "varis", "weights", "durations", "switches")
@@ -139,26 +139,32 @@ def fewer_calls(case: Case) -> Iterator[Case]:
             yield link_case(case["memory"], without(calls, first, size))
 
 
+def smaller_call(one: LinkCall) -> Iterator[LinkCall]:
+    """A part that is shorter or has more zeros, an end with less room."""
+    if one.call == PART:
+        yield from (LinkCall(PART, part=one.part[:size]) for size in smaller_wholes(len(one.part)))
+        yield from (LinkCall(PART, part=one.part[:size].ljust(len(one.part), b"\0")) for size in PLAIN_FROM)
+    if one.call == END:
+        yield from (LinkCall(END, out=out, work=one.work) for out in smaller_wholes(one.out))
+        yield from (LinkCall(END, out=one.out, work=work) for work in smaller_wholes(one.work))
+
+
 def smaller_calls(case: Case) -> Iterator[Case]:
-    """A link's calls with two parts joined, a part that is shorter or has more zeros, or less room."""
-    calls = link_calls(case)
+    """A link's calls with one that is smaller, or with two parts joined."""
+    memory, calls = case["memory"], link_calls(case)
     for place, one in enumerate(calls):
-        shorter = [LinkCall(one.call, part=one.part[:size]) for size in smaller_wholes(len(one.part))]
-        shorter += [LinkCall(one.call, part=one.part[:size] + bytes(len(one.part) - size)) for size in PLAIN_FROM]
-        shorter += [LinkCall(one.call, out=out, work=one.work) for out in smaller_wholes(one.out)]
-        shorter += [LinkCall(one.call, out=one.out, work=work) for work in smaller_wholes(one.work)]
-        for less in shorter:
-            yield link_case(case["memory"], [*calls[:place], less, *calls[place + 1 :]])
+        for less in smaller_call(one):
+            yield link_case(memory, [*calls[:place], less, *calls[place + 1 :]])
         if one.call == PART and place and calls[place - 1].call == PART:
             joined = LinkCall(PART, part=calls[place - 1].part + one.part)
-            yield link_case(case["memory"], [*calls[: place - 1], joined, *calls[place + 1 :]])
+            yield link_case(memory, [*calls[: place - 1], joined, *calls[place + 1 :]])
 
 
 def plainer_memory(case: Case) -> Iterator[Case]:
     """A link's memory of zeros, all of it or behind some of its bytes, or shorter."""
     memory = case["memory"]
     for kept in [0, *(1 << power for power in range(15))]:
-        yield case.with_fields(memory=memory[:kept] + bytes(len(memory) - kept))
+        yield case.with_fields(memory=memory[:kept].ljust(len(memory), b"\0"))
     for length in smaller_wholes(len(memory)):
         yield case.with_fields(memory=memory[:length])
 
