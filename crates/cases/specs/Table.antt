@@ -44,7 +44,7 @@ pub record Table : Type 0 where
   pub case-7-one : SpeedSays two-three one-one (number 1) sevens nines (fit.Done 0) (2 ∷ 3 ∷ 7 ∷ []) cleared
   pub case-7-two : SpeedSays two-three one-one (number 2) sevens nines (fit.Done 0) (1 ∷ 2 ∷ 7 ∷ []) cleared
   pub case-8 : AlignSays two-three one-one 1 (unset ∷ number 8 ∷ []) sevens nines (align.Done 2 1) (3 ∷ 5 ∷ 7 ∷ []) cleared
-  pub case-9-open : AlignSays two-three one-one 1 (number 4 ∷ unset ∷ []) sevens nines (align.Done 1 0) (4 ∷ 7 ∷ 7 ∷ []) cleared
+  pub case-9-open : AlignSays two-three one-one 1 (number 4 ∷ unset ∷ []) sevens nines (align.Done 2 0) (4 ∷ 3 ∷ 7 ∷ []) cleared
   pub case-9-given : AlignSays two-three one-one 1 (halves 3 ∷ threePointFour ∷ []) sevens nines (align.Done 2 0) (2 ∷ 1 ∷ 7 ∷ []) cleared
   -- (1.25, 0, -0.25), (1, 0, 0), (1.25, 0, 0)
   pub case-10-rows : map (toBits binary64) (matrix (recordSize 1 2 false) records (bits 0) (1 ∷ 1 ∷ 1 ∷ []) 1 (1 ∷ 3 ∷ []) coefficients 0)

@@ -1,28 +1,31 @@
--- A loop over labels that closes their groups.
+-- A loop over labels that closes their groups, and the tail behind it.
 use mathlib.Core.Path.{_≡_, refl, sym, ap, _∙_}
 use mathlib.Core.List.{List, [], _∷_, _++_, append-assoc, append-nil}
 use Prim.Native.Nat.{ℕ, suc, _+_, _-_, _*_, _≤_, _<_, zero-le}
-use native.Mathlib.Nat.{add-zero, zero-add, sub-zero, suc-mul, mul-one, mul-le-mul-left}
+use native.Mathlib.Nat.{zero-add, sub-zero, zero-mul, suc-mul, mul-one, mul-le-mul-left}
 use native.Mathlib.Numerals.{add-one}
 use native.Mathlib.Omega.{arith}
 use lib.Dec.{ltb}
 use lib.ListN.{length, take, drop, getD, length-append, length-drop, drop-of-length-le}
-use lib.Seq.{take-at, length-take-le, drop-cons}
+use lib.Seq.{take-at, take-length, length-take-le, drop-cons}
 use lib.Ieee.{Float, nan}
 use borrow.Author.Tests.{ltb-false}
 use Rattle.lists.specs.Sizes.{mostFrames}
 use Rattle.lists.specs.Totals.{total}
-use Rattle.duration.specs.declared.Aligned.the-variants as align
+use Rattle.duration.specs.declared.Fitted.{Fitted}
+use Rattle.duration.specs.declared.Fitted.the-variants as fit
 use Rattle.duration.specs.declared.align.End.{End}
 use Rattle.duration.specs.declared.align.End.the-variants.{At, Open}
 use Rattle.duration.specs.declared.align.Label.{Label}
 use Rattle.duration.specs.declared.align.Closed.{Closed}
 use Rattle.duration.specs.declared.align.Closed.the-variants as close
-use Rattle.steps.specs.Steps.{Outcome, unchanged}
-use Rattle.duration.specs.Fit.{refusalTo}
+use Rattle.steps.specs.Steps.{Outcome}
+use Rattle.duration.specs.Estimate.{naturals}
 use Rattle.lists.specs.Refusals.{orElse}
-use Rattle.duration.specs.Align.{labelOf, Group, closing, groups, within, targetOf, fitOf, fitAlong, refusalOf, refusalAlong}
-use Rattle.duration.specs.Inner.Asked.{Lies, closed, Closes, Labelled, AtFront}
+use Rattle.duration.specs.Align.{labelOf, Group, given, closing, tail, groups, within, targetOf, fitOf, fitAlong, refusalToEnd, refusalOf, refusalAlong}
+use Rattle.lists.specs.Answers.{Answer}
+use Rattle.duration.specs.Promise.{fitted}
+use Rattle.duration.specs.Inner.Asked.{InPlace, Lies, closed, grown, Closes, Labelled}
 use Rattle.lists.proofs.Answers.{refusing, refused, refused-is, accepted-is}
 use Rattle.duration.proofs.Refusals.{cond-none}
 use Rattle.lists.proofs.Refusals.{or-first, or-none}
@@ -50,6 +53,13 @@ module _ (ms vs : List Float) (k : ℕ) (ends : List Float) where
   abbrev left : ℕ → ℕ → ℕ → List Group
   left done first i = groups k done first (drop i ends)
 
+  -- the refusal and the outcome of all groups
+  abbrev refusal : ℕ
+  refusal = refusalAlong ms vs (groups k 0 0 ends) 0
+
+  abbrev outcome : Outcome
+  outcome = fitAlong ms vs (groups k 0 0 ends) 0
+
   -- i labels are passed: the states before `done` are closed, and the next label's first state is at `first`
   pub record Along (start work : List ℕ) (done first frames changes i : ℕ) : Type 0 where
     pub passed : i ≤ length ends
@@ -58,8 +68,8 @@ module _ (ms vs : List Float) (k : ℕ) (ends : List Float) where
     pub few : frames ≤ mostFrames
     pub little : changes ≤ i * mostFrames
     pub long : length work ≡ length start
-    pub outcome : joined (take done work) changes (fitAlong ms vs (left done first i) frames) ≡ fitAlong ms vs (groups k 0 0 ends) 0
-    pub refusal : refusalAlong ms vs (left done first i) frames ≡ refusalAlong ms vs (groups k 0 0 ends) 0
+    pub so-far : joined (take done work) changes (fitAlong ms vs (left done first i) frames) ≡ outcome
+    pub refused : refusalAlong ms vs (left done first i) frames ≡ refusal
 
   pub along : (start : List ℕ) → Labelled ms vs k ends start → Along start start 0 0 0 0 0
   along start l =
@@ -70,20 +80,91 @@ module _ (ms vs : List Float) (k : ℕ) (ends : List Float) where
         few = zero-le;
         little = zero-le;
         long = refl;
-        outcome = ap (λ (n : ℕ). record { durations = fitAlong ms vs (groups k 0 0 ends) 0 .durations; changes = n }) (zero-add (fitAlong ms vs (groups k 0 0 ends) 0 .changes));
-        refusal = refl;
+        so-far = ap (λ (n : ℕ). record { durations = outcome .durations; changes = n }) (zero-add (outcome .changes));
+        refused = refl;
       }
 
   module _ (start work : List ℕ) (done first frames changes i : ℕ) (l : Labelled ms vs k ends start) (a : Along start work done first frames changes i) where
-    pub along-done : length ends ≤ i → AtFront (refusalAlong ms vs (groups k 0 0 ends) 0) (fitAlong ms vs (groups k 0 0 ends) 0) (align.Done done changes) work
-    unfolding groups fitAlong refusalAlong
-    along-done h =
-        let d : drop i ends ≡ [] = drop-of-length-le ends h in
-        let r : refusalAlong ms vs (groups k 0 0 ends) 0 ≡ 0 = sym (a .refusal) ∙ ap (λ (es : List Float). refusalAlong ms vs (groups k done first es) frames) d in
-        let o : fitAlong ms vs (groups k 0 0 ends) 0 ≡ joined (take done work) changes (unchanged []) = sym (a .outcome) ∙ ap (λ (es : List Float). joined (take done work) changes (fitAlong ms vs (groups k done first es) frames)) d in
-        let w : done ≤ length work = omega (arith, a .order, a .place, a .long, l .lists .workspace) in
-        let n : length (take done work ++ []) ≡ done = ap length (append-nil (take done work)) ∙ length-take-le done work w in
-        record { answer = rw (r, o, n, add-zero changes); output = λ q. rw (o, n) (sym (append-nil (take done work))) }
+    -- a group that begins where the closed states end
+    pub lies : (to : ℕ) (end : End) → done ≤ to → to ≤ length ms → Lies ms vs work (record { from = done; to = to; end = end }) frames
+    lies to end o h = record { lists = record { few = l .lists .few; varis = l .lists .varis; workspace = a .long ∙ l .lists .workspace }; order = o; inside = h; few = a .few }
+
+    -- such a group is the first of those that are left, and was closed with these values
+    module _ (to : ℕ) (end : End) (later : List Group) (p : left done first i ≡ record { from = done; to = to; end = end } ∷ later)
+        (value : ℕ) (values : List ℕ) (answer : Answer) (work′ : List ℕ) (f : Closes ms vs (record { from = done; to = to; end = end }) frames work (value ∷ values) answer work′) where
+      abbrev group : Group
+      group = record { from = done; to = to; end = end }
+
+      abbrev durations : List ℕ
+      durations = fitOf ms vs group frames .durations
+
+      abbrev more : ℕ
+      more = fitOf ms vs group frames .changes
+
+      group-refused : (n : ℕ) → answer ≡ refusing n → (w : List ℕ) → InPlace refusal outcome (fit.Refused n) w
+      unfolding refusalAlong
+      group-refused n e w =
+          let s = refused-is n (refusalOf ms vs group frames) value values (sym e ∙ f .answer) in
+          let y : refusal ≡ n = sym (a .refused) ∙ ap (λ (gs : List Group). refusalAlong ms vs gs frames) p ∙ or-first (refusalOf ms vs group frames) _ (s .1) ∙ s .0 in
+          let z : refusal ≡ 0 → ⊥ = λ v. s .1 (s .0 ∙ sym y ∙ v) in
+          record { answer = ap refusing (sym y) ∙ refused refusal _ z; output = λ v. absurd (z v) }
+
+      -- it was accepted
+      module _ (z : refusalOf ms vs group frames ≡ 0) where
+        frames-few : frames + total durations ≤ mostFrames
+        unfolding refusalOf
+        frames-few = ltb-false mostFrames (frames + total durations) (cond-none (ltb mostFrames (frames + total durations)) 7 0 (or-none (refusalToEnd (within group ms) (within group vs) frames end) _ z .1) .0)
+
+        -- the durations before it and its own, and those of the groups after it
+        so-far-is : joined (take done work ++ durations) (changes + more) (fitAlong ms vs later (frames + total durations)) ≡ outcome
+        unfolding fitAlong
+        so-far-is =
+            sym (joined-two (take done work) changes durations more (fitAlong ms vs later (frames + total durations)))
+            ∙ ap (λ (gs : List Group). joined (take done work) changes (fitAlong ms vs gs frames)) (sym p) ∙ a .so-far
+
+        refused-later : refusalAlong ms vs later (frames + total durations) ≡ refusal
+        unfolding refusalAlong
+        refused-later =
+            sym (ap (λ (n : ℕ). orElse n (refusalAlong ms vs later (frames + total durations))) z)
+            ∙ ap (λ (gs : List Group). refusalAlong ms vs gs frames) (sym p) ∙ a .refused
+
+        front : length work′ ≡ length work → done ≤ to → to ≤ length work → take to work′ ≡ take done work ++ durations
+        front n o h =
+            let w : work′ ≡ take done work ++ (durations ++ drop to work) = f .output z in
+            let lw : length work′ ≡ length (take done work) + (length durations + length (drop to work)) = ap length w ∙ length-append (take done work) (durations ++ drop to work) ∙ ap (λ (n : ℕ). length (take done work) + n) (length-append durations (drop to work)) in
+            let j : length (take done work) ≡ done = length-take-le done work (omega arith) in
+            let v : length (take done work ++ durations) ≡ to = length-append (take done work) durations ∙ (let m : length (take done work) + length durations ≡ to = omega (arith, length-drop to work) in m) in
+            ap (take to) (w ∙ sym (append-assoc (take done work) durations (drop to work))) ∙ take-at (take done work ++ durations) (drop to work) to v
+
+    -- all labels are passed, and the tail is left
+    module _ (h : length ends ≤ i) where
+      pub all-passed : first ≡ length ms
+      all-passed = let q : length ends - i ≡ 0 = omega arith in let p : (length ends - i) * k ≡ 0 = ap (λ (n : ℕ). n * k) q ∙ zero-mul k in omega (arith, a .place)
+
+      the-tail : left done first i ≡ tail done first ∷ []
+      unfolding groups
+      the-tail = ap (λ (es : List Float). groups k done first es) (drop-of-length-le ends h)
+
+      module _ (work′ : List ℕ) (n : length work′ ≡ length work) where
+        tail-done : (c : ℕ) → Closes ms vs (tail done first) frames work (changes ∷ []) (fitted (fit.Done c)) work′ → InPlace refusal outcome (fit.Done c) work′
+        unfolding fitAlong refusalAlong
+        tail-done c f =
+            let q = accepted-is (fitted (fit.Done c)) (refusalOf ms vs (tail done first) frames) (changes ∷ []) (f .answer) refl in
+            let v : c ∷ [] ≡ changes ∷ [] = q .1 in
+            let e : c ≡ changes = cc in
+            let o = so-far-is first Open [] the-tail changes [] (fitted (fit.Done c)) work′ f (q .0) in
+            let sum : outcome .changes ≡ c = sym (ap (λ (x : Outcome). x .changes) o) ∙ (let m : changes + 0 + 0 ≡ c = omega arith in m) in
+            let y : refusal ≡ 0 = sym (refused-later first Open [] the-tail changes [] (fitted (fit.Done c)) work′ f (q .0)) in
+            let whole : first ≡ length work = omega (arith, all-passed, a .long, l .lists .workspace) in
+            let w = front first Open [] the-tail changes [] (fitted (fit.Done c)) work′ f (q .0) n (a .order) (omega arith) in
+            record {
+              answer = rw (y, sum);
+              output = λ q. sym (take-length work′) ∙ ap (λ (m : ℕ). take m work′) (n ∙ sym whole) ∙ w ∙ sym (append-nil _) ∙ ap (λ (x : Outcome). x .durations) o;
+            }
+
+        pub along-done : (r : Fitted) → Closes ms vs (tail done first) frames work (changes ∷ []) (fitted r) work′ → InPlace refusal outcome r work′
+        along-done (fit.Done c) f = tail-done c f
+        along-done (fit.Refused m) f = group-refused first Open [] the-tail changes [] (fitted (fit.Refused m)) work′ f m refl work′
 
     module _ (h : i < length ends) (label : Label) (e : label ≡ labelOf first (getD ends i nan)) where
       next : label .first + k ≡ first + k
@@ -111,77 +192,55 @@ module _ (ms vs : List Float) (k : ℕ) (ends : List Float) where
             few = a .few;
             little = omega (arith, a .little);
             long = a .long;
-            outcome = ap (λ (gs : List Group). joined (take done work) changes (fitAlong ms vs gs frames)) (sym (here Open q)) ∙ a .outcome;
-            refusal = ap (λ (gs : List Group). refusalAlong ms vs gs frames) (sym (here Open q)) ∙ a .refusal;
+            so-far = ap (λ (gs : List Group). joined (take done work) changes (fitAlong ms vs gs frames)) (sym (here Open q)) ∙ a .so-far;
+            refused = ap (λ (gs : List Group). refusalAlong ms vs gs frames) (sym (here Open q)) ∙ a .refused;
           }
 
       module _ (end : Float) (q : label .end ≡ At end) where
-        abbrev group : Group
-        group = record { from = done; to = label .first + k; end = end }
+        pub group-lies : Lies ms vs work (given done (label .first + k) end) frames
+        group-lies = lies (label .first + k) (At end) (omega (arith, next, a .order)) (omega (arith, room))
 
-        pub group-lies : Lies ms vs work group frames
-        group-lies =
-            record {
-              lists = record { few = l .lists .few; varis = l .lists .varis; workspace = a .long ∙ l .lists .workspace };
-              order = omega (arith, next, a .order);
-              inside = omega (arith, room);
-              few = a .few;
-            }
-
-        module _ (r : Closed) (work′ : List ℕ) (f : Closes ms vs group frames work r work′) where
+        module _ (r : Closed) (work′ : List ℕ) (f : Closes ms vs (given done (label .first + k) end) frames work (grown ms vs (given done (label .first + k) end) frames) (closed r) work′) where
           abbrev later : List Group
           later = left (label .first + k) (label .first + k) (i + 1)
 
-          along-refused : (m n : ℕ) → r ≡ close.Refused m → n ≡ closed r .number → (w : List ℕ) → AtFront (refusalAlong ms vs (groups k 0 0 ends) 0) (fitAlong ms vs (groups k 0 0 ends) 0) (align.Refused n) w
-          unfolding refusalAlong
-          along-refused m n b p w =
-              let s = refused-is m (refusalOf ms vs group frames) _ _ (ap closed (sym b) ∙ f .answer) in
-              let y : refusalAlong ms vs (groups k 0 0 ends) 0 ≡ n =
-              sym (a .refusal) ∙ ap (λ (gs : List Group). refusalAlong ms vs gs frames) (here (At end) q) ∙ or-first (refusalOf ms vs group frames) _ (s .1) ∙ s .0 ∙ sym (p ∙ ap (λ (x : Closed). closed x .number) b) in
-              let z : refusalAlong ms vs (groups k 0 0 ends) 0 ≡ 0 → ⊥ = λ v. s .1 (s .0 ∙ sym (p ∙ ap (λ (x : Closed). closed x .number) b) ∙ sym y ∙ v) in
-              record { answer = ap refusing (sym y) ∙ refused (refusalAlong ms vs (groups k 0 0 ends) 0) _ z; output = λ v. absurd (z v) }
+          along-refused : (m n : ℕ) → r ≡ close.Refused m → n ≡ closed r .number → (w : List ℕ) → InPlace refusal outcome (fit.Refused n) w
+          along-refused m n b e w = group-refused (label .first + k) (At end) later (here (At end) q) _ _ (closed r) work′ f n (ap closed b ∙ ap refusing (sym (e ∙ ap (λ (x : Closed). closed x .number) b))) w
 
           module _ (c s : ℕ) (b : r ≡ close.Grown c s) where
-            grown : (refusalOf ms vs group frames ≡ 0) × (closed (close.Grown c s) .values ≡ fitOf ms vs group frames .changes ∷ total (fitOf ms vs group frames .durations) ∷ [])
-            grown = accepted-is (closed (close.Grown c s)) (refusalOf ms vs group frames) _ (ap closed (sym b) ∙ f .answer) refl
+            abbrev own : Outcome
+            own = fitOf ms vs (given done (label .first + k) end) frames
 
-            changes-is : c ≡ fitOf ms vs group frames .changes
-            changes-is = let v = grown .1 in cc
+            accepted : (refusalOf ms vs (given done (label .first + k) end) frames ≡ 0) × (closed (close.Grown c s) .values ≡ own .changes ∷ total (own .durations) ∷ [])
+            accepted = accepted-is (closed (close.Grown c s)) (refusalOf ms vs (given done (label .first + k) end) frames) _ (ap closed (sym b) ∙ f .answer) refl
 
-            frames-is : s ≡ total (fitOf ms vs group frames .durations)
-            frames-is = let v = grown .1 in cc
+            changes-is : c ≡ own .changes
+            changes-is = let v = accepted .1 in cc
+
+            frames-is : s ≡ total (own .durations)
+            frames-is = let v = accepted .1 in cc
 
             grown-frames : frames + s ≤ mostFrames
-            unfolding refusalOf
-            grown-frames = rw frames-is (ltb-false mostFrames (frames + total (fitOf ms vs group frames .durations)) (cond-none (ltb mostFrames (frames + total (fitOf ms vs group frames .durations))) 7 0 (or-none (refusalTo (within group ms) (within group vs) (targetOf group frames)) _ (grown .0) .1) .0))
+            grown-frames = rw frames-is (frames-few (label .first + k) (At end) later (here (At end) q) _ _ (closed r) work′ f (accepted .0))
+
+            more-few : c ≤ mostFrames
+            more-few = rw changes-is (fit-few (within (given done (label .first + k) end) ms) (within (given done (label .first + k) end) vs) (targetOf end frames))
 
             grown-changes : changes + c ≤ 268435456
-            grown-changes = rw changes-is (omega (arith, fit-few (within group ms) (within group vs) (targetOf group frames), a .little, labels-few (length ends) k (length ms) (l .cover) (l .some), l .lists .few))
+            grown-changes = omega (arith, more-few, a .little, labels-few (length ends) k (length ms) (l .cover) (l .some), l .lists .few)
 
             along-grown : length work′ ≡ length work → Along start work′ (label .first + k) (label .first + k) (frames + s) (changes + c) (i + 1)
-            unfolding fitAlong refusalAlong
             along-grown n =
-                let to : ℕ = label .first + k in
-                let ds : List ℕ = fitOf ms vs group frames .durations in
-                let w : work′ ≡ take done work ++ (ds ++ drop to work) = f .output (grown .0) in
-                let lw : length work′ ≡ length (take done work) + (length ds + length (drop to work)) = ap length w ∙ length-append (take done work) (ds ++ drop to work) ∙ ap (λ (n : ℕ). length (take done work) + n) (length-append ds (drop to work)) in
-                let inside : to ≤ length work = omega (arith, room, a .long, l .lists .workspace) in
-                let j : length (take done work) ≡ done = length-take-le done work (omega (arith, next, a .order)) in
-                let v : length (take done work ++ ds) ≡ to = length-append (take done work) ds ∙ (let m : length (take done work) + length ds ≡ to = omega (arith, length-drop to work) in m) in
-                let tk : take to work′ ≡ take done work ++ ds = ap (take to) (w ∙ sym (append-assoc (take done work) ds (drop to work))) ∙ take-at (take done work ++ ds) (drop to work) to v in
+                let tk = front (label .first + k) (At end) later (here (At end) q) _ _ (closed r) work′ f (accepted .0) n (omega (arith, next, a .order)) (omega (arith, room, a .long, l .lists .workspace)) in
                 record {
                   passed = omega arith;
                   place = room;
                   order = omega arith;
                   few = grown-frames;
-                  little = rw changes-is (omega (arith, fit-few (within group ms) (within group vs) (targetOf group frames), a .little));
+                  little = omega (arith, more-few, a .little);
                   long = n ∙ a .long;
-                  outcome =
-                      rw (tk, changes-is, frames-is) (sym (joined-two (take done work) changes ds (fitOf ms vs group frames .changes) (fitAlong ms vs later (frames + total ds))))
-                      ∙ ap (λ (gs : List Group). joined (take done work) changes (fitAlong ms vs gs frames)) (sym (here (At end) q)) ∙ a .outcome;
-                  refusal =
-                      rw frames-is (sym (ap (λ (n : ℕ). orElse n (refusalAlong ms vs later (frames + total ds))) (grown .0)))
-                      ∙ ap (λ (gs : List Group). refusalAlong ms vs gs frames) (sym (here (At end) q)) ∙ a .refusal;
+                  so-far = rw (tk, changes-is, frames-is) (so-far-is (label .first + k) (At end) later (here (At end) q) _ _ (closed r) work′ f (accepted .0));
+                  refused = rw frames-is (refused-later (label .first + k) (At end) later (here (At end) q) _ _ (closed r) work′ f (accepted .0));
                 }
 
   -- a turn of the loop at which a group was closed, with the answer r
@@ -190,19 +249,19 @@ module _ (ms vs : List Float) (k : ℕ) (ends : List Float) where
     pub before : Along start work done first frames changes i
     pub here : i < length ends
     pub made : label ≡ labelOf first (getD ends i nan)
-    pub given : label .end ≡ At end
-    pub closes : Closes ms vs (record { from = done; to = label .first + k; end = end }) frames work r work′
+    pub ends-at : label .end ≡ At end
+    pub closes : Closes ms vs (given done (label .first + k) end) frames work (grown ms vs (given done (label .first + k) end) frames) (closed r) work′
 
   module _ {start work : List ℕ} {done first frames changes i : ℕ} {label : Label} {end : Float} {r : Closed} {work′ : List ℕ} (t : Turn start work done first frames changes i label end r work′) where
-    pub turn-refused : (m n : ℕ) → r ≡ close.Refused m → n ≡ closed r .number → (w : List ℕ) → AtFront (refusalAlong ms vs (groups k 0 0 ends) 0) (fitAlong ms vs (groups k 0 0 ends) 0) (align.Refused n) w
-    turn-refused = along-refused start work done first frames changes i (t .labels) (t .before) (t .here) label (t .made) end (t .given) r work′ (t .closes)
+    pub turn-refused : (m n : ℕ) → r ≡ close.Refused m → n ≡ closed r .number → (w : List ℕ) → InPlace refusal outcome (fit.Refused n) w
+    turn-refused = along-refused start work done first frames changes i (t .labels) (t .before) (t .here) label (t .made) end (t .ends-at) r work′ (t .closes)
 
     module _ (c s : ℕ) (b : r ≡ close.Grown c s) where
       pub turn-frames : frames + s ≤ mostFrames
-      turn-frames = grown-frames start work done first frames changes i (t .labels) (t .before) (t .here) label (t .made) end (t .given) r work′ (t .closes) c s b
+      turn-frames = grown-frames start work done first frames changes i (t .labels) (t .before) (t .here) label (t .made) end (t .ends-at) r work′ (t .closes) c s b
 
       pub turn-changes : changes + c ≤ 268435456
-      turn-changes = grown-changes start work done first frames changes i (t .labels) (t .before) (t .here) label (t .made) end (t .given) r work′ (t .closes) c s b
+      turn-changes = grown-changes start work done first frames changes i (t .labels) (t .before) (t .here) label (t .made) end (t .ends-at) r work′ (t .closes) c s b
 
       pub turn-grown : length work′ ≡ length work → Along start work′ (label .first + k) (label .first + k) (frames + s) (changes + c) (i + 1)
-      turn-grown = along-grown start work done first frames changes i (t .labels) (t .before) (t .here) label (t .made) end (t .given) r work′ (t .closes) c s b
+      turn-grown = along-grown start work done first frames changes i (t .labels) (t .before) (t .here) label (t .made) end (t .ends-at) r work′ (t .closes) c s b

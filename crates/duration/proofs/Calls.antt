@@ -2,14 +2,14 @@
 use mathlib.Core.Path.{_≡_, refl, sym, ap, _∙_}
 use mathlib.Core.Bool.{true}
 use mathlib.Core.List.{List, [], _∷_, _++_}
-use Prim.Native.Nat.{ℕ, zero, suc, _≤_, min}
+use Prim.Native.Nat.{ℕ, zero, suc, _≤_}
 use native.Mathlib.Omega.{arith}
-use lib.ListN.{length, take, drop, replicate, length-take, length-append}
+use lib.ListN.{length, take, drop, replicate, length-append}
 use lib.Ieee.{Float}
-use lib.Seq.{sets, take-append-le, drop-at, take-length}
+use lib.Seq.{sets, take-at, drop-at}
 use borrow.Author.Tests.{ne-eqb}
 use Rattle.lists.proofs.Stores.{filled, copied}
-use Rattle.lists.proofs.Answers.{refusing, Same, same, untouched, refused-is, accepted-is}
+use Rattle.lists.proofs.Answers.{refusing, refused, Same, same, untouched, refused-is, accepted-is}
 use Rattle.duration.specs.declared.Fitted.{Fitted}
 use Rattle.duration.specs.declared.Fitted.the-variants as fit
 use Rattle.duration.specs.declared.Aligned.{Aligned}
@@ -41,39 +41,36 @@ module _ (n k : ℕ) (new out work w : List ℕ) (long : length w ≡ n) (late :
   pub says-late : (v : ℕ) (vs : List ℕ) (m : ℕ) (a : Answer) (work′ : List ℕ) → a ≡ refusing m → a ≡ answerOf k (v ∷ vs) → work′ ≡ sets (w ++ drop n work) 0 (replicate n 0) → Says (orElse 0 k) (v ∷ vs) new n out work a out work′
   says-late v vs m a work′ r e f = record { answer = e; output = untouched k new out (refused-is m k v vs (sym r ∙ e) .1); workspace = cleared work′ f }
 
-  -- m numbers of it are the durations
-  says-done : (values : List ℕ) (m : ℕ) (a : Answer) (out′ work′ : List ℕ) → a ≡ answerOf k values → a .number ≡ 0 → n ≤ length out → m ≡ length new → take m w ≡ new
-      → out′ ≡ sets out 0 (take m (w ++ drop n work)) → work′ ≡ sets (w ++ drop n work) 0 (replicate n 0) → Says (orElse 0 k) values new n out work a out′ work′
-  says-done values m a out′ work′ e z room q t o f =
-      let l : length new ≡ min m (length w) = ap length (sym t) ∙ length-take m w in
-      let h : m ≤ length w = omega arith in
-      record {
-        answer = e;
-        output = rw (accepted-is a k values e z .0, ← q) (o ∙ copied m (w ++ drop n work) out (omega (arith, whole-long)) (omega arith) ∙ ap (λ (x : List ℕ). x ++ drop m out) (take-append-le m w (drop n work) h ∙ t));
-        workspace = cleared work′ f;
-      }
-
-  -- all n of them are
+  -- it is the durations
   says-whole : (values : List ℕ) (a : Answer) (out′ work′ : List ℕ) → a ≡ answerOf k values → a .number ≡ 0 → n ≤ length out → (k ≡ 0 → w ≡ new)
       → out′ ≡ sets out 0 (take n (w ++ drop n work)) → work′ ≡ sets (w ++ drop n work) 0 (replicate n 0) → Says (orElse 0 k) values new n out work a out′ work′
   says-whole values a out′ work′ e z room t o f =
-      let q : w ≡ new = t (accepted-is a k values e z .0) in
-      says-done values n a out′ work′ e z room (sym long ∙ ap length q) (ap (λ (m : ℕ). take m w) (sym long) ∙ take-length w ∙ q) o f
+      let y : k ≡ 0 = accepted-is a k values e z .0 in
+      record {
+        answer = e;
+        output = rw (y, ← t y, long) (o ∙ copied n (w ++ drop n work) out whole-long room ∙ ap (λ (x : List ℕ). x ++ drop n out) (take-at w (drop n work) n long));
+        workspace = cleared work′ f;
+      }
 
   -- a fit's outcome, handed out
   pub says-handed : (v : ℕ) (r s : Fitted) (out′ work′ : List ℕ) → fitted r ≡ answerOf k (v ∷ []) → (k ≡ 0 → w ≡ new) → n ≤ length out → HandsOut r n out (w ++ drop n work) s out′ work′ → Says (orElse 0 k) (v ∷ []) new n out work (fitted s) out′ work′
   says-handed v (fit.Done c) s out′ work′ e t room h = says-whole (v ∷ []) (fitted s) out′ work′ (ap fitted (h .same) ∙ e) (ap (λ (x : Fitted). fitted x .number) (h .same)) room t (h .output) (h .workspace)
   says-handed v (fit.Refused m) s out′ work′ e t room h = rw (h .output) (says-late v [] m (fitted s) work′ (ap fitted (h .same)) (ap fitted (h .same) ∙ e) (h .workspace))
 
-  -- the first m of them are
-  pub says-front : (m c u : ℕ) (a : Answer) (out′ work′ : List ℕ) → a ≡ record { number = 0; values = m ∷ c ∷ [] } → a ≡ answerOf k (length new ∷ u ∷ []) → n ≤ length out → (k ≡ 0 → take (length new) w ≡ new)
-      → out′ ≡ sets out 0 (take m (w ++ drop n work)) → work′ ≡ sets (w ++ drop n work) 0 (replicate n 0) → Says (orElse 0 k) (length new ∷ u ∷ []) new n out work a out′ work′
-  says-front m c u a out′ work′ r e room t o f =
-      let z : a .number ≡ 0 = ap (λ (x : Answer). x .number) r in
-      let y = accepted-is a k (length new ∷ u ∷ []) e z in
-      let v : m ∷ c ∷ [] ≡ length new ∷ u ∷ [] = sym (ap (λ (x : Answer). x .values) r) ∙ y .1 in
-      let q : m ≡ length new = cc in
-      says-done (length new ∷ u ∷ []) m a out′ work′ e z room q (ap (λ (x : ℕ). take x w) q ∙ t (y .0)) o f
+-- an alignment's answer from that of its fit: n durations, and u changes
+module _ (k n u : ℕ) (new out work : List ℕ) (s : Fitted) (out′ work′ : List ℕ) (f : Says k (u ∷ []) new n out work (fitted s) out′ work′) where
+  pub aligned-done : (c : ℕ) → s ≡ fit.Done c → Says k (n ∷ u ∷ []) new n out work (aligned (align.Done n c)) out′ work′
+  aligned-done c e =
+      let y = accepted-is (fitted (fit.Done c)) k _ (ap fitted (sym e) ∙ f .answer) refl in
+      let q : c ∷ [] ≡ u ∷ [] = y .1 in
+      let v : c ≡ u = cc in
+      record { answer = rw (y .0, v); output = f .output; workspace = f .workspace }
+
+  pub aligned-refused : (m j : ℕ) → s ≡ fit.Refused m → j ≡ fitted s .number → Says k (n ∷ u ∷ []) new n out work (aligned (align.Refused j)) out′ work′
+  aligned-refused m j e q =
+      let y = refused-is m k u [] (ap fitted (sym e) ∙ f .answer) in
+      let v : j ≡ k = q ∙ ap (λ (x : Fitted). fitted x .number) e ∙ sym (y .0) in
+      record { answer = ap refusing v ∙ refused k _ (y .1); output = f .output; workspace = f .workspace }
 
 -- ---- two outcomes of one call are equal
 

@@ -1,39 +1,48 @@
 -- Closing a group of states in its place.
 use mathlib.Core.Path.{_≡_, refl, sym, ap, _∙_}
 use mathlib.Core.Bool.{Bool, true, false, cond}
+use mathlib.Core.Logic.{⊎-elim}
 use mathlib.Core.List.{List, [], _∷_, _++_}
-use Prim.Native.Nat.{ℕ, zero, suc, _+_, _^_, _≤_, _<_, zero-le}
+use Prim.Native.Nat.{ℕ, zero, suc, _+_, _-_, _^_, _≤_, _<_, zero-le}
 use native.Mathlib.Omega.{arith}
 use lib.Dec.{ltb}
-use lib.ListN.{length, take, drop}
+use lib.ListN.{length, take, drop, take-append-drop}
 use lib.Seq.{take-at, drop-at, length-take-le}
 use lib.Ieee.{Float}
 use borrow.Author.Tests.{lt-ltb, le-ltb}
 use Rattle.lists.specs.Sizes.{mostFrames}
 use Rattle.lists.specs.Totals.{total}
 use Rattle.lists.proofs.Sums.{total-whole}
+use Rattle.lists.proofs.Numbers.{le-or-lt}
 use Rattle.lists.proofs.Refusals.{or-first}
 use Rattle.duration.specs.declared.Fitted.{Fitted}
 use Rattle.duration.specs.declared.Fitted.the-variants as fit
 use Rattle.duration.specs.declared.align.Closed.the-variants as close
+use Rattle.duration.specs.declared.align.End.{End}
+use Rattle.duration.specs.declared.align.End.the-variants.{At, Open}
 use Rattle.steps.specs.Steps.{Outcome, unchanged}
+use Rattle.floats.specs.Numbers.{nought}
+use Rattle.duration.specs.Estimate.{estimates, naturals}
 use Rattle.duration.specs.Fit.{atShortest, fitTo, refusalTo}
 use Rattle.lists.specs.Refusals.{orElse}
-use Rattle.duration.specs.Align.{Group, within, targetOf, fitOf, refusalOf, refusalAlong}
+use Rattle.duration.specs.Align.{Group, given, tail, within, targetOf, fitToEnd, fitOf, refusalToEnd, refusalOf, refusalAlong}
 use Rattle.duration.specs.Promise.{fitted, clears}
-use Rattle.duration.specs.Inner.Asked.{InPlace, Closes}
+use Rattle.duration.specs.Inner.Asked.{InPlace, closed, grown, Closes}
 use Rattle.lists.proofs.Answers.{refusing, refused, refused-is, accepted-is}
 use Rattle.steps.proofs.Stepping.{settle-few}
 use Rattle.duration.proofs.Fits.{fit-clears}
 
--- ---- closing a group, whose fit left w in its place
+-- ---- closing a group with an end, whose fit left w in its place
 
-module _ (ms vs : List Float) (g : Group) (frames : ℕ) (work w work′ : List ℕ) where
+module _ (ms vs : List Float) (from to : ℕ) (x : Float) (frames : ℕ) (work w work′ : List ℕ) where
+  abbrev g : Group
+  g = given from to x
+
   abbrev own : ℕ
-  own = refusalTo (within g ms) (within g vs) (targetOf g frames)
+  own = refusalTo (within g ms) (within g vs) (targetOf x frames)
 
   module _ (r : Fitted) (f : InPlace own (fitOf ms vs g frames) r w) where
-    pub close-refused : (m k : ℕ) → r ≡ fit.Refused m → k ≡ fitted r .number → Closes ms vs g frames work (close.Refused k) work′
+    pub close-refused : (m k : ℕ) → r ≡ fit.Refused m → k ≡ fitted r .number → Closes ms vs g frames work (grown ms vs g frames) (closed (close.Refused k)) work′
     unfolding refusalOf
     close-refused m k e q =
         let s = refused-is m own _ [] (ap fitted (sym e) ∙ f .answer) in
@@ -49,14 +58,14 @@ module _ (ms vs : List Float) (g : Group) (frames : ℕ) (work w work′ : List 
       sum-is : s ≡ total (fitOf ms vs g frames .durations)
       sum-is = sum ∙ ap total (f .output (done .0))
 
-      pub close-long : mostFrames < frames + s → Closes ms vs g frames work (close.Refused 8) work′
+      pub close-long : mostFrames < frames + s → Closes ms vs g frames work (grown ms vs g frames) (closed (close.Refused 8)) work′
       unfolding refusalOf
       close-long h =
           let l : mostFrames < frames + total (fitOf ms vs g frames .durations) = rw (← sum-is) h in
           let o : refusalOf ms vs g frames ≡ 8 = rw (done .0, lt-ltb mostFrames (frames + total (fitOf ms vs g frames .durations)) l) in
           record { answer = rw o; output = λ q. absurd (omega arith) }
 
-      pub close-grown : frames + s ≤ mostFrames → work′ ≡ take (g .from) work ++ (w ++ drop (g .to) work) → Closes ms vs g frames work (close.Grown c s) work′
+      pub close-grown : frames + s ≤ mostFrames → work′ ≡ take from work ++ (w ++ drop to work) → Closes ms vs g frames work (grown ms vs g frames) (closed (close.Grown c s)) work′
       unfolding refusalOf
       close-grown h p =
           let l : frames + total (fitOf ms vs g frames .durations) ≤ mostFrames = rw (← sum-is) h in
@@ -65,12 +74,48 @@ module _ (ms vs : List Float) (g : Group) (frames : ℕ) (work w work′ : List 
           let n : c ≡ fitOf ms vs g frames .changes = cc in
           record { answer = rw (o, n, sum-is); output = λ q. rw (← f .output (done .0)) p }
 
--- the part of the work space that a group has, after it is put back
-pub part-back : (work w : List ℕ) (a n : ℕ) (rest : List ℕ) → a ≤ length work → length w ≡ n → take n (drop a (take a work ++ (w ++ rest))) ≡ w
-part-back work w a n rest h e = ap (take n) (drop-at (take a work) (w ++ rest) a (length-take-le a work h)) ∙ take-at w rest n e
+-- ---- closing the tail
 
-pub counted : (r : ℕ) (l w : List ℕ) → r ≡ total (take (2 ^ 32) l) → l ≡ w → length w ≤ 4294967296 → r ≡ total w
-counted r l w e f h = e ∙ rw f (total-whole w h)
+-- its own total needs no test: where that is too large, so is the total of all groups
+over-either : (m n : ℕ) → m ≤ n → orElse (cond (ltb mostFrames m) 8 0) (cond (ltb mostFrames n) 8 0) ≡ cond (ltb mostFrames n) 8 0
+over-either m n h = ⊎-elim
+    (λ (k : m ≤ mostFrames). rw (le-ltb mostFrames m k))
+    (λ (k : mostFrames < m). rw (lt-ltb mostFrames m k, lt-ltb mostFrames n (omega arith)))
+    (le-or-lt m mostFrames)
+
+module _ (ms vs : List Float) (from to frames changes : ℕ) (work : List ℕ) where
+  abbrev naturals-of : List ℕ
+  naturals-of = naturals (within (tail from to) ms) (within (tail from to) vs)
+
+  pub one-test : refusalOf ms vs (tail from to) frames ≡ cond (ltb mostFrames (frames + total naturals-of)) 8 0
+  unfolding refusalOf
+  one-test = over-either (total naturals-of) (frames + total naturals-of) (omega arith)
+
+  pub tail-long : (work′ : List ℕ) → mostFrames < frames + total naturals-of → Closes ms vs (tail from to) frames work (changes ∷ []) (fitted (fit.Refused 8)) work′
+  tail-long work′ h =
+      let o : refusalOf ms vs (tail from to) frames ≡ 8 = one-test ∙ rw (lt-ltb mostFrames (frames + total naturals-of) h) in
+      record { answer = rw o; output = λ q. absurd (omega arith) }
+
+  module _ (few : frames + total naturals-of ≤ mostFrames) where
+    pub tail-fits : (w work′ : List ℕ) → w ≡ naturals-of → work′ ≡ take from work ++ (w ++ drop to work) → Closes ms vs (tail from to) frames work (changes ∷ []) (fitted (fit.Done changes)) work′
+    tail-fits w work′ e p =
+        let o : refusalOf ms vs (tail from to) frames ≡ 0 = one-test ∙ rw (le-ltb mostFrames (frames + total naturals-of) few) in
+        record { answer = rw o; output = λ q. rw (← e) p }
+
+-- a tail of no state
+pub tail-none : (ms vs : List Float) (from to frames changes : ℕ) (work : List ℕ) → from ≡ to → frames ≤ mostFrames → Closes ms vs (tail from to) frames work (changes ∷ []) (fitted (fit.Done changes)) work
+unfolding naturals estimates total
+tail-none ms vs from to frames changes work e h =
+    let z : to - from ≡ 0 = omega arith in
+    let n : naturals-of ms vs from to frames changes work ≡ [] = rw z in
+    tail-fits ms vs from to frames changes work (rw n (omega arith)) [] work (sym n) (rw (← e) (sym (take-append-drop from work)))
+
+-- ---- the frames of a group, counted in its part of the work space after w was put back there
+
+pub counted : (r : ℕ) (work w rest : List ℕ) (a n : ℕ) → r ≡ total (take (2 ^ 32) (take n (drop a (take a work ++ (w ++ rest))))) → a ≤ length work → length w ≡ n → n ≤ 4294967296 → r ≡ total w
+counted r work w rest a n e h l s =
+    let back : take n (drop a (take a work ++ (w ++ rest))) ≡ w = ap (take n) (drop-at (take a work) (w ++ rest) a (length-take-le a work h)) ∙ take-at w rest n l in
+    e ∙ rw back (total-whole w (omega arith))
 
 -- ---- how much a group adds
 
@@ -89,6 +134,10 @@ late-or zero true e = refl
 late-or zero false e = refl
 late-or (suc k) b e = e
 
+end-clears : (ms vs : List Float) (frames : ℕ) (end : End) → clears (refusalToEnd ms vs frames end) ≡ true
+end-clears ms vs frames (At x) = fit-clears ms vs _
+end-clears ms vs frames Open = late-or 0 (ltb mostFrames (total (naturals ms vs))) refl
+
 late-then : (k l : ℕ) → clears k ≡ true → clears l ≡ true → clears (orElse k l) ≡ true
 late-then zero l p q = q
 late-then (suc k) l p q = p
@@ -98,5 +147,5 @@ unfolding refusalAlong refusalOf
 along-clears ms vs [] frames = refl
 along-clears ms vs (g ∷ gs) frames =
     late-then (refusalOf ms vs g frames) (refusalAlong ms vs gs (frames + total (fitOf ms vs g frames .durations)))
-    (late-or (refusalTo (within g ms) (within g vs) (targetOf g frames)) (ltb mostFrames (frames + total (fitOf ms vs g frames .durations))) (fit-clears (within g ms) (within g vs) (targetOf g frames)))
+    (late-or (refusalToEnd (within g ms) (within g vs) frames (g .end)) (ltb mostFrames (frames + total (fitOf ms vs g frames .durations))) (end-clears (within g ms) (within g vs) frames (g .end)))
     (along-clears ms vs gs (frames + total (fitOf ms vs g frames .durations)))

@@ -1,42 +1,37 @@
--- The theorem of the fit: what a fit to a target above the count comes to, and with it a speed and each group of an alignment.
+-- The theorem of the fit: what a fit to a target above the count comes to, and with it a speed.
 use mathlib.Core.Path.{_≡_, refl, sym, ap, _∙_, subst}
 use mathlib.Core.Bool.{true, false, cond}
 use mathlib.Core.Logic.{inl, inr, ⊎-elim}
 use mathlib.Core.List.{List, [], _∷_}
-use Prim.Native.Nat.{ℕ, zero, suc, _+_, _-_, _*_, _≤_, _<_, zero-le}
-use native.Mathlib.Nat.{not-suc-le-zero, le-max-left, suc-mul}
+use Prim.Native.Nat.{ℕ, zero, suc, _+_, _≤_, _<_, zero-le}
+use native.Mathlib.Nat.{not-suc-le-zero, le-max-left}
 use native.Mathlib.Omega.{arith}
 use lib.Dec.{ltb, leb}
 use lib.IntN.{pos, negsuc}
-use lib.ListN.{length, getD, take, drop, replicate, length-take, length-drop, length-replicate}
-use lib.Ieee.{Float, eq, le}
-use borrow.Author.Tests.{le-ltb, le-leb, lt-leb, ne-eqb, ltb-false}
+use lib.ListN.{length, getD}
+use lib.Ieee.{Float, eq}
+use borrow.Author.Tests.{le-ltb, lt-leb, ne-eqb, ltb-false}
 use Rattle.lists.specs.Sizes.{mostFrames}
 use Rattle.lists.specs.Totals.{total, gap}
 use Rattle.lists.specs.Refusals.{orElse}
 use Rattle.lists.proofs.Numbers.{le-or-lt}
 use Rattle.floats.specs.Rounding.{Integral, undefined, endless, whole, toIntegral, framesOf, roundedOf}
-use Rattle.floats.specs.Numbers.{nought, one}
+use Rattle.floats.specs.Numbers.{one}
 use Rattle.duration.specs.declared.Fitted.{Fitted}
 use Rattle.duration.specs.declared.Fitted.the-variants as fit
-use Rattle.duration.specs.declared.Aligned.{Aligned}
-use Rattle.duration.specs.declared.Aligned.the-variants as align
-use Rattle.duration.specs.Estimate.{estimates}
-use Rattle.steps.specs.Steps.{shortest, Outcome, unchanged, settle}
+use Rattle.duration.specs.Estimate.{estimates, naturals}
+use Rattle.steps.specs.Steps.{Outcome, settle}
 use Rattle.duration.specs.Fit.{rhoOf, startOf, fitTo, refusalTo}
-use Rattle.duration.specs.Speed.{naturals, targetAt, fitAt, refusalAt}
-use Rattle.duration.specs.Align.{endIf, Group, closing, groups, within, targetOf, fitOf, fitAlong, refusalOf, refusalAlong}
+use Rattle.duration.specs.Speed.{targetAt, fitAt, refusalAt}
+use Rattle.duration.specs.Align.{within}
 use Rattle.lists.specs.Answers.{Answer, answerOf}
-use Rattle.duration.specs.Promise.{fitted, aligned, refusalOfLists, refusalOfLabels, Says, FitSays, SpeedSays, AlignSays}
-use Rattle.duration.specs.Fitting.{distance, Under, Fair, FairGroup, FairAlong, Ample, Accepted, AcceptedAlong}
-use Rattle.duration.specs.Fitting.FairAlong.{ended, next}
-use Rattle.duration.proofs.Refusals.{lists-fit, cond-none, labelled}
+use Rattle.duration.specs.Promise.{fitted, refusalOfLists, Says, FitSays, SpeedSays}
+use Rattle.duration.specs.Fitting.{distance, Under, Fair, Ample, Accepted}
+use Rattle.duration.proofs.Refusals.{lists-fit, cond-none}
 use Rattle.duration.proofs.Estimates.{length-estimates}
 use Rattle.steps.proofs.Settling.{Pointwise, Positive, settles-total, settles-length, settles-gap, settles-up, settles-down, settles-positive, settle-settles}
 use Rattle.steps.proofs.Settling.Pointwise.{nil, cons}
 use Rattle.steps.proofs.Settling.Positive.{none, more}
-use Rattle.lists.proofs.Answers.{accepted-is}
-use Rattle.lists.proofs.Refusals.{or-none}
 
 -- ---- lists state by state
 
@@ -45,7 +40,7 @@ under nil i = zero-le
 under (cons h p) zero = h
 under (cons h p) (suc i) = under p i
 
-positive-at : {xs : List ℕ} → Positive xs → (i : ℕ) → i < length xs → 1 ≤ getD xs i 0
+pub positive-at : {xs : List ℕ} → Positive xs → (i : ℕ) → i < length xs → 1 ≤ getD xs i 0
 positive-at none i h = absurd (not-suc-le-zero h)
 positive-at (more p ps) zero h = p
 positive-at (more p ps) (suc i) h = positive-at ps i (omega arith)
@@ -148,10 +143,6 @@ fitted-is : (r : Fitted) (o : Outcome) → fitted r ≡ answerOf 0 (o .changes �
 fitted-is (fit.Done c) o e = let q : c ∷ [] ≡ o .changes ∷ [] = ap (λ (a : Answer). a .values) e in cc
 fitted-is (fit.Refused k) o e = absurd (let q : _≡_ {A = List ℕ} [] (o .changes ∷ []) = ap (λ (a : Answer). a .values) e in let z : _≡_ {A = ℕ} 0 1 = cc in omega arith)
 
-aligned-is : (r : Aligned) (o : Outcome) → aligned r ≡ answerOf 0 (length (o .durations) ∷ o .changes ∷ []) → r ≡ align.Done (length (o .durations)) (o .changes)
-aligned-is (align.Done w c) o e = let q : w ∷ c ∷ [] ≡ length (o .durations) ∷ o .changes ∷ [] = ap (λ (a : Answer). a .values) e in cc
-aligned-is (align.Refused k) o e = absurd (let q : _≡_ {A = List ℕ} [] (length (o .durations) ∷ o .changes ∷ []) = ap (λ (a : Answer). a .values) e in let z : _≡_ {A = ℕ} 0 1 = cc in omega arith)
-
 -- a call of one of the first two kinds whose outcome is the fit to t
 module _ (ms vs : List Float) (t : ℕ) (out work : List ℕ) (m : Ample ms vs t out work) where
   lists-none : refusalOfLists (length ms) (length vs) (length out) (length work) ≡ 0
@@ -187,60 +178,3 @@ speed-theorem ms vs speed out work r out′ work′ m n e f =
     let z : k ≡ 0 = rw (lists-none ms vs t out work m, le-ltb mostFrames (total (naturals ms vs)) n, e) (fit-none ms vs t out work m) in
     let o : fitAt ms vs speed ≡ fitTo ms vs t = rw e in
     accepted ms vs t out work m k r out′ work′ z (subst (λ (x : Outcome). Says k (x .changes ∷ []) (x .durations) (length ms) out work (fitted r) out′ work′) o f)
-
--- ---- and of each group of an alignment
-
-part-lengths : (a n : ℕ) (ms vs : List Float) → length vs ≡ length ms → length (take n (drop a vs)) ≡ length (take n (drop a ms))
-part-lengths a n ms vs e = length-take n (drop a vs) ∙ rw (length-drop a vs, e, ← length-drop a ms, ← length-take n (drop a ms))
-
-part-some : (a n : ℕ) (ms : List Float) → 0 < n → a < length ms → 0 < length (take n (drop a ms))
-part-some a n ms h k = rw (length-take n (drop a ms), length-drop a ms) (omega arith)
-
--- a target that is not above the count
-shortest-fit : (ms vs : List Float) (t : ℕ) → 0 < length ms → t ≤ length ms → fitTo ms vs t ≡ unchanged (replicate (length ms) shortest)
-unfolding fitTo
-shortest-fit ms vs t some h = rw (ne-eqb (length ms) 0 (λ q. omega arith), le-leb t (length ms) h)
-
-group-fair : (ms vs : List Float) (g : Group) (frames : ℕ) → refusalOf ms vs g frames ≡ 0 → length (within g vs) ≡ length (within g ms) → 0 < length (within g ms) → FairGroup ms vs g frames (fitOf ms vs g frames)
-unfolding refusalOf
-group-fair ms vs g frames r e z =
-    let n : ℕ = length (within g ms) in
-    let t : ℕ = targetOf g frames in
-    let above : n < t → Fair (within g ms) (within g vs) t (fitOf ms vs g frames) = λ a. fair-fit (within g ms) (within g vs) t z e a (or-none (refusalTo (within g ms) (within g vs) t) _ r .0) in
-    let short : t ≤ n → fitOf ms vs g frames ≡ unchanged (replicate n shortest) = shortest-fit (within g ms) (within g vs) t z in
-    record {
-      count = ⊎-elim (λ (h : t ≤ n). ap (λ (o : Outcome). length (o .durations)) (short h) ∙ length-replicate n shortest) (λ (h : n < t). above h .count) (le-or-lt t n);
-      above = above;
-      otherwise = short;
-    }
-
-module _ (ms vs : List Float) (agree : length vs ≡ length ms) (k : ℕ) (some : 1 ≤ k) where
-  along-fair : (done first frames : ℕ) (ends : List Float) → done ≤ first → first + length ends * k ≤ length ms → refusalAlong ms vs (groups k done first ends) frames ≡ 0
-      → FairAlong ms vs (groups k done first ends) frames (fitAlong ms vs (groups k done first ends) frames .durations) (fitAlong ms vs (groups k done first ends) frames .changes)
-  unfolding groups refusalAlong fitAlong
-  along-fair done first frames [] o h = λ e. ended
-  along-fair done first frames (x ∷ xs) o h =
-      elim (le nought x) as (λ s. let gs = closing done (first + k) (endIf s x) (λ d. groups k d (first + k) xs) in refusalAlong ms vs gs frames ≡ 0 → FairAlong ms vs gs frames (fitAlong ms vs gs frames .durations) (fitAlong ms vs gs frames .changes)) [
-        | false ↦ λ e. along-fair done (first + k) frames xs (omega arith) (omega (arith, suc-mul (length xs) k)) e
-        | true ↦ λ e.
-            let g : Group = record { from = done; to = first + k; end = x } in
-            let r = or-none (refusalOf ms vs g frames) _ e in
-            next (group-fair ms vs g frames (r .0) (part-lengths done (first + k - done) ms vs agree) (part-some done (first + k - done) ms (omega arith) (omega (arith, suc-mul (length xs) k))))
-            (along-fair (first + k) (first + k) (frames + total (fitOf ms vs g frames .durations)) xs (omega arith) (omega (arith, suc-mul (length xs) k)) (r .1))
-      ]
-
-pub align-theorem : (ms vs : List Float) (nstate : ℕ) (ends : List Float) (out work : List ℕ) (r : Aligned) (out′ work′ : List ℕ) → aligned r .number ≡ 0
-    → AlignSays ms vs nstate ends out work r out′ work′ → AcceptedAlong ms vs (groups nstate 0 0 ends) out r out′
-align-theorem ms vs nstate ends out work r out′ work′ z f =
-    let gs : List Group = groups nstate 0 0 ends in
-    let o : Outcome = fitAlong ms vs gs 0 in
-    let k : ℕ = orElse (refusalOfLabels nstate (length ends) (length ms) (length vs) (length out) (length work)) (refusalAlong ms vs gs 0) in
-    let n : k ≡ 0 = accepted-is (aligned r) k _ (f .answer) z .0 in
-    let p = or-none (refusalOfLabels nstate (length ends) (length ms) (length vs) (length out) (length work)) (refusalAlong ms vs gs 0) n in
-    let l = labelled nstate (length ends) (length ms) (length vs) (length out) (length work) (p .0) in
-    record {
-      outcome = o;
-      answer = aligned-is r o (f .answer ∙ ap (λ (m : ℕ). answerOf m (length (o .durations) ∷ o .changes ∷ [])) n);
-      output = f .output ∙ rw n;
-      fair = along-fair ms vs (l .1 .agree) nstate (l .0 .some) 0 0 0 ends zero-le (omega (arith, l .0 .cover)) (p .1);
-    }

@@ -15,14 +15,14 @@ use Rattle.lists.proofs.Stores.{filled}
 use Rattle.floats.specs.Numbers.{one}
 use Rattle.duration.specs.declared.Fitted.{Fitted}
 use Rattle.duration.specs.declared.Fitted.the-variants.{Done, Refused}
-use Rattle.duration.specs.Estimate.{estimates}
+use Rattle.duration.specs.Estimate.{estimates, naturals}
 use Rattle.steps.specs.Steps.{shortest, Outcome, settle}
 use Rattle.steps.specs.Promise.{opens, SettleSays}
 use Rattle.steps.specs.declared.Settled.{Settled}
 use Rattle.steps.specs.declared.Settled.the-variants as rule
 use Rattle.steps.proofs.Door.{stands-open, was-over, was-settled}
 use Rattle.duration.specs.Fit.{rhoOf, startOf, fitTo, refusalTo}
-use Rattle.duration.specs.Speed.{naturals, targetAt, fitAt, refusalAt}
+use Rattle.duration.specs.Speed.{targetAt, fitAt, refusalAt}
 use Rattle.duration.specs.Promise.{clears}
 use Rattle.duration.specs.Inner.Asked.{Agree, InPlace}
 

@@ -6,6 +6,7 @@ pub mod Calls
 pub mod Closing
 pub mod Along
 pub mod Fairness
+pub mod Aligning
 pub mod Speeds
 pub mod Roundings
 pub mod Uncapped

@@ -13,11 +13,13 @@ use Rattle.floats.specs.Rounding.{roundedOf}
 use Rattle.floats.specs.Numbers.{nought, one, number}
 use Rattle.duration.specs.declared.Fitted.{Fitted}
 use Rattle.duration.specs.declared.Aligned.{Aligned}
-use Rattle.duration.specs.Estimate.{estimates}
+use Rattle.duration.specs.declared.align.End.{End}
+use Rattle.duration.specs.declared.align.End.the-variants.{At, Open}
+use Rattle.duration.specs.Estimate.{estimates, naturals}
 use Rattle.steps.specs.Steps.{shortest, Outcome, unchanged, settle}
 use Rattle.duration.specs.Fit.{rhoOf, startOf, atShortest, fitTo, refusalTo}
-use Rattle.duration.specs.Speed.{naturals, targetAt, fitAt, refusalAt}
-use Rattle.duration.specs.Align.{Group, groups, within, targetOf, fitOf, tail, fitAlong, refusalOf, refusalAlong}
+use Rattle.duration.specs.Speed.{targetAt, fitAt, refusalAt}
+use Rattle.duration.specs.Align.{Group, groups, within, targetOf, fitToEnd, fitOf, fitAlong, refusalToEnd, refusalOf, refusalAlong}
 use Rattle.duration.specs.Promise.{fitted, aligned, refusalOfLists, refusalOfLabels, Says}
 
 module _ (rounding : Float → ℕ) where
@@ -51,22 +53,30 @@ module _ (rounding : Float → ℕ) where
   unfoldable pub refusalAtBy : List Float → List Float → Float → ℕ
   refusalAtBy ms vs speed = cond (ltb mostFrames (total (naturalsBy ms vs))) 8 (cond (eq speed one) 0 (refusalToBy ms vs (targetAtBy ms vs speed)))
 
-  abbrev pub targetOfBy : Group → ℕ → ℕ
-  targetOfBy g frames = rounding (sub binary64 (g .end) (number frames))
+  abbrev pub targetOfBy : Float → ℕ → ℕ
+  targetOfBy end frames = rounding (sub binary64 end (number frames))
+
+  abbrev pub fitToEndBy : List Float → List Float → ℕ → End → Outcome
+  fitToEndBy ms vs frames (At x) = fitToBy ms vs (targetOfBy x frames)
+  fitToEndBy ms vs frames Open = unchanged (naturalsBy ms vs)
 
   abbrev pub fitOfBy : List Float → List Float → Group → ℕ → Outcome
-  fitOfBy ms vs g frames = fitToBy (within g ms) (within g vs) (targetOfBy g frames)
+  fitOfBy ms vs g frames = fitToEndBy (within g ms) (within g vs) frames (g .end)
 
   unfoldable pub fitAlongBy : List Float → List Float → List Group → ℕ → Outcome
-  fitAlongBy ms vs [] frames = tail
+  fitAlongBy ms vs [] frames = unchanged []
   fitAlongBy ms vs (g ∷ gs) frames =
       let o = fitOfBy ms vs g frames in
       let later = fitAlongBy ms vs gs (frames + total (o .durations)) in
       record { durations = o .durations ++ later .durations; changes = o .changes + later .changes }
 
+  abbrev pub refusalToEndBy : List Float → List Float → ℕ → End → ℕ
+  refusalToEndBy ms vs frames (At x) = refusalToBy ms vs (targetOfBy x frames)
+  refusalToEndBy ms vs frames Open = cond (ltb mostFrames (total (naturalsBy ms vs))) 8 0
+
   unfoldable pub refusalOfBy : List Float → List Float → Group → ℕ → ℕ
   refusalOfBy ms vs g frames =
-      orElse (refusalToBy (within g ms) (within g vs) (targetOfBy g frames))
+      orElse (refusalToEndBy (within g ms) (within g vs) frames (g .end))
       (cond (ltb mostFrames (frames + total (fitOfBy ms vs g frames .durations))) 8 0)
 
   unfoldable pub refusalAlongBy : List Float → List Float → List Group → ℕ → ℕ
@@ -87,7 +97,7 @@ module _ (rounding : Float → ℕ) where
   AlignSaysBy ms vs nstate ends out work r =
       let gs = groups nstate 0 0 ends in
       let o = fitAlongBy ms vs gs 0 in
-      Says (orElse (refusalOfLabels nstate (length ends) (length ms) (length vs) (length out) (length work)) (refusalAlongBy ms vs gs 0)) (length (o .durations) ∷ o .changes ∷ []) (o .durations) (length ms) out work (aligned r)
+      Says (orElse (refusalOfLabels nstate (length ends) (length ms) (length vs) (length out) (length work)) (refusalAlongBy ms vs gs 0)) (length ms ∷ o .changes ∷ []) (o .durations) (length ms) out work (aligned r)
 
 -- ---- with `roundedOf` they are those of `specs/`
 
@@ -108,10 +118,15 @@ speed-restated ms vs speed =
     let f = fit-restated ms vs (targetAt ms vs speed) in
     (rw (e, f .0), rw (e, f .1))
 
+end-restated : (ms vs : List Float) (frames : ℕ) (end : End) → (refusalToEndBy roundedOf ms vs frames end ≡ refusalToEnd ms vs frames end) × (fitToEndBy roundedOf ms vs frames end ≡ fitToEnd ms vs frames end)
+unfolding naturalsBy naturals
+end-restated ms vs frames (At x) = fit-restated ms vs (targetOf x frames)
+end-restated ms vs frames Open = let e = estimates-restated nought ms vs in (rw e, rw e)
+
 pub along-restated : (ms vs : List Float) (gs : List Group) (frames : ℕ) → (refusalAlongBy roundedOf ms vs gs frames ≡ refusalAlong ms vs gs frames) × (fitAlongBy roundedOf ms vs gs frames ≡ fitAlong ms vs gs frames)
 unfolding refusalAlongBy refusalAlong fitAlongBy fitAlong refusalOfBy refusalOf
 along-restated ms vs [] frames = (refl, refl)
 along-restated ms vs (g ∷ gs) frames =
-    let f = fit-restated (within g ms) (within g vs) (targetOf g frames) in
+    let f = end-restated (within g ms) (within g vs) frames (g .end) in
     let later = along-restated ms vs gs (frames + total (fitOf ms vs g frames .durations)) in
     (rw (f .0, f .1, later .0), rw (f .1, later .1))

@@ -20,7 +20,8 @@ use Rattle.floats.specs.Rounding.{whole, nearestHalf, toIntegral, framesOf, rou
 use Rattle.floats.specs.Numbers.{nought, one, number}
 use Rattle.steps.specs.Steps.{shortest, unchanged}
 use Rattle.duration.specs.Fit.{fitTo, refusalTo}
-use Rattle.duration.specs.Speed.{naturals, targetAt, fitAt, refusalAt}
+use Rattle.duration.specs.Estimate.{naturals}
+use Rattle.duration.specs.Speed.{targetAt, fitAt, refusalAt}
 use Rattle.duration.proofs.Estimates.{length-estimates}
 use Rattle.steps.proofs.Settling.{Positive}
 use Rattle.steps.proofs.Settling.Positive.{none, more}

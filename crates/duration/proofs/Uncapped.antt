@@ -20,13 +20,15 @@ use Rattle.floats.specs.Rounding.{Integral, undefined, endless, whole, toIntegr
 use Rattle.floats.specs.Numbers.{nought, one, number}
 use Rattle.duration.specs.declared.Fitted.{Fitted}
 use Rattle.duration.specs.declared.Aligned.{Aligned}
-use Rattle.duration.specs.Estimate.{estimates}
+use Rattle.duration.specs.declared.align.End.{End}
+use Rattle.duration.specs.declared.align.End.the-variants.{At, Open}
+use Rattle.duration.specs.Estimate.{estimates, naturals}
 use Rattle.steps.specs.Steps.{shortest, Outcome, unchanged, settle}
 use Rattle.duration.specs.Fit.{rhoOf, startOf, fitTo, refusalTo}
-use Rattle.duration.specs.Speed.{naturals, targetAt, fitAt, refusalAt}
-use Rattle.duration.specs.Align.{Group, groups, within, targetOf, fitOf, fitAlong, refusalOf, refusalAlong}
+use Rattle.duration.specs.Speed.{targetAt, fitAt, refusalAt}
+use Rattle.duration.specs.Align.{Group, groups, within, targetOf, fitToEnd, fitOf, fitAlong, refusalToEnd, refusalOf, refusalAlong}
 use Rattle.duration.specs.Promise.{fitted, aligned, refusalOfLists, refusalOfLabels, Says, FitSays, SpeedSays, AlignSays}
-use Rattle.duration.proofs.Roundings.{estimatesBy, startBy, fitToBy, refusalToBy, naturalsBy, targetAtBy, fitAtBy, refusalAtBy, targetOfBy, fitOfBy, fitAlongBy, refusalOfBy, refusalAlongBy, FitSaysBy, SpeedSaysBy, AlignSaysBy}
+use Rattle.duration.proofs.Roundings.{estimatesBy, startBy, fitToBy, refusalToBy, naturalsBy, targetAtBy, fitAtBy, refusalAtBy, targetOfBy, fitToEndBy, fitOfBy, fitAlongBy, refusalToEndBy, refusalOfBy, refusalAlongBy, FitSaysBy, SpeedSaysBy, AlignSaysBy}
 
 -- ---- a number and its cap
 
@@ -163,16 +165,41 @@ module _ (rounding : Float → ℕ) (caps : (x : Float) → Caps (rounding x) (r
         record { refusal = rw (a, b); outcome = λ e. absurd (let z : _≡_ {A = ℕ} 8 0 = rw a at e in omega arith) })
         (le-or-lt (total N) mostFrames)
 
+  -- of states by their end
+  module _ (ms vs : List Float) (frames : ℕ) where
+    abbrev over : Outcome → ℕ
+    over o = cond (ltb mostFrames (frames + total (o .durations))) 8 0
+
+    abbrev own : List ℕ → ℕ
+    own ds = cond (ltb mostFrames (total ds)) 8 0
+
+    tail-alike : let n = naturalsBy rounding ms vs in let m = naturals ms vs in Alike (orElse (own n) (over (unchanged n))) (orElse (own m) (over (unchanged m))) (unchanged n) (unchanged m)
+    unfolding naturalsBy naturals
+    tail-alike =
+        let p = estimates-capped nought ms vs in
+        let N : List ℕ = estimates nought ms vs in
+        ⊎-elim
+        (λ (h : total N ≤ mostFrames). let e = capped-same p h in record { refusal = rw e; outcome = λ z. rw e })
+        (λ (h : mostFrames < total N).
+        let a : ltb mostFrames (total N) ≡ true = lt-ltb mostFrames (total N) h in
+        let b : ltb mostFrames (total (estimatesBy rounding nought ms vs)) ≡ true = capped-over p ∙ a in
+        record { refusal = rw (a, b); outcome = λ e. absurd (let z : _≡_ {A = ℕ} 8 0 = rw a at e in omega arith) })
+        (le-or-lt (total N) mostFrames)
+
+    end-alike : (end : End) → Alike (orElse (refusalToEndBy rounding ms vs frames end) (over (fitToEndBy rounding ms vs frames end))) (orElse (refusalToEnd ms vs frames end) (over (fitToEnd ms vs frames end))) (fitToEndBy rounding ms vs frames end) (fitToEnd ms vs frames end)
+    end-alike (At x) =
+        let f = fit-alike ms vs (targetOfBy rounding x frames) (targetOf x frames) (caps _) in
+        record {
+          refusal = or-same (refusalToBy rounding ms vs (targetOfBy rounding x frames)) (refusalTo ms vs (targetOf x frames)) _ _ (f .refusal) (λ e. ap over (f .outcome e));
+          outcome = λ e. f .outcome (or-none (refusalTo ms vs (targetOf x frames)) _ e .0);
+        }
+    end-alike Open = tail-alike
+
   -- of a group, and of an alignment
   module _ (ms vs : List Float) where
     group-alike : (g : Group) (frames : ℕ) → Alike (refusalOfBy rounding ms vs g frames) (refusalOf ms vs g frames) (fitOfBy rounding ms vs g frames) (fitOf ms vs g frames)
     unfolding refusalOfBy refusalOf
-    group-alike g frames =
-        let f = fit-alike (within g ms) (within g vs) (targetOfBy rounding g frames) (targetOf g frames) (caps _) in
-        record {
-          refusal = or-same (refusalToBy rounding (within g ms) (within g vs) (targetOfBy rounding g frames)) (refusalTo (within g ms) (within g vs) (targetOf g frames)) _ _ (f .refusal) (λ e. ap (λ (o : Outcome). cond (ltb mostFrames (frames + total (o .durations))) 8 0) (f .outcome e));
-          outcome = λ e. f .outcome (or-none (refusalTo (within g ms) (within g vs) (targetOf g frames)) _ e .0);
-        }
+    group-alike g frames = end-alike (within g ms) (within g vs) frames (g .end)
 
     along-alike : (gs : List Group) (frames : ℕ) → Alike (refusalAlongBy rounding ms vs gs frames) (refusalAlong ms vs gs frames) (fitAlongBy rounding ms vs gs frames) (fitAlong ms vs gs frames)
     unfolding refusalAlongBy refusalAlong fitAlongBy fitAlong
@@ -234,5 +261,5 @@ module _ (big : ℕ) (above : mostFrames < big) where
 
   pub align-uncapped : (ms vs : List Float) (nstate : ℕ) (ends : List Float) (out work : List ℕ) (r : Aligned) (out′ work′ : List ℕ) → AlignSays ms vs nstate ends out work r out′ work′ ↔ AlignSaysBy (counted big) ms vs nstate ends out work r out′ work′
   align-uncapped ms vs nstate ends out work r out′ work′ =
-      said-both (λ o. length (o .durations) ∷ o .changes ∷ []) (length ms) out work (aligned r) out′ work′ (refusalOfLabels nstate (length ends) (length ms) (length vs) (length out) (length work))
+      said-both (λ o. length ms ∷ o .changes ∷ []) (length ms) out work (aligned r) out′ work′ (refusalOfLabels nstate (length ends) (length ms) (length vs) (length out) (length work))
       (along-alike (counted big) counted-caps ms vs (groups nstate 0 0 ends) 0)

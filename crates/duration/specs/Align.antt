@@ -1,4 +1,4 @@
--- Alignment: labels with an end close groups of states.
+-- Alignment: labels with an end close groups of states, and the states after the last of them are a group that is open.
 use mathlib.Core.Bool.{Bool, true, false, cond}
 use mathlib.Core.List.{List, [], _∷_, _++_}
 use Prim.Native.Nat.{ℕ, _+_, _-_}
@@ -13,6 +13,7 @@ use Rattle.duration.specs.declared.align.End.{End}
 use Rattle.duration.specs.declared.align.End.the-variants.{At, Open}
 use Rattle.duration.specs.declared.align.Label.{Label}
 use Rattle.steps.specs.Steps.{Outcome, unchanged}
+use Rattle.duration.specs.Estimate.{naturals}
 use Rattle.duration.specs.Fit.{fitTo, refusalTo}
 use Rattle.lists.specs.Refusals.{orElse}
 
@@ -29,50 +30,64 @@ endOf x = endIf (le nought x) x
 abbrev pub labelOf : ℕ → Float → Label
 labelOf first x = record { first = first; end = endOf x }
 
--- the states from one place up to another, and the time at which they end
+-- the states from one place up to another, and their end
 pub record Group : Type 0 where
   pub from : ℕ
   pub to : ℕ
-  pub end : Float
+  pub end : End
+
+-- those that a given end closes
+abbrev pub given : ℕ → ℕ → Float → Group
+given done next x = record { from = done; to = next; end = At x }
+
+-- RULES, Durations: the states after the last given end are the tail, and open; it has no state where the last label has an end
+abbrev pub tail : ℕ → ℕ → Group
+tail done next = record { from = done; to = next; end = Open }
 
 -- RULES, Durations: a label with an end closes all states that no label before it has closed; `rest` are the groups after it
 abbrev pub closing : ℕ → ℕ → End → (ℕ → List Group) → List Group
-closing done next (At x) rest = record { from = done; to = next; end = x } ∷ rest next
+closing done next (At x) rest = given done next x ∷ rest next
 closing done next Open rest = rest done
 
 -- the groups of labels of k states each: the first label's first state is at `first`, and the states before `done` are closed
 unfoldable pub groups : ℕ → ℕ → ℕ → List Float → List Group
-groups k done first [] = []
+groups k done first [] = tail done first ∷ []
 groups k done first (x ∷ xs) = closing done (labelOf first x .first + k) (labelOf first x .end) (λ d. groups k d (first + k) xs)
 
 -- a group's means or variances
 abbrev pub within : Group → List Float → List Float
 within g xs = take (g .to - g .from) (drop (g .from) xs)
 
--- RULES, Durations: a group's target is its end less the frames before it, rounded
-abbrev pub targetOf : Group → ℕ → ℕ
-targetOf g frames = roundedOf (sub binary64 (g .end) (number frames))
+-- RULES, Durations: the target of an end is the end less the frames before its group, rounded
+abbrev pub targetOf : Float → ℕ → ℕ
+targetOf end frames = roundedOf (sub binary64 end (number frames))
+
+-- RULES, Durations: states with an end are fitted to its target; those of the tail have their natural durations, and nothing is changed
+abbrev pub fitToEnd : List Float → List Float → ℕ → End → Outcome
+fitToEnd ms vs frames (At x) = fitTo ms vs (targetOf x frames)
+fitToEnd ms vs frames Open = unchanged (naturals ms vs)
 
 -- a group's fit, after so many frames
 abbrev pub fitOf : List Float → List Float → Group → ℕ → Outcome
-fitOf ms vs g frames = fitTo (within g ms) (within g vs) (targetOf g frames)
+fitOf ms vs g frames = fitToEnd (within g ms) (within g vs) frames (g .end)
 
--- RULES, Durations: states that no end closes get no durations
-abbrev pub tail : Outcome
-tail = unchanged []
-
--- group after group, from the frames so far: the durations written, and the changes of all groups
+-- group after group, from the frames so far: the durations, and the changes of all groups
 unfoldable pub fitAlong : List Float → List Float → List Group → ℕ → Outcome
-fitAlong ms vs [] frames = tail
+fitAlong ms vs [] frames = unchanged []
 fitAlong ms vs (g ∷ gs) frames =
     let o = fitOf ms vs g frames in
     let later = fitAlong ms vs gs (frames + total (o .durations)) in
     record { durations = o .durations ++ later .durations; changes = o .changes + later .changes }
 
--- RULES, Refusals: of a group its target is tested first (7), then its start (8), then the total with the groups before it (8)
+-- RULES, Refusals: 7 for a target, then 8 for a start above 65,536 frames; the tail has no target, and 8 for its natural durations
+abbrev pub refusalToEnd : List Float → List Float → ℕ → End → ℕ
+refusalToEnd ms vs frames (At x) = refusalTo ms vs (targetOf x frames)
+refusalToEnd ms vs frames Open = cond (ltb mostFrames (total (naturals ms vs))) 8 0
+
+-- RULES, Refusals: of a group those come first, then 8 for the total with the groups before it
 unfoldable pub refusalOf : List Float → List Float → Group → ℕ → ℕ
 refusalOf ms vs g frames =
-    orElse (refusalTo (within g ms) (within g vs) (targetOf g frames))
+    orElse (refusalToEnd (within g ms) (within g vs) frames (g .end))
     (cond (ltb mostFrames (frames + total (fitOf ms vs g frames .durations))) 8 0)
 
 -- of the first group that is refused

@@ -1,5 +1,5 @@
--- Worked calls beside the table's, by computation: ends about zero, groups whose target is not above their count, and which of the refusals 7 and 8
--- comes first. Each call is made with an output of sevens and a work space of nines.
+-- Worked calls beside the table's, by computation: ends about zero, groups whose target is not above their count, the tail, and which of the refusals 7
+-- and 8 comes first. Each call is made with an output of sevens and a work space of nines.
 use mathlib.Core.Path.{_≡_, refl}
 use mathlib.Core.Bool.{false}
 use mathlib.Core.List.{List, [], _∷_}
@@ -15,10 +15,10 @@ use Rattle.model.specs.Pair.{pairsOf, sumOf}
 use Rattle.duration.specs.declared.Fitted.the-variants as fit
 use Rattle.duration.specs.declared.Aligned.the-variants as align
 use Rattle.duration.specs.declared.align.End.the-variants.{At, Open}
-use Rattle.duration.specs.Estimate.{estimates}
+use Rattle.duration.specs.Estimate.{estimates, naturals}
 use Rattle.steps.specs.Steps.{keyOf, keys, leastOf, step, settle}
 use Rattle.duration.specs.Fit.{startOf, fitTo, refusalTo}
-use Rattle.duration.specs.Speed.{naturals, targetAt, fitAt, refusalAt}
+use Rattle.duration.specs.Speed.{targetAt, fitAt, refusalAt}
 use Rattle.duration.specs.Align.{endOf, groups, fitAlong, refusalOf, refusalAlong}
 use Rattle.duration.specs.Promise.{workOf, refusalOfLists, refusalOfLabels, FitSays, SpeedSays, AlignSays}
 use Rattle.duration.specs.Inputs.{two-three, one-one, sevens, nines, cleared, halves, unset}
@@ -46,16 +46,16 @@ end-nan = refl
 
 -- so -0 closes the first state, with one frame, and the second has the seven that are left
 pub align-minus-zero : AlignSays two-three one-one 1 (minus-zero ∷ number 8 ∷ []) sevens nines (align.Done 2 0) (1 ∷ 7 ∷ 7 ∷ []) cleared
-unfolding workOf refusalOfLists refusalOfLabels groups refusalAlong refusalOf fitAlong neg le eq refusalTo fitTo settle step keys keyOf leastOf costBelow absOf total startOf estimates roundedOf sumOf foldFrom pairsOf ofBits ofInt add sub mul div lt isNan
+unfolding workOf refusalOfLists refusalOfLabels groups refusalAlong refusalOf fitAlong naturals neg le eq refusalTo fitTo settle step keys keyOf leastOf costBelow absOf total startOf estimates roundedOf sumOf foldFrom pairsOf ofBits ofInt add sub mul div lt isNan
 align-minus-zero = record { answer = refl; output = refl; workspace = refl }
 
 -- the others leave both states to the second end
 pub align-least-below : AlignSays two-three one-one 1 (least-below ∷ number 8 ∷ []) sevens nines (align.Done 2 1) (3 ∷ 5 ∷ 7 ∷ []) cleared
-unfolding workOf refusalOfLists refusalOfLabels groups refusalAlong refusalOf fitAlong neg le eq refusalTo fitTo settle step keys keyOf leastOf costBelow absOf total startOf estimates roundedOf sumOf foldFrom pairsOf ofBits ofInt add sub mul div lt isNan
+unfolding workOf refusalOfLists refusalOfLabels groups refusalAlong refusalOf fitAlong naturals neg le eq refusalTo fitTo settle step keys keyOf leastOf costBelow absOf total startOf estimates roundedOf sumOf foldFrom pairsOf ofBits ofInt add sub mul div lt isNan
 align-least-below = record { answer = refl; output = refl; workspace = refl }
 
 pub align-nan : AlignSays two-three one-one 1 (nan ∷ number 8 ∷ []) sevens nines (align.Done 2 1) (3 ∷ 5 ∷ 7 ∷ []) cleared
-unfolding workOf refusalOfLists refusalOfLabels groups refusalAlong refusalOf fitAlong neg le eq refusalTo fitTo settle step keys keyOf leastOf costBelow absOf total startOf estimates roundedOf sumOf foldFrom pairsOf ofBits ofInt add sub mul div lt isNan
+unfolding workOf refusalOfLists refusalOfLabels groups refusalAlong refusalOf fitAlong naturals neg le eq refusalTo fitTo settle step keys keyOf leastOf costBelow absOf total startOf estimates roundedOf sumOf foldFrom pairsOf ofBits ofInt add sub mul div lt isNan
 align-nan = record { answer = refl; output = refl; workspace = refl }
 
 -- ---- a group whose target is not above its count: two labels of two states each
@@ -77,52 +77,96 @@ all-cleared = 0 ∷ 0 ∷ cleared
 
 -- an end of 1 gives two frames all the same, and so the second group has 10 - 2
 pub end-below-count : AlignSays means varis 2 (number 1 ∷ number 10 ∷ []) output workspace (align.Done 4 1) (1 ∷ 1 ∷ 3 ∷ 5 ∷ 7 ∷ []) all-cleared
-unfolding workOf refusalOfLists refusalOfLabels groups refusalAlong refusalOf fitAlong neg le eq refusalTo fitTo settle step keys keyOf leastOf costBelow absOf total startOf estimates roundedOf sumOf foldFrom pairsOf ofBits ofInt add sub mul div lt isNan
+unfolding workOf refusalOfLists refusalOfLabels groups refusalAlong refusalOf fitAlong naturals neg le eq refusalTo fitTo settle step keys keyOf leastOf costBelow absOf total startOf estimates roundedOf sumOf foldFrom pairsOf ofBits ofInt add sub mul div lt isNan
 end-below-count = record { answer = refl; output = refl; workspace = refl }
 
 -- an end of 2 is at the count
 pub end-at-count : AlignSays means varis 2 (number 2 ∷ number 10 ∷ []) output workspace (align.Done 4 1) (1 ∷ 1 ∷ 3 ∷ 5 ∷ 7 ∷ []) all-cleared
-unfolding workOf refusalOfLists refusalOfLabels groups refusalAlong refusalOf fitAlong neg le eq refusalTo fitTo settle step keys keyOf leastOf costBelow absOf total startOf estimates roundedOf sumOf foldFrom pairsOf ofBits ofInt add sub mul div lt isNan
+unfolding workOf refusalOfLists refusalOfLabels groups refusalAlong refusalOf fitAlong naturals neg le eq refusalTo fitTo settle step keys keyOf leastOf costBelow absOf total startOf estimates roundedOf sumOf foldFrom pairsOf ofBits ofInt add sub mul div lt isNan
 end-at-count = record { answer = refl; output = refl; workspace = refl }
 
 -- an end of 3 is above it
 pub end-above-count : AlignSays means varis 2 (number 3 ∷ number 11 ∷ []) output workspace (align.Done 4 1) (1 ∷ 2 ∷ 3 ∷ 5 ∷ 7 ∷ []) all-cleared
-unfolding workOf refusalOfLists refusalOfLabels groups refusalAlong refusalOf fitAlong neg le eq refusalTo fitTo settle step keys keyOf leastOf costBelow absOf total startOf estimates roundedOf sumOf foldFrom pairsOf ofBits ofInt add sub mul div lt isNan
+unfolding workOf refusalOfLists refusalOfLabels groups refusalAlong refusalOf fitAlong naturals neg le eq refusalTo fitTo settle step keys keyOf leastOf costBelow absOf total startOf estimates roundedOf sumOf foldFrom pairsOf ofBits ofInt add sub mul div lt isNan
 end-above-count = record { answer = refl; output = refl; workspace = refl }
 
 -- the second end is before the first: its target is -4, and so 1
 pub end-passed : AlignSays means varis 2 (number 8 ∷ number 4 ∷ []) output workspace (align.Done 4 1) (3 ∷ 5 ∷ 1 ∷ 1 ∷ 7 ∷ []) all-cleared
-unfolding workOf refusalOfLists refusalOfLabels groups refusalAlong refusalOf fitAlong neg le eq refusalTo fitTo settle step keys keyOf leastOf costBelow absOf total startOf estimates roundedOf sumOf foldFrom pairsOf ofBits ofInt add sub mul div lt isNan
+unfolding workOf refusalOfLists refusalOfLabels groups refusalAlong refusalOf fitAlong naturals neg le eq refusalTo fitTo settle step keys keyOf leastOf costBelow absOf total startOf estimates roundedOf sumOf foldFrom pairsOf ofBits ofInt add sub mul div lt isNan
 end-passed = record { answer = refl; output = refl; workspace = refl }
+
+-- ---- the tail
+
+-- with no given end every state is natural
+pub all-open : AlignSays two-three one-one 1 (unset ∷ nan ∷ []) sevens nines (align.Done 2 0) (2 ∷ 3 ∷ 7 ∷ []) cleared
+unfolding workOf refusalOfLists refusalOfLabels groups refusalAlong refusalOf fitAlong naturals neg le eq refusalTo fitTo settle step keys keyOf leastOf costBelow absOf total startOf estimates roundedOf sumOf foldFrom pairsOf ofBits ofInt add sub mul div lt isNan
+all-open = record { answer = refl; output = refl; workspace = refl }
+
+-- with no label the answer is empty
+pub no-label : AlignSays [] [] 1 [] sevens nines (align.Done 0 0) sevens nines
+unfolding workOf refusalOfLists refusalOfLabels groups refusalAlong refusalOf fitAlong naturals neg le eq refusalTo fitTo settle step keys keyOf leastOf costBelow absOf total startOf estimates roundedOf sumOf foldFrom pairsOf ofBits ofInt add sub mul div lt isNan
+no-label = record { answer = refl; output = refl; workspace = refl }
+
+-- two labels of two states each: the first group is fitted, the tail is not
+pub tail-natural : AlignSays means varis 2 (number 8 ∷ unset ∷ []) output workspace (align.Done 4 1) (3 ∷ 5 ∷ 2 ∷ 3 ∷ 7 ∷ []) all-cleared
+unfolding workOf refusalOfLists refusalOfLabels groups refusalAlong refusalOf fitAlong naturals neg le eq refusalTo fitTo settle step keys keyOf leastOf costBelow absOf total startOf estimates roundedOf sumOf foldFrom pairsOf ofBits ofInt add sub mul div lt isNan
+tail-natural = record { answer = refl; output = refl; workspace = refl }
+
+-- two states of so many frames and one
+abbrev frames-and-one : ℕ → List Float
+frames-and-one n = number n ∷ number 1 ∷ []
+
+-- a tail of 65,536 frames, and of one more
+pub tail-most : AlignSays (frames-and-one 65535) one-one 2 (unset ∷ []) sevens nines (align.Done 2 0) (65535 ∷ 1 ∷ 7 ∷ []) cleared
+unfolding workOf refusalOfLists refusalOfLabels groups refusalAlong refusalOf fitAlong naturals neg le eq refusalTo fitTo settle step keys keyOf leastOf costBelow absOf total startOf estimates roundedOf sumOf foldFrom pairsOf ofBits ofInt add sub mul div lt isNan
+tail-most = record { answer = refl; output = refl; workspace = refl }
+
+pub tail-over : AlignSays (frames-and-one 65536) one-one 2 (unset ∷ []) sevens nines (align.Refused 8) sevens cleared
+unfolding workOf refusalOfLists refusalOfLabels groups refusalAlong refusalOf fitAlong naturals neg le eq refusalTo fitTo settle step keys keyOf leastOf costBelow absOf total startOf estimates roundedOf sumOf foldFrom pairsOf ofBits ofInt add sub mul div lt isNan
+tail-over = record { answer = refl; output = refl; workspace = refl }
+
+-- the same behind a group
+pub total-most : AlignSays two-three one-one 1 (number 65533 ∷ unset ∷ []) sevens nines (align.Done 2 0) (65533 ∷ 3 ∷ 7 ∷ []) cleared
+unfolding workOf refusalOfLists refusalOfLabels groups refusalAlong refusalOf fitAlong naturals neg le eq refusalTo fitTo settle step keys keyOf leastOf costBelow absOf total startOf estimates roundedOf sumOf foldFrom pairsOf ofBits ofInt add sub mul div lt isNan
+total-most = record { answer = refl; output = refl; workspace = refl }
+
+pub total-over : AlignSays two-three one-one 1 (number 65534 ∷ unset ∷ []) sevens nines (align.Refused 8) sevens cleared
+unfolding workOf refusalOfLists refusalOfLabels groups refusalAlong refusalOf fitAlong naturals neg le eq refusalTo fitTo settle step keys keyOf leastOf costBelow absOf total startOf estimates roundedOf sumOf foldFrom pairsOf ofBits ofInt add sub mul div lt isNan
+total-over = record { answer = refl; output = refl; workspace = refl }
+
+-- a group's target is found before a tail that is too long
+pub target-before-tail : AlignSays (number 1 ∷ number 65537 ∷ []) one-one 1 (inf false ∷ unset ∷ []) sevens nines (align.Refused 7) sevens cleared
+unfolding workOf refusalOfLists refusalOfLabels groups refusalAlong refusalOf fitAlong naturals neg le eq refusalTo fitTo settle step keys keyOf leastOf costBelow absOf total startOf estimates roundedOf sumOf foldFrom pairsOf ofBits ofInt add sub mul div lt isNan
+target-before-tail = record { answer = refl; output = refl; workspace = refl }
 
 -- ---- 7 and 8: the first in the work order, whatever would come after it
 
 -- an end of 65,536 gives 8, and an endless one 7
 pub estimate-alone : AlignSays means varis 2 (unset ∷ number 65536 ∷ []) output workspace (align.Refused 8) output all-cleared
-unfolding workOf refusalOfLists refusalOfLabels groups refusalAlong refusalOf fitAlong neg le eq refusalTo fitTo settle step keys keyOf leastOf costBelow absOf total startOf estimates roundedOf sumOf foldFrom pairsOf ofBits ofInt add sub mul div lt isNan
+unfolding workOf refusalOfLists refusalOfLabels groups refusalAlong refusalOf fitAlong naturals neg le eq refusalTo fitTo settle step keys keyOf leastOf costBelow absOf total startOf estimates roundedOf sumOf foldFrom pairsOf ofBits ofInt add sub mul div lt isNan
 estimate-alone = record { answer = refl; output = refl; workspace = refl }
 
 pub target-alone : AlignSays means varis 2 (unset ∷ inf false ∷ []) output workspace (align.Refused 7) output all-cleared
-unfolding workOf refusalOfLists refusalOfLabels groups refusalAlong refusalOf fitAlong neg le eq refusalTo fitTo settle step keys keyOf leastOf costBelow absOf total startOf estimates roundedOf sumOf foldFrom pairsOf ofBits ofInt add sub mul div lt isNan
+unfolding workOf refusalOfLists refusalOfLabels groups refusalAlong refusalOf fitAlong naturals neg le eq refusalTo fitTo settle step keys keyOf leastOf costBelow absOf total startOf estimates roundedOf sumOf foldFrom pairsOf ofBits ofInt add sub mul div lt isNan
 target-alone = record { answer = refl; output = refl; workspace = refl }
 
 -- one after the other
 pub estimate-first : AlignSays means varis 2 (number 65536 ∷ inf false ∷ []) output workspace (align.Refused 8) output all-cleared
-unfolding workOf refusalOfLists refusalOfLabels groups refusalAlong refusalOf fitAlong neg le eq refusalTo fitTo settle step keys keyOf leastOf costBelow absOf total startOf estimates roundedOf sumOf foldFrom pairsOf ofBits ofInt add sub mul div lt isNan
+unfolding workOf refusalOfLists refusalOfLabels groups refusalAlong refusalOf fitAlong naturals neg le eq refusalTo fitTo settle step keys keyOf leastOf costBelow absOf total startOf estimates roundedOf sumOf foldFrom pairsOf ofBits ofInt add sub mul div lt isNan
 estimate-first = record { answer = refl; output = refl; workspace = refl }
 
 pub target-first : AlignSays means varis 2 (inf false ∷ number 65536 ∷ []) output workspace (align.Refused 7) output all-cleared
-unfolding workOf refusalOfLists refusalOfLabels groups refusalAlong refusalOf fitAlong neg le eq refusalTo fitTo settle step keys keyOf leastOf costBelow absOf total startOf estimates roundedOf sumOf foldFrom pairsOf ofBits ofInt add sub mul div lt isNan
+unfolding workOf refusalOfLists refusalOfLabels groups refusalAlong refusalOf fitAlong naturals neg le eq refusalTo fitTo settle step keys keyOf leastOf costBelow absOf total startOf estimates roundedOf sumOf foldFrom pairsOf ofBits ofInt add sub mul div lt isNan
 target-first = record { answer = refl; output = refl; workspace = refl }
 
 -- one state fills all 65,536 frames, so the second's one frame gives 8 before the third's target gives 7
 pub total-first : AlignSays means varis 1 (number 65536 ∷ number 65536 ∷ inf false ∷ unset ∷ []) output workspace (align.Refused 8) output all-cleared
-unfolding workOf refusalOfLists refusalOfLabels groups refusalAlong refusalOf fitAlong neg le eq refusalTo fitTo settle step keys keyOf leastOf costBelow absOf total startOf estimates roundedOf sumOf foldFrom pairsOf ofBits ofInt add sub mul div lt isNan
+unfolding workOf refusalOfLists refusalOfLabels groups refusalAlong refusalOf fitAlong naturals neg le eq refusalTo fitTo settle step keys keyOf leastOf costBelow absOf total startOf estimates roundedOf sumOf foldFrom pairsOf ofBits ofInt add sub mul div lt isNan
 total-first = record { answer = refl; output = refl; workspace = refl }
 
 -- and where the second's own target is too large, that is found before the total
 pub target-before-total : AlignSays means varis 1 (number 65536 ∷ inf false ∷ unset ∷ unset ∷ []) output workspace (align.Refused 7) output all-cleared
-unfolding workOf refusalOfLists refusalOfLabels groups refusalAlong refusalOf fitAlong neg le eq refusalTo fitTo settle step keys keyOf leastOf costBelow absOf total startOf estimates roundedOf sumOf foldFrom pairsOf ofBits ofInt add sub mul div lt isNan
+unfolding workOf refusalOfLists refusalOfLabels groups refusalAlong refusalOf fitAlong naturals neg le eq refusalTo fitTo settle step keys keyOf leastOf costBelow absOf total startOf estimates roundedOf sumOf foldFrom pairsOf ofBits ofInt add sub mul div lt isNan
 target-before-total = record { answer = refl; output = refl; workspace = refl }
 
 -- two states of 40,000 frames, fitted to twice as many
@@ -130,7 +174,7 @@ abbrev long : List Float
 long = number 40000 ∷ number 40000 ∷ []
 
 pub long-target : FitSays long one-one (number 160000) sevens nines (fit.Refused 7) sevens cleared
-unfolding workOf refusalOfLists refusalOfLabels groups refusalAlong refusalOf fitAlong neg le eq refusalTo fitTo settle step keys keyOf leastOf costBelow absOf total startOf estimates roundedOf sumOf foldFrom pairsOf ofBits ofInt add sub mul div lt isNan
+unfolding workOf refusalOfLists refusalOfLabels groups refusalAlong refusalOf fitAlong naturals neg le eq refusalTo fitTo settle step keys keyOf leastOf costBelow absOf total startOf estimates roundedOf sumOf foldFrom pairsOf ofBits ofInt add sub mul div lt isNan
 long-target = record { answer = refl; output = refl; workspace = refl }
 
 -- at half the speed their first estimate gives 8 before that target does

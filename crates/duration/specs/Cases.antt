@@ -10,10 +10,10 @@ use Rattle.model.specs.Pair.{pairsOf, sumOf}
 use Rattle.duration.specs.declared.Fitted.the-variants as fit
 use Rattle.duration.specs.declared.Aligned.the-variants as align
 use Rattle.floats.specs.Numbers.{number}
-use Rattle.duration.specs.Estimate.{estimates}
+use Rattle.duration.specs.Estimate.{estimates, naturals}
 use Rattle.steps.specs.Steps.{keyOf, keys, leastOf, step, settle}
 use Rattle.duration.specs.Fit.{startOf, fitTo, refusalTo}
-use Rattle.duration.specs.Speed.{naturals, targetAt, fitAt, refusalAt}
+use Rattle.duration.specs.Speed.{targetAt, fitAt, refusalAt}
 use Rattle.duration.specs.Align.{groups, fitAlong, refusalOf, refusalAlong}
 use Rattle.duration.specs.Inputs.{two-three, one-one, sevens, nines, cleared, halves, unset}
 use Rattle.duration.specs.Promise.{workOf, refusalOfLists, refusalOfLabels, FitSays, SpeedSays, AlignSays}
@@ -69,19 +69,19 @@ unfolding workOf refusalOfLists refusalAt fitAt targetAt naturals eq refusalTo f
 case-job = record { answer = refl; output = refl; workspace = refl }
 
 pub case-8 : AlignSays two-three one-one 1 (unset ∷ number 8 ∷ []) sevens nines (align.Done 2 1) (3 ∷ 5 ∷ 7 ∷ []) cleared
-unfolding workOf refusalOfLists refusalOfLabels groups refusalAlong refusalOf fitAlong neg le eq refusalTo fitTo settle step keys keyOf leastOf costBelow absOf total startOf estimates roundedOf sumOf foldFrom pairsOf ofBits ofInt add sub mul div lt isNan
+unfolding workOf refusalOfLists refusalOfLabels groups refusalAlong refusalOf fitAlong naturals neg le eq refusalTo fitTo settle step keys keyOf leastOf costBelow absOf total startOf estimates roundedOf sumOf foldFrom pairsOf ofBits ofInt add sub mul div lt isNan
 case-8 = record { answer = refl; output = refl; workspace = refl }
 
-pub case-9-open : AlignSays two-three one-one 1 (number 4 ∷ unset ∷ []) sevens nines (align.Done 1 0) (4 ∷ 7 ∷ 7 ∷ []) cleared
-unfolding workOf refusalOfLists refusalOfLabels groups refusalAlong refusalOf fitAlong neg le eq refusalTo fitTo settle step keys keyOf leastOf costBelow absOf total startOf estimates roundedOf sumOf foldFrom pairsOf ofBits ofInt add sub mul div lt isNan
+pub case-9-open : AlignSays two-three one-one 1 (number 4 ∷ unset ∷ []) sevens nines (align.Done 2 0) (4 ∷ 3 ∷ 7 ∷ []) cleared
+unfolding workOf refusalOfLists refusalOfLabels groups refusalAlong refusalOf fitAlong naturals neg le eq refusalTo fitTo settle step keys keyOf leastOf costBelow absOf total startOf estimates roundedOf sumOf foldFrom pairsOf ofBits ofInt add sub mul div lt isNan
 case-9-open = record { answer = refl; output = refl; workspace = refl }
 
 -- 1.5 and 3.4
 pub case-9-close : AlignSays two-three one-one 1 (halves 3 ∷ ofBits binary64 0x400b_3333_3333_3333 ∷ []) sevens nines (align.Done 2 0) (2 ∷ 1 ∷ 7 ∷ []) cleared
-unfolding workOf refusalOfLists refusalOfLabels groups refusalAlong refusalOf fitAlong neg le eq refusalTo fitTo settle step keys keyOf leastOf costBelow absOf total startOf estimates roundedOf sumOf foldFrom pairsOf ofBits ofInt add sub mul div lt isNan
+unfolding workOf refusalOfLists refusalOfLabels groups refusalAlong refusalOf fitAlong naturals neg le eq refusalTo fitTo settle step keys keyOf leastOf costBelow absOf total startOf estimates roundedOf sumOf foldFrom pairsOf ofBits ofInt add sub mul div lt isNan
 case-9-close = record { answer = refl; output = refl; workspace = refl }
 
 -- the running total: the second label's own fit would be accepted
 pub running-total : AlignSays two-three one-one 1 (number 65536 ∷ number 65537 ∷ []) sevens nines (align.Refused 8) sevens cleared
-unfolding workOf refusalOfLists refusalOfLabels groups refusalAlong refusalOf fitAlong neg le eq refusalTo fitTo settle step keys keyOf leastOf costBelow absOf total startOf estimates roundedOf sumOf foldFrom pairsOf ofBits ofInt add sub mul div lt isNan
+unfolding workOf refusalOfLists refusalOfLabels groups refusalAlong refusalOf fitAlong naturals neg le eq refusalTo fitTo settle step keys keyOf leastOf costBelow absOf total startOf estimates roundedOf sumOf foldFrom pairsOf ofBits ofInt add sub mul div lt isNan
 running-total = record { answer = refl; output = refl; workspace = refl }

@@ -12,6 +12,9 @@ use Rattle.duration.specs.declared.Fitted.the-variants as fit
 use Rattle.duration.specs.declared.Aligned.{Aligned}
 use Rattle.duration.specs.declared.Aligned.the-variants as align
 use Rattle.steps.specs.Steps.{shortest, Outcome, unchanged, Settles}
+use Rattle.duration.specs.declared.align.End.{End}
+use Rattle.duration.specs.declared.align.End.the-variants.{At, Open}
+use Rattle.duration.specs.Estimate.{naturals}
 use Rattle.duration.specs.Fit.{rhoOf, startOf}
 use Rattle.duration.specs.Align.{Group, within, targetOf}
 
@@ -36,11 +39,20 @@ pub record Fair (ms vs : List Float) (t : ℕ) (o : Outcome) : Type 0 where
   pub by-states : o .changes ≡ distance (startOf ms vs t) (o .durations)
   pub nearest : (es : List ℕ) → length es ≡ length ms → total es ≡ t → distance (startOf ms vs t) (o .durations) ≤ distance (startOf ms vs t) es
 
--- a group's outcome after so many frames: fair where its target is above its count, and else the shortest duration for each state and no change
+-- of states with an end: fair where the target is above their count, and else the shortest duration for each state and no change
+pub record FairTo (ms vs : List Float) (t : ℕ) (o : Outcome) : Type 0 where
+  pub above : length ms < t → Fair ms vs t o
+  pub otherwise : t ≤ length ms → o ≡ unchanged (replicate (length ms) shortest)
+
+-- of states by their end: the tail has its natural durations
+abbrev pub FairToEnd : List Float → List Float → ℕ → End → Outcome → Type 0
+FairToEnd ms vs frames (At x) o = FairTo ms vs (targetOf x frames) o
+FairToEnd ms vs frames Open o = o ≡ unchanged (naturals ms vs)
+
+-- a group's outcome after so many frames: one duration a state
 pub record FairGroup (ms vs : List Float) (g : Group) (frames : ℕ) (o : Outcome) : Type 0 where
   pub count : length (o .durations) ≡ length (within g ms)
-  pub above : length (within g ms) < targetOf g frames → Fair (within g ms) (within g vs) (targetOf g frames) o
-  pub otherwise : targetOf g frames ≤ length (within g ms) → o ≡ unchanged (replicate (length (within g ms)) shortest)
+  pub by-end : FairToEnd (within g ms) (within g vs) frames (g .end) o
 
 -- group after group, from the frames so far
 pub data FairAlong (ms vs : List Float) : List Group → ℕ → List ℕ → ℕ → Type 0 where
@@ -68,9 +80,20 @@ pub record Accepted (ms vs : List Float) (t : ℕ) (out : List ℕ) (r : Fitted)
   pub output : out′ ≡ outcome .durations ++ drop (length ms) out
   pub fair : Fair ms vs t outcome
 
--- an alignment that is accepted, with a fair outcome group after group
+-- where the last of so many groups begins
+unfoldable pub lastFrom : List Group → ℕ
+lastFrom [] = 0
+lastFrom (g ∷ []) = g .from
+lastFrom (g ∷ h ∷ gs) = lastFrom (h ∷ gs)
+
+-- an alignment that is accepted: within the sizes, one duration a state, each at least the shortest, fair group after group, and the tail's natural
 pub record AcceptedAlong (ms vs : List Float) (gs : List Group) (out : List ℕ) (r : Aligned) (out′ : List ℕ) : Type 0 where
   pub outcome : Outcome
-  pub answer : r ≡ align.Done (length (outcome .durations)) (outcome .changes)
-  pub output : out′ ≡ outcome .durations ++ drop (length (outcome .durations)) out
+  pub answer : r ≡ align.Done (length ms) (outcome .changes)
+  pub output : out′ ≡ outcome .durations ++ drop (length ms) out
+  pub states : length ms ≤ mostStates
+  pub frames : total (outcome .durations) ≤ mostFrames
+  pub count : length (outcome .durations) ≡ length ms
+  pub positive : (i : ℕ) → i < length ms → shortest ≤ getD (outcome .durations) i 0
   pub fair : FairAlong ms vs gs 0 (outcome .durations) (outcome .changes)
+  pub natural : drop (lastFrom gs) (outcome .durations) ≡ naturals (drop (lastFrom gs) ms) (drop (lastFrom gs) vs)

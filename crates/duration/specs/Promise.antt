@@ -23,7 +23,7 @@ abbrev pub fitted : Fitted → Answer
 fitted (fit.Done changes) = record { number = 0; values = changes ∷ [] }
 fitted (fit.Refused number) = record { number = number; values = [] }
 
--- of an alignment: how many durations were written, and the unit changes
+-- of an alignment: how many durations were written, one a state, and the unit changes
 abbrev pub aligned : Aligned → Answer
 aligned (align.Done count changes) = record { number = 0; values = count ∷ changes ∷ [] }
 aligned (align.Refused number) = record { number = number; values = [] }
@@ -62,9 +62,9 @@ SpeedSays ms vs speed out work r =
     let o = fitAt ms vs speed in
     Says (orElse (refusalOfLists (length ms) (length vs) (length out) (length work)) (refusalAt ms vs speed)) (o .changes ∷ []) (o .durations) (length ms) out work (fitted r)
 
--- `create_with_alignment`
+-- `create_with_alignment`: one duration a state
 abbrev pub AlignSays : List Float → List Float → ℕ → List Float → List ℕ → List ℕ → Aligned → List ℕ → List ℕ → Type 0
 AlignSays ms vs nstate ends out work r =
     let gs = groups nstate 0 0 ends in
     let o = fitAlong ms vs gs 0 in
-    Says (orElse (refusalOfLabels nstate (length ends) (length ms) (length vs) (length out) (length work)) (refusalAlong ms vs gs 0)) (length (o .durations) ∷ o .changes ∷ []) (o .durations) (length ms) out work (aligned r)
+    Says (orElse (refusalOfLabels nstate (length ends) (length ms) (length vs) (length out) (length work)) (refusalAlong ms vs gs 0)) (length ms ∷ o .changes ∷ []) (o .durations) (length ms) out work (aligned r)

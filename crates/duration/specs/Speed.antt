@@ -7,20 +7,16 @@ use lib.Ieee.{Float, binary64, div, eq}
 use Rattle.lists.specs.Sizes.{mostFrames}
 use Rattle.lists.specs.Totals.{total}
 use Rattle.floats.specs.Rounding.{roundedOf}
-use Rattle.floats.specs.Numbers.{nought, one, number}
-use Rattle.duration.specs.Estimate.{estimates}
+use Rattle.floats.specs.Numbers.{one, number}
+use Rattle.duration.specs.Estimate.{naturals}
 use Rattle.steps.specs.Steps.{Outcome, unchanged}
 use Rattle.duration.specs.Fit.{fitTo, refusalTo}
 
--- RULES, Durations: a speed's first estimate has rho 0
-unfoldable pub naturals : List Float → List Float → List ℕ
-naturals ms vs = estimates nought ms vs
-
--- RULES, Durations: the frames of that estimate over the speed, rounded as a length is
+-- RULES, Durations: the frames of the natural durations over the speed, rounded as a length is
 unfoldable pub targetAt : List Float → List Float → Float → ℕ
 targetAt ms vs speed = roundedOf (div binary64 (number (total (naturals ms vs))) speed)
 
--- RULES, Durations: at speed 1 that estimate stands, with 0 changes; at any other speed the states are fitted to the target
+-- RULES, Durations: at speed 1 those stand, with 0 changes; at any other speed the states are fitted to the target
 unfoldable pub fitAt : List Float → List Float → Float → Outcome
 fitAt ms vs speed = cond (eq speed one) (unchanged (naturals ms vs)) (fitTo ms vs (targetAt ms vs speed))
 

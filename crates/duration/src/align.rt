@@ -1,8 +1,9 @@
-// Alignment: labels with an end close groups of states.
+// Alignment: labels with an end close groups of states, and the states after the last of them are the tail.
 ghost use mathlib.Core.Path.{_≡_};
-ghost use Rattle.duration.specs.Align.{labelOf, groups, fitAlong, refusalAlong};
-ghost use Rattle.duration.specs.Inner.Asked.{Lies, closed, Closes, Labelled, AtFront};
-use crate::Aligned;
+ghost use mathlib.Core.List.{[], _∷_};
+ghost use Rattle.duration.specs.Align.{labelOf, given, tail, groups, fitAlong, refusalAlong};
+ghost use Rattle.duration.specs.Promise.{fitted};
+ghost use Rattle.duration.specs.Inner.Asked.{InPlace, Lies, closed, grown, Closes, Labelled};
 use crate::Fitted;
 
 // A label's end: a time in frames, or open.
@@ -51,7 +52,7 @@ impl Closed {
     }
 }
 
-// Fits the states from one place up to another to the end that they are given, after so many frames, in place in work.
+// Fits the states from one place up to another to the end that they are given, after so many frames, in their place in work.
 fn close_group(
     means: &[f64],
     varis: &[f64],
@@ -61,8 +62,8 @@ fn close_group(
     to: usize,
     work: &mut [u32],
 ) -> Closed
-    requires { ⌜ Lies (now means) (now varis) (now work) (record { from = from; to = to; end = end }) frames ⌝ }
-    ensures { λ r. ⌜ Closes (now (means .entry)) (now (varis .entry)) (record { from = from; to = to; end = end }) frames (now (work .entry)) r (now (work .exit)) ⌝ }
+    requires { ⌜ Lies (now means) (now varis) (now work) (given from to end) frames ⌝ }
+    ensures { λ r. ⌜ Closes (now (means .entry)) (now (varis .entry)) (given from to end) frames (now (work .entry)) (grown (now (means .entry)) (now (varis .entry)) (given from to end) frames) (closed r) (now (work .exit)) ⌝ }
 {
     let target = floats::rounded(end - (frames as f64));
     let answer = crate::fit::fit(
@@ -81,16 +82,40 @@ fn close_group(
     Closed::Grown(changes, sum as u32)
 }
 
-// Fits each group of labels to its end, in place in work, and counts the states of closed groups and the unit changes.
+// Gives the states from one place up to another, the tail, their natural durations, after so many frames, in their place in work.
+// The answer is the alignment's, with the changes that there were.
+fn close_tail(
+    means: &[f64],
+    varis: &[f64],
+    frames: u32,
+    changes: u32,
+    from: usize,
+    to: usize,
+    work: &mut [u32],
+) -> Fitted
+    requires { ⌜ Lies (now means) (now varis) (now work) (tail from to) frames ⌝ }
+    ensures { λ r. ⌜ Closes (now (means .entry)) (now (varis .entry)) (tail from to) frames (now (work .entry)) (changes ∷ []) (fitted r) (now (work .exit)) ⌝ }
+{
+    if from == to {
+        return Fitted::Done(changes);
+    }
+    crate::fit::estimate_duration(&means[from..to], &varis[from..to], 0.0, &mut work[from..to]);
+    if lists::total_u32(&work[from..to]) > (65_536 - frames) as u64 {
+        return Fitted::Refused(8);
+    }
+    Fitted::Done(changes)
+}
+
+// Fits each group of labels to its end, in place in work, and then the tail, and counts the unit changes.
 pub(crate) fn fit_along(
     means: &[f64],
     varis: &[f64],
     nstate: usize,
     ends: &[f64],
     work: &mut [u32],
-) -> Aligned
+) -> Fitted
     requires { ⌜ Labelled (now means) (now varis) nstate (now ends) (now work) ⌝ }
-    ensures { λ r. ⌜ AtFront (refusalAlong (now (means .entry)) (now (varis .entry)) (groups nstate 0 0 (now (ends .entry))) 0) (fitAlong (now (means .entry)) (now (varis .entry)) (groups nstate 0 0 (now (ends .entry))) 0) r (now (work .exit)) ⌝ }
+    ensures { λ r. ⌜ InPlace (refusalAlong (now (means .entry)) (now (varis .entry)) (groups nstate 0 0 (now (ends .entry))) 0) (fitAlong (now (means .entry)) (now (varis .entry)) (groups nstate 0 0 (now (ends .entry))) 0) r (now (work .exit)) ⌝ }
 {
     let mut done = 0;
     let mut first = 0;
@@ -108,7 +133,7 @@ pub(crate) fn fit_along(
             End::At(time) => {
                 let group = close_group(means, varis, time, frames, done, next, work);
                 let Closed::Grown(more, length) = group else {
-                    return Aligned::Refused(group.number());
+                    return Fitted::Refused(group.number());
                 };
                 changes += more;
                 frames += length;
@@ -116,5 +141,5 @@ pub(crate) fn fit_along(
             }
         }
     }
-    Aligned::Done(done as u32, changes)
+    close_tail(means, varis, frames, changes, done, first, work)
 }

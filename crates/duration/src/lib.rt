@@ -124,7 +124,7 @@ pub fn create(means: &[f64], varis: &[f64], speed: f64, out: &mut [u32], work: &
     hand_out(answer, n, out, work)
 }
 
-// The states' durations, with each label that has an end closed at it: how many were written, and the unit changes.
+// The states' durations, with each label that has an end closed at it: how many they are, one a state, and the unit changes.
 pub fn create_with_alignment(
     means: &[f64],
     varis: &[f64],
@@ -141,12 +141,10 @@ pub fn create_with_alignment(
     if refusal != 0 {
         return Aligned::Refused(refusal);
     }
-    let answer = align::fit_along(means, varis, width, ends, &mut work[..n]);
-    let Aligned::Done(written, _) = answer else {
-        lists::fill_u32(work, n, 0);
-        return answer;
+    let fitted = align::fit_along(means, varis, width, ends, &mut work[..n]);
+    let answer = hand_out(fitted, n, out, work);
+    let Fitted::Done(changes) = answer else {
+        return Aligned::Refused(answer.number());
     };
-    lists::copy_u32(work, written as usize, out);
-    lists::fill_u32(work, n, 0);
-    answer
+    Aligned::Done(n as u32, changes)
 }

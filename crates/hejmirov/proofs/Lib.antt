@@ -1,2 +1,3 @@
 -- The laws of the C calls.
 pub mod One
+pub mod Rendering

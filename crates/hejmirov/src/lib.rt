@@ -66,7 +66,7 @@ fn hand_out_fit(answer: Fitted, changes: &mut u32) -> u32
     }
 }
 
-// States' durations, with each label that has an end closed at it.
+// States' durations, one a state, with each label that has an end closed at it.
 #[no_mangle]
 pub extern "C" fn hejmirov_align(
     means: &[f64],

@@ -13,7 +13,8 @@ use Rattle.lists.specs.Totals.{total}
 use Rattle.floats.specs.Numbers.{nought, one}
 use Rattle.steps.specs.Steps.{shortest, Outcome, unchanged}
 use Rattle.duration.specs.Fit.{startOf, atShortest, fitTo, refusalTo}
-use Rattle.duration.specs.Speed.{naturals, targetAt, fitAt, refusalAt}
+use Rattle.duration.specs.Estimate.{naturals}
+use Rattle.duration.specs.Speed.{targetAt, fitAt, refusalAt}
 use Rattle.duration.proofs.Refusals.{cond-none}
 use Rattle.duration.proofs.Estimates.{length-estimates}
 use Rattle.duration.proofs.Fairness.{fair-fit}

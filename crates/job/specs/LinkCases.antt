@@ -12,10 +12,10 @@ use Rattle.lists.specs.Totals.{total}
 use Rattle.floats.specs.Rounding.{roundedOf}
 use Rattle.floats.specs.Order.{absOf, costBelow}
 use Rattle.model.specs.Pair.{pairsOf, sumOf}
-use Rattle.duration.specs.Estimate.{estimates}
+use Rattle.duration.specs.Estimate.{estimates, naturals}
 use Rattle.steps.specs.Steps.{keyOf, keys, leastOf, step, settle}
 use Rattle.duration.specs.Fit.{startOf, fitTo, refusalTo}
-use Rattle.duration.specs.Speed.{naturals, targetAt, fitAt, refusalAt}
+use Rattle.duration.specs.Speed.{targetAt, fitAt, refusalAt}
 use Rattle.duration.specs.Promise.{workOf, refusalOfLists}
 use Rattle.job.specs.declared.Answered.the-variants.{Done, Refused}
 use Rattle.job.specs.declared.link.Linked.the-variants.{Taken, Refused as Linked·Refused}

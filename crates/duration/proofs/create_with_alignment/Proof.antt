@@ -1,14 +1,16 @@
 -- `duration::create_with_alignment` meets its contract.
-use mathlib.Core.Path.{_≡_, refl, sym, ap, _∙_, subst}
-use mathlib.Core.List.{List}
+use mathlib.Core.Path.{_≡_, sym, _∙_, subst}
+use mathlib.Core.List.{List, [], _∷_}
 use Prim.Native.Nat.{ℕ, _≤_}
+use native.Mathlib.Omega.{arith}
 use borrow.Author.Needs.{needs}
 use lib.ListN.{length}
 use lib.Seq.{length-take-le}
-use Rattle.duration.specs.Promise.{aligned, refusalOfLabels}
+use Rattle.duration.specs.Promise.{fitted, refusalOfLabels, Says}
+use Rattle.duration.specs.Align.{groups, fitAlong, refusalAlong}
 use Rattle.duration.proofs.Refusals.{Labels, Fitting, labelled, labels-early}
 use Rattle.duration.proofs.Closing.{along-clears}
-use Rattle.duration.proofs.Calls.{says-early, says-late, says-front}
+use Rattle.duration.proofs.Calls.{says-early, says-handed, aligned-done, aligned-refused}
 use Rattle.duration.proofs.create_with_alignment.Statement.{statement}
 use Rattle.duration.proofs.create_with_alignment.Tie as tie
 
@@ -47,18 +49,26 @@ fit-along-requires c κs =
     let s = lists (c .before) in
     record { lists = record { few = s .1 .few; varis = s .1 .agree; workspace = length-take-le _ _ (s .1 .workspace) }; some = s .0 .some; cover = s .0 .cover }
 
+-- the answer that was handed out
+module _ (c : tie.After-hand-out) where
+  abbrev run : tie.After-fit-along
+  run = c .before .before .before .before .before
+
+  says : let a = entry (run .before .before) .args in let gs = groups (a .nstate) 0 0 (a .ends .now) in let o = fitAlong (a .means .now) (a .varis .now) gs 0 in Says (refusalAlong (a .means .now) (a .varis .now) gs 0) (o .changes ∷ []) (o .durations) (length (a .means .now)) (a .out .now) (a .work .now) (fitted (c .hand-out .result)) (c .hand-out .last .1 .1 .0) (c .hand-out .last .1 .1 .1 .0)
+  says = says-handed _ _ _ _ _ (W run) (W-length run) (along-clears _ _ _ _) _ _ _ _ _ (run .fit-along .ensures .answer) (run .fit-along .ensures .output) (lists (run .before .before) .1 .output) (c .hand-out .ensures)
+
+cast-t25 : tie.Need-cast-t25
+cast-t25 c = omega (arith, lists (run (c .before .before .before .before .before .before .before) .before .before) .1 .few)
+
 returns-2 : tie.Need-returns-2
 returns-2 c =
-    let f = c .before .before .before .before .before .before .before .before in
-    rw (none (f .before .before))
-    (says-late _ _ _ _ _ (W f) (W-length f) (along-clears _ _ _ _) _ _ _ _ _ (ap aligned (c .before .before .before .before .enum-told .given .1)) (f .fit-along .ensures .answer) (c .before .before .fill-u32 .ensures))
+    let h = c .before .before .before .before .before .before .before in
+    rw (none (run h .before .before)) (aligned-refused _ _ _ _ _ _ _ _ _ (says h) _ _ (c .before .enum-told .given .1) (c .number .ensures))
 
 returns-3 : tie.Need-returns-3
 returns-3 c =
-    let t = c .before .before .before .before .before .before .before .before .before in
-    let f = t .before .before .before .before .before in
-    rw (none (f .before .before))
-    (says-front _ _ _ _ _ (W f) (W-length f) (along-clears _ _ _ _) _ _ _ _ _ _ refl (ap aligned (sym (t .before .answer .given .1)) ∙ f .fit-along .ensures .answer) (lists (f .before .before) .1 .output) (f .fit-along .ensures .output) (c .before .before .before .before .before .before .copy-u32 .ensures) (c .before .before .fill-u322 .ensures))
+    let h = c .before .before .before .before .before .before .before in
+    rw (none (run h .before .before)) (aligned-done _ _ _ _ _ _ _ _ _ (says h) _ (c .before .answer .given .1))
 
 pub create-with-alignment-spec : {M : Type 1} → statement M
 create-with-alignment-spec =
@@ -69,14 +79,14 @@ create-with-alignment-spec =
     slice-relend-prefix-fit-along
     slice-aggregate-fit-along
     fit-along-requires
+    (λ c κs. search needs)
     (λ c. search needs)
     (λ c. search needs)
     (λ c κs. search needs)
+    (λ c. search needs)
     (λ c. search needs)
     returns-2
-    (λ c. search needs)
-    (λ c κs. search needs)
-    (λ c κs. search needs)
+    cast-t25
     (λ c. search needs)
     (λ c. search needs)
     returns-3)

@@ -9,13 +9,12 @@ use Rattle.lists.specs.Sizes.{mostFrames, mostStates}
 use Rattle.lists.specs.Totals.{total}
 use Rattle.duration.specs.declared.Fitted.{Fitted}
 use Rattle.duration.specs.declared.Fitted.the-variants as fit
-use Rattle.duration.specs.declared.Aligned.{Aligned}
 use Rattle.duration.specs.declared.align.Closed.{Closed}
 use Rattle.duration.specs.declared.align.Closed.the-variants as close
 use Rattle.steps.specs.Steps.{Outcome}
 use Rattle.duration.specs.Align.{Group, fitOf, refusalOf}
 use Rattle.lists.specs.Answers.{Answer, answerOf}
-use Rattle.duration.specs.Promise.{fitted, aligned}
+use Rattle.duration.specs.Promise.{fitted}
 
 -- lists that agree, with one number of the work space a state
 pub record Agree (ms vs : List Float) (work : List ℕ) : Type 0 where
@@ -50,9 +49,13 @@ abbrev pub closed : Closed → Answer
 closed (close.Grown changes frames) = record { number = 0; values = changes ∷ frames ∷ [] }
 closed (close.Refused number) = record { number = number; values = [] }
 
--- a group's outcome in its place, or its refusal
-pub record Closes (ms vs : List Float) (g : Group) (frames : ℕ) (work : List ℕ) (r : Closed) (work′ : List ℕ) : Type 0 where
-  pub answer : closed r ≡ answerOf (refusalOf ms vs g frames) (fitOf ms vs g frames .changes ∷ total (fitOf ms vs g frames .durations) ∷ [])
+-- what a group that is not refused adds
+abbrev pub grown : List Float → List Float → Group → ℕ → List ℕ
+grown ms vs g frames = fitOf ms vs g frames .changes ∷ total (fitOf ms vs g frames .durations) ∷ []
+
+-- a group's outcome in its place and these values as the answer, or its refusal
+pub record Closes (ms vs : List Float) (g : Group) (frames : ℕ) (work values : List ℕ) (a : Answer) (work′ : List ℕ) : Type 0 where
+  pub answer : a ≡ answerOf (refusalOf ms vs g frames) values
   pub output : refusalOf ms vs g frames ≡ 0 → work′ ≡ take (g .from) work ++ (fitOf ms vs g frames .durations ++ drop (g .to) work)
 
 -- labels of k states each that cover the lists
@@ -60,8 +63,3 @@ pub record Labelled (ms vs : List Float) (k : ℕ) (ends : List Float) (work : L
   pub lists : Agree ms vs work
   pub some : 1 ≤ k
   pub cover : length ends * k ≡ length ms
-
--- an alignment's outcome at the front of the work space, or its refusal
-pub record AtFront (k : ℕ) (o : Outcome) (r : Aligned) (work′ : List ℕ) : Type 0 where
-  pub answer : aligned r ≡ answerOf k (length (o .durations) ∷ o .changes ∷ [])
-  pub output : k ≡ 0 → take (length (o .durations)) work′ ≡ o .durations

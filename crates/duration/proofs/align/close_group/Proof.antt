@@ -9,9 +9,9 @@ use lib.ListN.{length, take, drop}
 use lib.Ieee.{Float}
 use Rattle.lists.specs.Totals.{total}
 use Rattle.duration.specs.Fit.{fitTo, refusalTo}
-use Rattle.duration.specs.Align.{Group, within, targetOf, fitOf}
+use Rattle.duration.specs.Align.{Group, given, within, targetOf, fitOf}
 use Rattle.duration.specs.Inner.Asked.{InPlace}
-use Rattle.duration.proofs.Closing.{close-refused, close-long, close-grown, part-back, counted}
+use Rattle.duration.proofs.Closing.{close-refused, close-long, close-grown, counted}
 use Rattle.duration.proofs.align.close_group.Statement.{statement}
 use Rattle.duration.proofs.align.close_group.Tie as tie
 
@@ -21,7 +21,7 @@ module _ (c : tie.After-fit) where
   entry = c .before .before .before .before .before .before .before .before .before
 
   abbrev group : Group
-  group = record { from = entry .args .from; to = entry .args .to; end = entry .args .end }
+  group = given (entry .args .from) (entry .args .to) (entry .args .end)
 
   abbrev means : List Float
   means = entry .args .means .now
@@ -32,7 +32,7 @@ module _ (c : tie.After-fit) where
   abbrev W : List ℕ
   W = c .fit .last .1 .1 .1 .0
 
-  fits : InPlace (refusalTo (within group means) (within group varis) (targetOf group (entry .args .frames))) (fitOf means varis group (entry .args .frames)) (c .fit .result) W
+  fits : InPlace (refusalTo (within group means) (within group varis) (targetOf (entry .args .end) (entry .args .frames))) (fitOf means varis group (entry .args .frames)) (c .fit .result) W
   fits = subst (λ (t : ℕ). InPlace (refusalTo (within group means) (within group varis) t) (fitTo (within group means) (within group varis) t) (c .fit .result) W) (c .before .before .before .before .rounded .ensures) (c .fit .ensures)
 
 -- where the frames are counted
@@ -47,21 +47,21 @@ module _ (c : tie.After-total-u32) where
       let w = W fitted in
       let n : length w ≡ a .to - a .from = fitted .fit .kept .1 .1 .1 .0 ∙ mid-len (a .from) (a .to) (a .work .now) (omega (arith, st .pre .inside, st .pre .lists .workspace)) in
       let h : a .from ≤ length (a .work .now) = omega (arith, st .pre .order, st .pre .inside, st .pre .lists .workspace) in
-      counted _ (take (a .to - a .from) (drop (a .from) (take (a .from) (a .work .now) ++ (w ++ postOf (a .from) (a .to - a .from) (a .work .now))))) w (c .total-u32 .ensures) (part-back (a .work .now) w (a .from) (a .to - a .from) (postOf (a .from) (a .to - a .from) (a .work .now)) h n) (omega (arith, n, st .pre .inside, st .pre .lists .few))
+      counted _ (a .work .now) w (postOf (a .from) (a .to - a .from) (a .work .now)) (a .from) (a .to - a .from) (c .total-u32 .ensures) h n (omega (arith, st .pre .inside, st .pre .lists .few))
 
 returns : tie.Need-returns
-returns c = close-refused _ _ _ _ _ _ _ _ (fits (c .before .before .before .before .before)) _ _ (c .before .enum-told .given .1) (c .number .ensures)
+returns c = close-refused _ _ _ _ _ _ _ _ _ _ (fits (c .before .before .before .before .before)) _ _ (c .before .enum-told .given .1) (c .number .ensures)
 
 returns-2 : tie.Need-returns-2
 returns-2 c =
     let f = fitted (c .before) in
-    close-long _ _ _ _ _ _ _ _ (fits f) _ _ (c .before .before .before .before .before .answer .given .1) (sum (c .before)) (omega (arith, c .if1 .taken, entry f .pre .few))
+    close-long _ _ _ _ _ _ _ _ _ _ (fits f) _ _ (c .before .before .before .before .before .answer .given .1) (sum (c .before)) (omega (arith, c .if1 .taken, entry f .pre .few))
 
 returns-3 : tie.Need-returns-3
 returns-3 c =
     let f = fitted (c .before) in
     let a = entry f .args in
-    close-grown _ _ _ _ _ _ _ _ (fits f) _ _ (c .before .before .before .before .before .answer .given .1) (sum (c .before)) (omega (arith, c .if1 .left, entry f .pre .few))
+    close-grown _ _ _ _ _ _ _ _ _ _ (fits f) _ _ (c .before .before .before .before .before .answer .given .1) (sum (c .before)) (omega (arith, c .if1 .left, entry f .pre .few))
     (ap (λ (l : List ℕ). take (a .from) (a .work .now) ++ (W f ++ l)) (post-is (a .from) (a .to) (a .work .now) (entry f .pre .order)))
 
 pub close-group-spec : {M : Type 1} → statement M

@@ -1,10 +1,10 @@
 -- `duration::align::fit_along` meets its contract.
-use mathlib.Core.Path.{_∙_}
+use mathlib.Core.Path.{_≡_, _∙_}
 use Prim.Native.Nat.{_-_}
 use native.Mathlib.Omega.{arith}
 use borrow.Author.Needs.{needs}
 use lib.ListN.{length}
-use Rattle.duration.proofs.Along.{Along, along, next-in, along-open, group-lies, Turn, turn-refused, turn-frames, turn-changes, turn-grown, along-done}
+use Rattle.duration.proofs.Along.{Along, along, next-in, along-open, group-lies, Turn, turn-refused, turn-frames, turn-changes, turn-grown, lies, all-passed, along-done}
 use Rattle.duration.proofs.align.fit_along.Statement.{statement}
 use Rattle.duration.proofs.align.fit_along.Tie as tie
 
@@ -23,7 +23,7 @@ module _ (c : tie.After-close-group Inv-loop μ-loop) where
   head = c .before .before .before .before .before .before .before .before .before
 
   turn : let a = entry head .args in Turn (a .means .now) (a .varis .now) (a .nstate) (a .ends .now) (a .work .now) (head .loop .work) (head .loop .done) (head .loop .first) (head .loop .frames) (head .loop .changes) (head .loop .i) (c .before .before .before .before .before .before .new .result) (c .before .before .before .end .given .0 .0) (c .close-group .result) (c .close-group .last .1 .1 .1 .1 .1 .1 .0)
-  turn = record { labels = entry head .pre; before = head .loop .inv; here = c .before .before .before .before .before .before .before .before .loop-test .taken; made = c .before .before .before .before .before .before .new .ensures; given = c .before .before .before .end .given .1; closes = c .close-group .ensures }
+  turn = record { labels = entry head .pre; before = head .loop .inv; here = c .before .before .before .before .before .before .before .before .loop-test .taken; made = c .before .before .before .before .before .before .new .ensures; ends-at = c .before .before .before .end .given .1; closes = c .close-group .ensures }
 
 loop-holds : tie.Need-loop-holds Inv-loop μ-loop
 loop-holds c = along _ _ _ _ _ (c .before .before .before .before .pre)
@@ -52,14 +52,27 @@ add-frames c = omega (arith, turn-frames _ _ _ _ (turn (c .before .before .befor
 loop-again-2 : tie.Need-loop-again-2 Inv-loop μ-loop
 loop-again-2 c = let g = c .before .before .before .before .before in turn-grown _ _ _ _ (turn g) _ _ (c .before .group .given .1) (g .close-group .kept .1 .1 .1 .1 .1 .1 .0)
 
-cast-t25 : tie.Need-cast-t25 Inv-loop μ-loop
-cast-t25 c = let l = c .before .loop in omega (arith, l .inv .order, l .inv .place, entry (c .before) .pre .lists .few)
+-- where the tail has been closed, or refused
+module _ (c : tie.After-close-tail Inv-loop μ-loop) where
+  abbrev last : tie.At-loop Inv-loop μ-loop
+  last = c .before .before .before
+
+  long : length (c .close-tail .last .1 .1 .1 .1 .1 .1 .0) ≡ length (last .loop .work)
+  long = c .close-tail .kept .1 .1 .1 .1 .1 .1 .0
+
+close-tail-requires : tie.Need-close-tail-requires Inv-loop μ-loop
+close-tail-requires c κs =
+    let h = c .before .before in
+    let end = all-passed _ _ _ _ _ _ _ _ _ _ _ (entry h .pre) (h .loop .inv) (c .before .loop-test .left) in
+    lies _ _ _ _ _ _ _ _ _ _ _ (entry h .pre) (h .loop .inv) _ _ (h .loop .inv .order) (omega arith)
 
 same-length-2 : tie.Need-same-length-2 Inv-loop μ-loop
-same-length-2 c = c .before .loop .inv .long
+same-length-2 c = let g = c .before .before in long g ∙ last g .loop .inv .long
 
 returns-2 : tie.Need-returns-2 Inv-loop μ-loop
-returns-2 c = along-done _ _ _ _ _ _ _ _ _ _ _ (entry (c .before) .pre) (c .before .loop .inv) (c .loop-test .left)
+returns-2 c =
+    let g = c .before .before in
+    along-done _ _ _ _ _ _ _ _ _ _ _ (entry (last g) .pre) (last g .loop .inv) (g .before .before .loop-test .left) _ (long g) _ (g .close-tail .ensures)
 
 pub fit-along-spec : {M : Type 1} → statement M
 fit-along-spec =
@@ -87,6 +100,6 @@ fit-along-spec =
     add-frames
     (λ c. search needs)
     loop-again-2
-    cast-t25
+    close-tail-requires
     same-length-2
     returns-2)

@@ -12,7 +12,8 @@ use Rattle.lists.specs.Totals.{total}
 use Rattle.lists.proofs.Sums.{total-whole}
 use Rattle.floats.specs.Rounding.{roundedOf}
 use Rattle.floats.specs.Numbers.{number}
-use Rattle.duration.specs.Speed.{naturals, targetAt}
+use Rattle.duration.specs.Estimate.{naturals}
+use Rattle.duration.specs.Speed.{targetAt}
 use Rattle.duration.proofs.Fits.{speed-long, speed-one, speed-other}
 use Rattle.duration.proofs.speed.fit_at.Statement.{statement}
 use Rattle.duration.proofs.speed.fit_at.Tie as tie

@@ -1,0 +1,57 @@
+-- After an alignment that is accepted the trajectory of the same states is never refused for its durations.
+use mathlib.Core.Path.{_≡_, sym, ap, _∙_}
+use mathlib.Core.List.{List}
+use Prim.Native.Nat.{ℕ, _*_, _≤_}
+use lib.ListN.{length, take}
+use lib.Seq.{take-at}
+use lib.Ieee.{Float}
+use borrow.Author.Tests.{le-ltb, eq-eqb}
+use Rattle.lists.specs.Sizes.{mostStates, mostFrames}
+use Rattle.lists.specs.Totals.{total}
+use Rattle.duration.specs.Promise.{aligned}
+use Rattle.duration.specs.Align.{groups}
+use Rattle.duration.specs.Fitting.{AcceptedAlong}
+use Rattle.duration.proofs.Aligning.{align-theorem}
+use Rattle.mlpg_adjust.specs.Trajectory.{stateSize}
+use Rattle.mlpg_adjust.specs.Promise.{lengthsOf, disagree, createRefusal}
+use Rattle.mlpg_adjust.specs.declared.Stream.{Stream}
+use Rattle.hejmirov.specs.Promise.{handed, streamOf, AlignCallSays, TrajectoryCallSays}
+use Rattle.hejmirov.specs.Rendering.{refusalBeside, Ready, Blameless}
+
+-- durations within the sizes refuse nothing
+beside : (s : Stream) (widths : List ℕ) (coefs records gv : List Float) (switches : List ℕ) (out work : List Float) (marks ds : List ℕ) → length ds ≤ mostStates → total ds ≤ mostFrames
+    → createRefusal s widths coefs ds (lengthsOf records gv switches out work marks) ≡ refusalBeside s widths coefs records gv switches out work marks (length ds) (total ds)
+unfolding createRefusal refusalBeside
+beside s widths coefs records gv switches out work marks ds h k = rw (le-ltb mostStates (length ds) h, le-ltb mostFrames (total ds) k)
+
+ready : (s : Stream) (widths : List ℕ) (coefs records gv : List Float) (switches : List ℕ) (out work : List Float) (marks : List ℕ) (n frames : ℕ)
+    → Ready s widths coefs records gv switches out work marks n frames → refusalBeside s widths coefs records gv switches out work marks n frames ≡ 0
+unfolding refusalBeside disagree
+ready s widths coefs records gv switches out work marks n frames r =
+    rw (r .windows, r .finite, r .components, eq-eqb (length coefs) (total widths) (r .coefficients), eq-eqb (length records) (n * stateSize s widths) (r .states), r .variance, r .room)
+
+-- what `hejmirov_align` has handed out
+module _ (ms vs : List Float) (nstate : ℕ) (ends : List Float) (out work : List ℕ) (written changes : ℕ) (out′ work′ : List ℕ) (written′ changes′ : ℕ)
+    (a : AlignCallSays ms vs nstate ends out work written changes 0 out′ work′ written′ changes′) where
+  accepted : AcceptedAlong ms vs (groups nstate 0 0 ends) out (a .answer) out′
+  accepted = align-theorem ms vs nstate ends out work (a .answer) out′ work′ (sym (a .gives .answers)) (a .says)
+
+  -- as many durations as states
+  pub align-written : written′ ≡ length ms
+  align-written = a .gives .first ∙ ap (λ r. handed (aligned r .values) 0 written) (accepted .answer)
+
+  -- in `hejmirov_trajectory`, with whatever records, windows and room
+  pub align-blameless : (v masked : ℕ) (threshold none : Float) (gvOn : ℕ) (weight : Float) (widths : List ℕ) (coefs records gv : List Float) (switches : List ℕ)
+      (numbers floats : List Float) (marks : List ℕ) (r : ℕ) (numbers′ floats′ : List Float) (marks′ : List ℕ)
+      → TrajectoryCallSays v masked threshold none gvOn weight widths coefs records (take written′ out′) gv switches numbers floats marks r numbers′ floats′ marks′
+      → Blameless (streamOf v masked threshold none gvOn weight) widths coefs records gv switches numbers floats marks (length ms) (take written′ out′) r
+  align-blameless v masked threshold none gvOn weight widths coefs records gv switches numbers floats marks r numbers′ floats′ marks′ t =
+      let o = accepted .outcome in
+      let ds : take written′ out′ ≡ o .durations = ap (λ (m : ℕ). take m out′) align-written ∙ ap (take (length ms)) (accepted .output) ∙ take-at (o .durations) _ (length ms) (accepted .count) in
+      let n : length (take written′ out′) ≡ length ms = ap length ds ∙ accepted .count in
+      let f : total (take written′ out′) ≤ mostFrames = rw ds (accepted .frames) in
+      let e : r ≡ refusalBeside (streamOf v masked threshold none gvOn weight) widths coefs records gv switches numbers floats marks (length ms) (total (take written′ out′)) =
+      t .gives ∙ t .says .number
+      ∙ beside (streamOf v masked threshold none gvOn weight) widths coefs records gv switches numbers floats marks (take written′ out′) (rw n (accepted .states)) f
+      ∙ ap (λ (m : ℕ). refusalBeside (streamOf v masked threshold none gvOn weight) widths coefs records gv switches numbers floats marks m (total (take written′ out′))) n in
+      record { count = n; frames = f; answers = e; accepted = λ q. e ∙ ready (streamOf v masked threshold none gvOn weight) widths coefs records gv switches numbers floats marks (length ms) (total (take written′ out′)) q }
