@@ -35,7 +35,7 @@
 extern "C" {
 #endif
 
-#define HEJMIROV_VERSION "0.1.0"
+#define HEJMIROV_VERSION "0.2.0"
 
 /* Limits: more is refused. All but the frames of a place, which are any 32-bit number. */
 #define HEJMIROV_MAX_WINDOWS 4       /* windows in a set, at least 1 */
@@ -143,18 +143,20 @@ uint32_t hejmirov_speed(const double *means, size_t n_means,
  *   nstate         states a label, 1 to 16
  *   ends           one end a label: a time in frames from the utterance's start, or
  *                  HEJMIROV_OPEN_END; -0.0 is a time
- *   out            room for n numbers; afterwards the durations of the states up to the last given
- *                  end; the numbers after them stay as they were
+ *   out            afterwards the n durations, each at least 1
  *   work           n numbers; afterwards n zeros
- *   written        afterwards how many durations were written
+ *   written        afterwards n, the number of durations
  *   changes        afterwards the fits' changes, summed
  *
  * A label with an end closes a group of all states since the last given end; the group is fitted to
- * its end less the frames so far.
+ * its end less the frames so far. The states after the last given end, all of them where none is
+ * given, get their estimates, as hejmirov_speed gives them at speed 1.0, and add no changes. With
+ * no labels written and changes are 0.
  *
  * Refused with 3: n above 4,096, or nstate out of range. 4: n is not n_ends x nstate, or n_varis is
  * not n. 6: n_out or n_work below n. 7, 8: as hejmirov_fit, group after group; 8 also where the
- * frames so far and the group's own are above 65,536.
+ * frames so far and the group's own are above 65,536. Then 8: the frames so far and the estimates
+ * after the last given end are above 65,536.
  */
 uint32_t hejmirov_align(const double *means, size_t n_means,
                         const double *varis, size_t n_varis,

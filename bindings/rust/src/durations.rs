@@ -5,7 +5,7 @@ use crate::{JOB_HEAD_BYTES, JOB_STATE_BYTES, MAX_JOB_STATES, MAX_STATES, Refusal
 /// States' durations, and how they came to be.
 #[derive(Clone, Debug, Default, PartialEq, Eq)]
 pub struct Fitted {
-    /// Frames a state, each at least 1. From an [`align`]ment the states up to the last given end.
+    /// Frames a state, each at least 1.
     pub durations: Vec<u32>,
     /// How many frames were added or taken away, one at a time.
     pub changes: u32,
@@ -25,7 +25,7 @@ impl Fitted {
 /// What an [`align_into`] wrote.
 #[derive(Clone, Copy, Debug, PartialEq, Eq)]
 pub struct Aligned {
-    /// How many durations were written: the states up to the last given end.
+    /// How many durations were written: one a state.
     pub written: u32,
     /// The fits' changes, summed.
     pub changes: u32,
@@ -191,15 +191,16 @@ pub fn speed_into(
 /// A label has `nstate` states and one end: a time in frames from the utterance's start, or
 /// [`OPEN_END`](crate::OPEN_END). A label with an end closes a group of all states since the last
 /// given end, and the group is [`fit`]ted to its end less the frames so far. States after the last
-/// given end get no duration.
+/// given end, all of them where none is given, get their estimates, as at [`speed`] 1, and add no
+/// changes.
 ///
 /// # Errors
 ///
 /// [`BadSize`](Refusal::BadSize): more than 4,096 states, or `nstate` is not 1 to 16.
 /// [`ListsDisagree`](Refusal::ListsDisagree): the states are not labels × `nstate`, or there is
 /// another number of variances. Those of [`fit`], group after group;
-/// [`EstimateTooLong`](Refusal::EstimateTooLong) also where the frames so far and a group's own are
-/// above 65,536.
+/// [`EstimateTooLong`](Refusal::EstimateTooLong) also where the frames so far are above 65,536 with a
+/// group's own, or with the estimates after the last given end.
 ///
 /// # Examples
 ///
@@ -209,24 +210,20 @@ pub fn speed_into(
 /// let (means, varis) = ([2.0, 3.0], [1.0, 1.0]);
 /// let both = hejmirov::align(&means, &varis, 1, &[OPEN_END, 8.0])?;
 /// assert_eq!(both.durations, [3, 5]);
-/// let first = hejmirov::align(&means, &varis, 1, &[4.0, OPEN_END])?;
-/// assert_eq!(first.durations, [4]);
+/// let tail = hejmirov::align(&means, &varis, 1, &[4.0, OPEN_END])?;
+/// assert_eq!(tail.durations, [4, 3]);
 /// # Ok::<(), hejmirov::Refusal>(())
 /// ```
 pub fn align(means: &[f64], varis: &[f64], nstate: u32, ends: &[f64]) -> Result<Fitted, Refusal> {
     let (mut durations, mut work) = room(means.len());
     let aligned = align_into(means, varis, nstate, ends, &mut durations, &mut work)?;
-    durations.truncate(aligned.written as usize);
     Ok(Fitted {
         durations,
         changes: aligned.changes,
     })
 }
 
-/// [`align`] in the caller's memory.
-///
-/// `out` and `work` need room for one number a state, also where fewer are written; in `out` the
-/// numbers after the written ones stay as they were.
+/// [`align`] in the caller's memory, as [`fit_into`].
 ///
 /// # Errors
 ///
@@ -238,11 +235,11 @@ pub fn align(means: &[f64], varis: &[f64], nstate: u32, ends: &[f64]) -> Result<
 /// ```
 /// use hejmirov::{Aligned, OPEN_END};
 ///
-/// let (mut out, mut work) = ([7; 2], [7; 2]);
+/// let (mut out, mut work) = ([7; 3], [7; 3]);
 /// let ends = [4.0, OPEN_END];
 /// let aligned = hejmirov::align_into(&[2.0, 3.0], &[1.0, 1.0], 1, &ends, &mut out, &mut work)?;
-/// assert_eq!(aligned, Aligned { written: 1, changes: 0 });
-/// assert_eq!((out, work), ([4, 7], [0, 0]));
+/// assert_eq!(aligned, Aligned { written: 2, changes: 0 });
+/// assert_eq!((out, work), ([4, 3, 7], [0, 0, 7]));
 /// # Ok::<(), hejmirov::Refusal>(())
 /// ```
 pub fn align_into(

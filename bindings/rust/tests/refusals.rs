@@ -212,19 +212,67 @@ fn empty_lists_are_accepted() {
     );
 }
 
+/// An alignment of one state a label, of variance 1, and what it leaves of lists of sevens that have
+/// one number more than there are states.
+fn aligned(means: &[f64], ends: &[f64]) -> (Result<Aligned, Refusal>, Vec<u32>, Vec<u32>) {
+    let varis = vec![1.0; means.len()];
+    let (mut out, mut work) = (vec![7; means.len() + 1], vec![7; means.len() + 1]);
+    let answer = hejmirov::align_into(means, &varis, 1, ends, &mut out, &mut work);
+    (answer, out, work)
+}
+
 #[test]
-fn an_alignment_leaves_what_it_does_not_write() {
-    let (mut out, mut work) = ([7; 3], [7; 3]);
-    let ends = [4.0, OPEN_END];
-    let aligned = hejmirov::align_into(&MEANS, &VARIS, 1, &ends, &mut out, &mut work);
+fn an_alignment_writes_one_duration_a_state_and_no_more() {
+    let two = Ok(Aligned {
+        written: 2,
+        changes: 0,
+    });
     assert_eq!(
-        aligned,
-        Ok(Aligned {
-            written: 1,
-            changes: 0
-        })
+        aligned(&MEANS, &[4.0, OPEN_END]),
+        (two, vec![4, 3, 7], vec![0, 0, 7])
     );
-    assert_eq!((out, work), ([4, 7, 7], [0, 0, 7]));
+    let none = Ok(Aligned {
+        written: 0,
+        changes: 0,
+    });
+    assert_eq!(aligned(&[], &[]), (none, vec![7], vec![7]));
+}
+
+#[test]
+fn states_after_the_last_given_end_are_natural() {
+    let (means, varis) = ([2.0, 3.0, 2.5, -0.2], [1.0, 1.0, 9.0, f64::INFINITY]);
+    for (ends, durations, changes) in [
+        ([8.0, OPEN_END], [3, 5, 3, 1], 1),
+        ([-0.0, OPEN_END], [1, 1, 3, 1], 0),
+        ([OPEN_END, OPEN_END], [2, 3, 3, 1], 0),
+        ([-f64::MIN_POSITIVE, f64::NAN], [2, 3, 3, 1], 0),
+    ] {
+        let fitted = hejmirov::align(&means, &varis, 2, &ends).unwrap();
+        assert_eq!(
+            (fitted.durations, fitted.changes),
+            (durations.to_vec(), changes)
+        );
+    }
+}
+
+#[test]
+fn a_total_with_the_last_states_above_the_limit() {
+    for (means, ends) in [
+        ([65_536.0, 1.0], [OPEN_END, OPEN_END]),
+        ([2.0, 65_537.0], [4.0, OPEN_END]), // by the last state alone
+        ([2.0, 65_533.0], [4.0, OPEN_END]), // with the frames so far
+    ] {
+        assert_eq!(
+            aligned(&means, &ends),
+            (Err(Refusal::EstimateTooLong), vec![7, 7, 7], vec![0, 0, 7])
+        );
+    }
+    let (_, out, _) = aligned(&[65_535.0, 1.0], &[OPEN_END, OPEN_END]);
+    assert_eq!(out, [65_535, 1, 7]);
+    let (_, out, _) = aligned(&[2.0, 65_532.0], &[4.0, OPEN_END]);
+    assert_eq!(out, [4, 65_532, 7]);
+    let (target_first, _, _) = aligned(&[2.0, 65_537.0], &[65_536.5, OPEN_END]);
+    assert_eq!(target_first, Err(Refusal::TargetTooLong));
 }
 
 #[test]
@@ -291,7 +339,7 @@ fn limits_are_the_last_accepted() {
         MAX_STATES
     );
     assert_eq!(hejmirov::speed(&ones, &ones, 1.0), Err(Refusal::BadSize));
-    assert_eq!(label(MAX_NSTATE), Ok(Fitted::default()));
+    assert_eq!(label(MAX_NSTATE).unwrap().durations, [1; MAX_NSTATE]);
     assert_eq!(label(MAX_NSTATE + 1), Err(Refusal::BadSize));
 
     let frames = u32::try_from(MAX_FRAMES).unwrap();
