@@ -1,10 +1,11 @@
-/* Fits a sentence to a length, renders its trajectory, and takes one state's part of it.
+/* Fits a sentence to a length or to an editor's ends, renders its trajectory, and takes one state's
+   part of it.
 
-   usage: sentence FILE            says what was done
-          sentence FILE --frames   a line a frame: what tools/picture draws
+   usage: sentence FILE [--ends ENDS] [--frames]
 
-   FILE is sentence.txt; README.md says what stands in it. sentence.rs does the same and prints the
-   same text. */
+   It says what was done; with --frames it prints a line a frame: what tools/picture draws. FILE is
+   sentence.txt and ENDS ends.txt; README.md says what stands in them. sentence.rs does the same and
+   prints the same text. */
 
 #include <inttypes.h>
 #include <stdbool.h>
@@ -17,7 +18,9 @@
 /* The state whose part is taken: the middle of the longest vowel. */
 enum { CHOSEN_STATE = 43 };
 
-enum { LABEL_ROOM = 32 };
+enum { STATES_A_LABEL = 3 };
+
+enum { WORD_ROOM = 32 };
 
 typedef struct {
     uint32_t states, v, windows;
@@ -26,7 +29,7 @@ typedef struct {
     uint32_t widths[HEJMIROV_MAX_WINDOWS];
     double coefficients[HEJMIROV_MAX_WINDOWS * HEJMIROV_MAX_WIDTH];
     size_t n_coefficients;
-    char (*labels)[LABEL_ROOM];
+    char (*labels)[WORD_ROOM]; /* of the states: a phone, a dot and the state's number */
     double *means, *varis; /* of the states' durations */
     uint8_t *switches;
     double *records;
@@ -110,12 +113,61 @@ static void free_sentence(Sentence *s) {
     free(s->records);
 }
 
+/* An editor's ends. */
+typedef struct {
+    double *times; /* one a label; null where no ends are asked for */
+    uint32_t labels, given;
+    uint32_t natural; /* states after the last given end */
+} Ends;
+
+static _Noreturn void fail_at(uint32_t label, const char *word, const char *wanted) {
+    fprintf(stderr, "sentence: the ends: label %" PRIu32 ": %s instead of %s\n", label, word,
+            wanted);
+    exit(1);
+}
+
+/* The end of a label, whose first state in the sentence is named. */
+static double read_end(FILE *file, uint32_t label, const char *state) {
+    char name[WORD_ROOM], first[WORD_ROOM + 2], word[WORD_ROOM], *rest;
+    if (fscanf(file, "%31s %31s", name, word) != 2)
+        fail("the ends", "fewer than the sentence's labels");
+    snprintf(first, sizeof first, "%s.1", name);
+    if (strcmp(first, state) != 0) fail_at(label, first, state);
+    if (strcmp(word, "open") == 0) return HEJMIROV_OPEN_END;
+    double time = strtod(word, &rest);
+    if (*rest != 0 || !(time >= 0)) fail_at(label, word, "a time or open");
+    return time;
+}
+
+static Ends read_ends(const char *name, const Sentence *s) {
+    Ends e = {.labels = s->states / STATES_A_LABEL, .natural = s->states};
+    FILE *file = fopen(name, "r");
+    if (!file) fail(name, "can't be opened");
+    e.times = room_for(e.labels, sizeof *e.times);
+    for (uint32_t label = 0; label < e.labels; label++) {
+        e.times[label] = read_end(file, label, s->labels[label * STATES_A_LABEL]);
+        if (e.times[label] < 0) continue;
+        e.given++;
+        e.natural = s->states - (label + 1) * STATES_A_LABEL;
+    }
+    char more[2];
+    if (fscanf(file, "%1s", more) == 1) fail("the ends", "more than the sentence's labels");
+    fclose(file);
+    return e;
+}
+
 /* One duration a state, to be freed. */
-static uint32_t *fit(const Sentence *s, uint32_t *changes) {
+static uint32_t *durations_of(const Sentence *s, const Ends *e, uint32_t *changes) {
     uint32_t *durations = room_for(s->states, sizeof *durations);
     uint32_t *work = room_for(s->states, sizeof *work);
-    check("fit", hejmirov_fit(s->means, s->states, s->varis, s->states, s->length, durations,
-                              s->states, work, s->states, changes));
+    uint32_t written; /* as many as states */
+    if (e->times)
+        check("align", hejmirov_align(s->means, s->states, s->varis, s->states, STATES_A_LABEL,
+                                      e->times, e->labels, durations, s->states, work, s->states,
+                                      &written, changes));
+    else
+        check("fit", hejmirov_fit(s->means, s->states, s->varis, s->states, s->length, durations,
+                                  s->states, work, s->states, changes));
     free(work);
     return durations;
 }
@@ -199,20 +251,31 @@ static void print_excerpt(const Sentence *s, const uint32_t *durations, const do
                bits_of(rendered[i]));
 }
 
-static void print_report(const Sentence *s, const uint32_t *durations, uint32_t changes,
-                         const Mask *m, const double *plain, const double *rendered) {
+static void print_durations(const Sentence *s, const Ends *e, const uint32_t *durations,
+                            uint32_t frames, uint32_t changes) {
+    printf("sentence: %" PRIu32 " states, %" PRIu32 " numbers a frame, %" PRIu32 " windows\n",
+           s->states, s->v, s->windows);
+    if (e->times)
+        printf("aligned to %" PRIu32 " ends: %" PRIu32 " frames, %" PRIu32
+               " changes, the last %" PRIu32 " states natural\n",
+               e->given, frames, changes, e->natural);
+    else
+        printf("fit to %.1f: %" PRIu32 " frames, %" PRIu32 " changes\n", s->length, frames,
+               changes);
+    printf("durations:");
+    for (uint32_t i = 0; i < s->states; i++) printf(" %" PRIu32, durations[i]);
+    printf("\n");
+}
+
+static void print_report(const Sentence *s, const uint32_t *durations, const Mask *m,
+                         const double *plain, const double *rendered) {
     size_t n_rendered = (size_t)m->frames * s->v;
     uint32_t voiced = 0, runs = 0;
     for (uint32_t t = 0; t < m->frames; t++) {
         voiced += m->voiced[t];
         runs += m->voiced[t] && m->left[t] == 0;
     }
-    printf("sentence: %" PRIu32 " states, %" PRIu32 " numbers a frame, %" PRIu32 " windows\n",
-           s->states, s->v, s->windows);
-    printf("fit to %.1f: %" PRIu32 " frames, %" PRIu32 " changes\n", s->length, m->frames, changes);
-    printf("durations:");
-    for (uint32_t i = 0; i < s->states; i++) printf(" %" PRIu32, durations[i]);
-    printf("\nmask: %" PRIu32 " voiced frames in %" PRIu32 " runs\n", voiced, runs);
+    printf("mask: %" PRIu32 " voiced frames in %" PRIu32 " runs\n", voiced, runs);
     printf("trajectory: %zu numbers, sum %016" PRIx64 "\n", n_rendered,
            sum_of(rendered, n_rendered));
     print_range("without global variance", m, plain, s->v);
@@ -231,28 +294,39 @@ static void print_frames(const Sentence *s, const uint32_t *durations, const Mas
 }
 
 int main(int argc, char **argv) {
-    bool frames_asked = argc == 3 && strcmp(argv[2], "--frames") == 0;
-    if (argc != 2 && !frames_asked) {
-        fputs("usage: sentence FILE [--frames]\n", stderr);
+    int words = 2; /* the program's name and FILE */
+    const char *ends_name = NULL;
+    if (words + 1 < argc && strcmp(argv[words], "--ends") == 0) {
+        ends_name = argv[words + 1];
+        words += 2;
+    }
+    bool frames_asked = words < argc && strcmp(argv[words], "--frames") == 0;
+    if (argc != words + frames_asked) {
+        fputs("usage: sentence FILE [--ends ENDS] [--frames]\n", stderr);
         return 2;
     }
     Sentence s = read_sentence(argv[1]);
+    Ends e = {0};
+    if (ends_name) e = read_ends(ends_name, &s);
     uint32_t changes, frames = 0;
-    uint32_t *durations = fit(&s, &changes);
+    uint32_t *durations = durations_of(&s, &e, &changes);
     for (uint32_t i = 0; i < s.states; i++) frames += durations[i];
     Mask m = mask(&s, durations, frames);
     double *plain = render(&s, durations, frames, false);
     double *rendered = render(&s, durations, frames, true);
-    if (frames_asked)
+    if (frames_asked) {
         print_frames(&s, durations, &m, plain, rendered);
-    else
-        print_report(&s, durations, changes, &m, plain, rendered);
+    } else {
+        print_durations(&s, &e, durations, frames, changes);
+        print_report(&s, durations, &m, plain, rendered);
+    }
     free(plain);
     free(rendered);
     free(m.voiced);
     free(m.left);
     free(m.right);
     free(durations);
+    free(e.times);
     free_sentence(&s);
     return 0;
 }

@@ -1,10 +1,11 @@
-//! Fits a sentence to a length, renders its trajectory, and takes one state's part of it.
+//! Fits a sentence to a length or to an editor's ends, renders its trajectory, and takes one state's
+//! part of it.
 //!
-//! usage: `sentence FILE` says what was done; `sentence FILE --frames` prints a line a frame: what
-//! `tools/picture` draws.
+//! usage: `sentence FILE [--ends ENDS] [--frames]`
 //!
-//! FILE is `sentence.txt`; `README.md` says what stands in it. `sentence.c` does the same and prints
-//! the same text.
+//! It says what was done; with `--frames` it prints a line a frame: what `tools/picture` draws. FILE
+//! is `sentence.txt` and ENDS `ends.txt`; `README.md` says what stands in them. `sentence.c` does the
+//! same and prints the same text.
 
 use std::env;
 use std::error::Error;
@@ -13,10 +14,12 @@ use std::iter::zip;
 use std::process::ExitCode;
 use std::str::{FromStr, SplitWhitespace};
 
-use hejmirov::{Fitted, GlobalVariance, Mask, Stream, Trajectory, Windows};
+use hejmirov::{Fitted, GlobalVariance, Mask, OPEN_END, Refusal, Stream, Trajectory, Windows};
 
 /// The state whose part is taken: the middle of the longest vowel.
 const CHOSEN_STATE: u32 = 43;
+
+const STATES_A_LABEL: u32 = 3;
 
 /// The words of the file, one after the other.
 struct Words<'a>(SplitWhitespace<'a>);
@@ -57,8 +60,8 @@ struct Sentence {
     gv: Vec<f64>,
     widths: Vec<u32>,
     coefficients: Vec<f64>,
-    labels: Vec<String>,
-    means: Vec<f64>, // of the states' durations
+    labels: Vec<String>, // of the states: a phone, a dot and the state's number
+    means: Vec<f64>,     // of the states' durations
     varis: Vec<f64>,
     switches: Vec<bool>,
     weights: Vec<f64>,
@@ -121,6 +124,37 @@ impl Sentence {
     }
 }
 
+/// A time in frames, or open.
+fn read_end(word: &str) -> Option<f64> {
+    if word == "open" {
+        return Some(OPEN_END);
+    }
+    word.parse().ok().filter(|time| *time >= 0.0)
+}
+
+/// An editor's ends, one a label.
+fn read_ends(text: &str, s: &Sentence) -> Result<Vec<f64>, String> {
+    let mut words = text.split_whitespace();
+    let mut ends = Vec::new();
+    for (label, states) in s.labels.chunks_exact(STATES_A_LABEL as usize).enumerate() {
+        let (Some(name), Some(word)) = (words.next(), words.next()) else {
+            return Err("the ends: fewer than the sentence's labels".into());
+        };
+        let wrong = |word: &str, wanted: &str| {
+            format!("the ends: label {label}: {word} instead of {wanted}")
+        };
+        let first = format!("{name}.1");
+        if first != states[0] {
+            return Err(wrong(&first, &states[0]));
+        }
+        ends.push(read_end(word).ok_or_else(|| wrong(word, "a time or open"))?);
+    }
+    match words.next() {
+        None => Ok(ends),
+        Some(_) => Err("the ends: more than the sentence's labels".into()),
+    }
+}
+
 /// The FNV-1a sum of the numbers' bytes, as they stand in the spool: every bit of every number counts.
 fn sum_of(numbers: &[f64]) -> u64 {
     let bytes = numbers.iter().flat_map(|number| number.to_le_bytes());
@@ -164,6 +198,25 @@ fn print_excerpt(
     Ok(())
 }
 
+fn print_durations(s: &Sentence, ends: Option<&[f64]>, fitted: &Fitted) {
+    let (states, windows) = (s.means.len(), s.widths.len());
+    println!(
+        "sentence: {states} states, {} numbers a frame, {windows} windows",
+        s.v
+    );
+    let done = format!("{} frames, {} changes", fitted.frames(), fitted.changes);
+    if let Some(ends) = ends {
+        let given = ends.iter().filter(|end| **end >= 0.0).count();
+        let open = ends.iter().rev().take_while(|end| **end < 0.0).count();
+        let natural = open * STATES_A_LABEL as usize;
+        println!("aligned to {given} ends: {done}, the last {natural} states natural");
+    } else {
+        println!("fit to {:.1}: {done}", s.length);
+    }
+    let durations: Vec<String> = fitted.durations.iter().map(u32::to_string).collect();
+    println!("durations: {}", durations.join(" "));
+}
+
 fn print_report(
     s: &Sentence,
     fitted: &Fitted,
@@ -171,15 +224,6 @@ fn print_report(
     plain: &Trajectory,
     rendered: &Trajectory,
 ) -> Result<(), Box<dyn Error>> {
-    let (states, windows) = (s.means.len(), s.widths.len());
-    println!(
-        "sentence: {states} states, {} numbers a frame, {windows} windows",
-        s.v
-    );
-    let (frames, changes) = (fitted.frames(), fitted.changes);
-    println!("fit to {:.1}: {frames} frames, {changes} changes", s.length);
-    let durations: Vec<String> = fitted.durations.iter().map(u32::to_string).collect();
-    println!("durations: {}", durations.join(" "));
     let voiced: u32 = mask.voiced.iter().sum();
     let runs = zip(&mask.voiced, &mask.left)
         .filter(|pair| *pair == (&1, &0))
@@ -215,10 +259,25 @@ fn print_frames(
     }
 }
 
-fn run(name: &str, frames_asked: bool) -> Result<(), Box<dyn Error>> {
-    let text = fs::read_to_string(name).map_err(|error| format!("{name}: {error}"))?;
-    let s = Sentence::read(&text)?;
-    let fitted = hejmirov::fit(&s.means, &s.varis, s.length)?;
+fn text_of(name: &str) -> Result<String, String> {
+    fs::read_to_string(name).map_err(|error| format!("{name}: {error}"))
+}
+
+/// One duration a state.
+fn durations_of(s: &Sentence, ends: Option<&[f64]>) -> Result<Fitted, Refusal> {
+    match ends {
+        Some(ends) => hejmirov::align(&s.means, &s.varis, STATES_A_LABEL, ends),
+        None => hejmirov::fit(&s.means, &s.varis, s.length),
+    }
+}
+
+fn run(name: &str, ends: Option<&str>, frames_asked: bool) -> Result<(), Box<dyn Error>> {
+    let s = Sentence::read(&text_of(name)?)?;
+    let ends = match ends {
+        Some(name) => Some(read_ends(&text_of(name)?, &s)?),
+        None => None,
+    };
+    let fitted = durations_of(&s, ends.as_deref())?;
     let mask = hejmirov::mask(&s.weights, s.threshold, &fitted.durations)?;
     let without = s.stream();
     let with = Stream {
@@ -231,6 +290,7 @@ fn run(name: &str, frames_asked: bool) -> Result<(), Box<dyn Error>> {
         print_frames(&s, &fitted, &mask, &plain, &rendered);
         return Ok(());
     }
+    print_durations(&s, ends.as_deref(), &fitted);
     print_report(&s, &fitted, &mask, &plain, &rendered)
 }
 
@@ -238,10 +298,12 @@ fn main() -> ExitCode {
     let words: Vec<String> = env::args().skip(1).collect();
     let words: Vec<&str> = words.iter().map(String::as_str).collect();
     let done = match words[..] {
-        [name] => run(name, false),
-        [name, "--frames"] => run(name, true),
+        [name] => run(name, None, false),
+        [name, "--frames"] => run(name, None, true),
+        [name, "--ends", ends] => run(name, Some(ends), false),
+        [name, "--ends", ends, "--frames"] => run(name, Some(ends), true),
         _ => {
-            eprintln!("usage: sentence FILE [--frames]");
+            eprintln!("usage: sentence FILE [--ends ENDS] [--frames]");
             return ExitCode::from(2);
         }
     };
