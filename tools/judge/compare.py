@@ -6,7 +6,7 @@ from dataclasses import dataclass, field
 from itertools import groupby
 
 from . import reading
-from .domain import Judge, answered, judge_of, oracle_answers
+from .domain import Judge, answered, judge_of, oracle_answers, tail_of
 from .formats import KINDS, Case, Fields, decode, encode, encode_case
 from .programs import ANSWERED, PANICKED, PARTED, STRAYED, Program
 from .reading import links
@@ -71,6 +71,8 @@ class Tally:
 
     judged: Counter = field(default_factory=Counter)
     refusals: Counter = field(default_factory=Counter)
+    # Accepted alignments with a tail, which is not compared with the Rust.
+    tails: int = 0
     # Over links: jobs that came to their end, those of them that were accepted, and calls that were refused.
     jobs: int = 0
     accepted: int = 0
@@ -79,6 +81,8 @@ class Tally:
     def __str__(self) -> str:
         judged = ", ".join(f"{count} by {judge}" for judge, count in self.judged.items())
         line = f"{judged}; refused {numbered(self.refusals)}"
+        if self.tails:
+            line += f"; {self.tails} tails not compared with the Rust"
         if self.jobs:
             line += f"; over links {self.jobs} jobs, {self.accepted} accepted, calls refused {numbered(self.link_refusals)}"
         return line
@@ -120,6 +124,8 @@ class Comparison:
                 self.tally.refusals[refusal] += 1
             elif judge_of(case) == Judge.READING:
                 self.tally.judged["the reading alone"] += 1
+            if case.kind == "align" and refusal == 0:
+                self.tally.tails += bool(tail_of(case))
             if case.kind == "link":
                 followed = links.followed(case)
                 self.tally.jobs += sum(end.ended for end in followed.ends)
@@ -147,7 +153,9 @@ class Comparison:
                 found.append(Difference(case, oracle.name, values, failure(failed[0])))
                 continue
             schema, got = KINDS[case.kind].values, answered(case, [answer[1:] for answer in given])
-            if alone:
+            if case.kind == "align" and got["written"] != len(case["means"]):
+                found.append(Difference(case, oracle.name, values, "does not end at the last given end"))
+            elif alone:
                 answers[place] = 0, got
             elif encode(schema, got) != encode(schema, values):
                 found.append(Difference(case, oracle.name, values, got))

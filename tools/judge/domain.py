@@ -7,6 +7,7 @@ from itertools import islice
 from .formats import KINDS, Case, Fields, decode, encode_case
 from .programs import Program
 from .reading import ieee, jobs, links
+from .reading.durations import estimate
 from .reading.refusals import band_frames
 
 
@@ -72,9 +73,23 @@ def job_answered(answer: bytes) -> Fields:
     return {"states": len(durations), "frames": sum(durations), **values}
 
 
+def tail_of(case: Case) -> list[int]:
+    """The reading's durations of the states after the last given end, of an accepted alignment."""
+    first = max((label for label, end in enumerate(case["ends"], 1) if end >= 0), default=0) * case["nstate"]
+    return estimate(case["means"][first:], case["varis"][first:], 0.0)
+
+
+def align_answered(case: Case, answer: bytes) -> Fields:
+    """The Rust ends at the last given end, and the reading's tail completes its answer: no tail is compared with it."""
+    values, tail = decode(KINDS["align"].values, answer), tail_of(case)
+    return {**values, "written": values["written"] + len(tail), "durations": values["durations"] + tail}
+
+
 def answered(case: Case, answers: list[bytes]) -> Fields:
     """The case's values, from the Rust's answers to what it was asked."""
     if case.kind == "link":
         return links.joined([job_answered(answer) for answer in answers])
     (answer,) = answers
+    if case.kind == "align":
+        return align_answered(case, answer)
     return job_answered(answer) if case.kind == "job" else decode(KINDS[case.kind].values, answer)

@@ -82,7 +82,7 @@ def speed(means: list[float], varis: list[float], factor: float) -> Fit:
 
 
 def align(means: list[float], varis: list[float], nstate: int, ends: list[float]) -> Fit:
-    """Durations up to the last given end, and the groups' changes summed."""
+    """One duration a state: the groups', then the tail's at its natural length; the groups' changes summed."""
     whole = Fit([], 0)
     for label, end in enumerate(ends):
         if not end >= 0:
@@ -94,6 +94,11 @@ def align(means: list[float], varis: list[float], nstate: int, ends: list[float]
         whole.walked = whole.walked and group.walked
         if sum(whole.durations) > MAX_FRAMES:
             raise Refused(8)
+    fitted = len(whole.durations)
+    tail = estimate(means[fitted:], varis[fitted:], 0.0)
+    if sum(whole.durations) + sum(tail) > MAX_FRAMES:
+        raise Refused(8)
+    whole.durations += tail
     return whole
 
 
