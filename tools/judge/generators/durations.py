@@ -5,10 +5,10 @@ from random import Random
 
 from ..formats import Case
 from ..numbers import LENGTHS, mood, numbers, positives, special
-from ..reading.ieee import MAX_FRAMES, NAN
+from ..reading.ieee import MAX_FRAMES
+from . import tails
 from .common import room, state_count
-
-OPEN_ENDS = [-1.0, -5e-324, NAN, -float("inf"), -3.5]
+from .tails import OPEN_ENDS
 
 
 def long_pairs(rng: Random, count: int) -> tuple[list[float], list[float]]:
@@ -104,13 +104,16 @@ def speed_case(rng: Random, small: bool) -> Case:
 def ends_for(rng: Random, means: list[float], nstate: int) -> list[float]:
     """An end a label: some given and near the natural times, some open, some absurd."""
     labels = len(means) // nstate
+    if labels > 2 and rng.random() < 0.05:
+        # The running total is above the limit before an end is too far.
+        return [1000.0, 66000.0, math.inf] + [rng.choice(OPEN_ENDS) for _ in range(labels - 3)]
     given = rng.choice([0.0, 0.5, 0.8, 0.8, 1.0, 1.0])
     ends, time = [], 0.0
     for label in range(labels):
         time += natural_total(means[label * nstate : (label + 1) * nstate])
         if rng.random() >= given:
             ends.append(rng.choice(OPEN_ENDS))
-        elif rng.random() < 0.06:
+        elif rng.random() < min(0.06, 0.5 / labels):
             ends.append(rng.choice([-0.0, 0.0, special(rng), *LENGTHS]))
         else:
             ends.append(time + rng.choice([0.0, 0.5, -0.5, rng.uniform(-3.0, 3.0), float(rng.randint(-3, 8))]))
@@ -120,10 +123,10 @@ def ends_for(rng: Random, means: list[float], nstate: int) -> list[float]:
 def align_case(rng: Random, small: bool) -> Case:
     labels = 0 if rng.random() < 0.02 else rng.choice([1, 2, 2, 3, 3, 4, 5])
     nstate = rng.choice([1, 1, 2, 3]) if small or rng.random() < 0.9 else rng.choice([5, 15, 16])
-    if not small and rng.random() < 0.003:
+    if not small and rng.random() < 0.008:
         labels, nstate = rng.choice([(256, 16), (4096, 1), (819, 5)])
     means, varis = duration_pairs(rng, labels * nstate)
-    return Case("align", {
+    case = Case("align", {
         "means": means,
         "varis": varis,
         "nstate": nstate,
@@ -131,6 +134,7 @@ def align_case(rng: Random, small: bool) -> Case:
         "out": room(rng, labels * nstate),
         "work": room(rng, labels * nstate),
     })
+    return tails.opened(rng, case) if labels and rng.random() < 0.4 else case
 
 
 # As many costs a gap may take to fit: what the reading works out in some milliseconds.
@@ -174,14 +178,15 @@ def gap_speed(rng: Random) -> Case:
 
 
 def gap_align(rng: Random) -> Case:
-    """Some groups of labels, each closed by its last one."""
+    """Some groups of labels, each closed by its last one, and in some cases a tail."""
     nstate = rng.choice([1, 2, 5, 16])
     means, varis, ends, time = [], [], [], 0
-    for _ in range(rng.randint(1, 3)):
+    for closed in [True] * rng.randint(1, 3) + [False] * rng.choice([0, 0, 1]):
         labels = -(-gap_count(rng) // nstate)
         group_means, group_varis, target = gap_states(rng, labels * nstate)
         time += target
         means, varis = means + group_means, varis + group_varis
-        ends += [rng.choice(OPEN_ENDS) for _ in range(labels - 1)] + [float(time)]
+        ends += [rng.choice(OPEN_ENDS) for _ in range(labels - 1)]
+        ends.append(float(time) if closed else rng.choice(OPEN_ENDS))
     lists = {"means": means, "varis": varis, "nstate": nstate, "ends": ends}
     return Case("align", {**lists, "out": room(rng, len(means)), "work": room(rng, len(means))})
