@@ -17,6 +17,7 @@ class Fault:
 
 
 HALF = "    if abs(x) - whole >= 0.5:  # the difference is exact"
+TAIL = "    tail = estimate(means[fitted:], varis[fitted:], 0.0)"
 
 FAULTS = [
     Fault("rounding to even", IEEE, HALF,
@@ -84,8 +85,26 @@ FAULTS = [
     Fault("groups fitted to the end itself", DURATIONS,
           "        group = fit(means[first:last], varis[first:last], end - sum(whole.durations))",
           "        group = fit(means[first:last], varis[first:last], end)"),
-    Fault("running total unchecked", DURATIONS,
+    Fault("running total checked at the end alone", DURATIONS,
           "        if sum(whole.durations) > MAX_FRAMES:", "        if False:"),
+    Fault("an alignment's tail dropped", DURATIONS, TAIL, "    tail = []"),
+    Fault("a tail dropped where no end is given", DURATIONS, TAIL, TAIL + " if fitted else []"),
+    Fault("a tail with the last group's rho", DURATIONS, TAIL,
+          "    tail = estimate(means[fitted:], varis[fitted:], ieee.divide(sum(group.durations)"
+          " - ieee.total(means[first:last]), ieee.total(varis[first:last])) if fitted else 0.0)"),
+    Fault("a tail fitted to its summed means", DURATIONS, TAIL,
+          "    tail = fit(means[fitted:], varis[fitted:], ieee.total(means[fitted:])).durations"),
+    Fault("a tail's means without their variances", DURATIONS, TAIL,
+          "    tail = [ieee.frames(mean) for mean in means[fitted:]]"),
+    Fault("no 8 for a tail", DURATIONS, TAIL,
+          "    return Fit(whole.durations + [ieee.frames(mean + 0.0 * vari)"
+          " for mean, vari in list(zip(means, varis))[fitted:]], whole.changes, whole.walked)"),
+    Fault("running total without the tail", DURATIONS,
+          "    if sum(whole.durations) + sum(tail) > MAX_FRAMES:", "    if sum(tail) > MAX_FRAMES:"),
+    Fault("a tail's 8 before a group's 7", DURATIONS,
+          "    whole = Fit([], 0)",
+          "    whole, first = Fit([], 0), max((i for i, e in enumerate(ends, 1) if e >= 0), default=0) * nstate;"
+          " estimate(means[first:], varis[first:], 0.0)"),
     Fault("voiced at the threshold", TRAJECTORY,
           "    return expand([weight > threshold for weight in weights], durations)",
           "    return expand([weight >= threshold for weight in weights], durations)"),
@@ -198,10 +217,11 @@ FAULTS = [
     Fault("totals taken in 32 bits", REFUSALS,
           '    states, frames, v = len(case["durations"]), sum(case["durations"]), case["v"]',
           '    states, frames, v = len(case["durations"]), sum(case["durations"]) % 2**32, case["v"]'),
-    Fault("room for an alignment's written part alone", REFUSALS,
+    Fault("room for an alignment's groups alone", REFUSALS,
           '    n, nstate, labels = len(case["means"]), case["nstate"], len(case["ends"])',
-          '    n, nstate, labels, case = len(case["means"]), case["nstate"], len(case["ends"]),'
-          ' case.with_fields(out=case["out"] + 1)'),
+          '    n, nstate, labels, case = len(case["means"]), case["nstate"], len(case["ends"]), case.with_fields('
+          'out=case["out"] + case["nstate"]'
+          ' * next((i for i, e in enumerate(case["ends"][::-1]) if e >= 0), len(case["ends"])))'),
     Fault("work space untouched at 8", EXITS, "ZEROING_REFUSALS = (7, 8)", "ZEROING_REFUSALS = (7,)"),
     Fault("work space zeroed whole", EXITS,
           '        "work": written_f64([0.0] * (WORK_FLOATS * frames), case["work"]),',
