@@ -1,4 +1,4 @@
-//! Durations: growth with states and steps, estimates alone, speeds, and the largest gaps.
+//! Durations: growth with states and steps, estimates alone, speeds, the largest gaps, and alignments.
 
 use std::hint::black_box;
 
@@ -15,15 +15,32 @@ unsafe extern "C" {
         means: *const f64, n_means: usize, varis: *const f64, n_varis: usize, speed: f64,
         out: *mut u32, n_out: usize, work: *mut u32, n_work: usize, changes: *mut u32,
     ) -> u32;
+    fn hejmirov_align(
+        means: *const f64, n_means: usize, varis: *const f64, n_varis: usize, nstate: u32,
+        ends: *const f64, n_ends: usize, out: *mut u32, n_out: usize, work: *mut u32, n_work: usize,
+        written: *mut u32, changes: *mut u32,
+    ) -> u32;
 }
 
 const MOST_FRAMES: f64 = 65_536.0;
+const NSTATE: usize = 5;
+const OPEN: f64 = -1.0;
 
-/// What is asked of the states: a speed, or a length in frames.
+/// What is asked of the states: a speed, a length in frames, the labels' ends, or an alignment with no end, all tail. The
+/// Rust answers the last by its own estimates: it gives a tail no durations, and prints a warning each time.
 #[derive(Clone, Copy)]
 enum Asked {
     Speed(f64),
     Length(f64),
+    Ends,
+    Tail,
+}
+
+/// An end for each fourth label, two frames behind its states' natural time, and for the last.
+fn ends_of(means: &[f64]) -> Vec<f64> {
+    let labels = means.len() / NSTATE;
+    let end = |label| means[..label * NSTATE].iter().sum::<f64>() + 2.0;
+    (1..=labels).map(|label| if label % 4 == 0 || label == labels { end(label) } else { OPEN }).collect()
 }
 
 /// States as both sides take them, with room for our answer.
@@ -32,6 +49,9 @@ struct States {
     parameters: Vec<MeanVari>,
     means: Vec<f64>,
     varis: Vec<f64>,
+    times: Vec<(f64, f64)>,
+    ends: Vec<f64>,
+    open: Vec<f64>,
     out: Vec<u32>,
     work: Vec<u32>,
 }
@@ -40,8 +60,11 @@ impl States {
     fn new(count: usize, mut pair: impl FnMut() -> (f64, f64)) -> Self {
         let (means, varis): (Vec<f64>, Vec<f64>) = (0..count).map(|_| pair()).unzip();
         let parameters: Vec<_> = means.iter().zip(&varis).map(|(&mean, &vari)| MeanVari(mean, vari)).collect();
-        let estimator = DurationEstimator::new(parameters.clone(), 5);
-        Self { estimator, parameters, means, varis, out: vec![0; count], work: vec![0; count] }
+        let estimator = DurationEstimator::new(parameters.clone(), NSTATE);
+        let ends = ends_of(&means);
+        let times = ends.iter().map(|&end| (0.0, end)).collect();
+        let open = vec![OPEN; ends.len()];
+        Self { estimator, parameters, means, varis, times, ends, open, out: vec![0; count], work: vec![0; count] }
     }
 
     /// States and a length at which the rule takes so many steps: the means of the short states make rho 0, so that every
@@ -67,6 +90,8 @@ impl States {
             Asked::Length(length) => {
                 DurationEstimator::estimate_duration_with_frame_length(&self.parameters, length)
             }
+            Asked::Ends => self.estimator.create_with_alignment(&self.times),
+            Asked::Tail => DurationEstimator::estimate_duration(&self.parameters, 0.0),
         }
     }
 
@@ -75,8 +100,9 @@ impl States {
         let count = self.means.len();
         let (means, varis) = (self.means.as_ptr(), self.varis.as_ptr());
         let (out, work) = (self.out.as_mut_ptr(), self.work.as_mut_ptr());
-        let mut changes = 0;
-        // Every list has `count` numbers and outlives the call.
+        let nstate = NSTATE as u32;
+        let (mut changes, mut written) = (0, 0);
+        // Every list has `count` numbers, or one a label, and outlives the call.
         let refusal = unsafe {
             match asked {
                 Asked::Speed(speed) => {
@@ -84,6 +110,14 @@ impl States {
                 }
                 Asked::Length(length) => {
                     hejmirov_fit(means, count, varis, count, length, out, count, work, count, &mut changes)
+                }
+                Asked::Ends | Asked::Tail => {
+                    let ends = if let Asked::Tail = asked { &self.open } else { &self.ends };
+                    let (written, changes) = (&mut written, &mut changes);
+                    hejmirov_align(
+                        means, count, varis, count, nstate, ends.as_ptr(), ends.len(), out, count, work, count, written,
+                        changes,
+                    )
                 }
             }
         };
@@ -137,5 +171,14 @@ pub fn run() {
             (next, 1.0)
         });
         down.compare(&format!("{count} states, the largest gap down"), Asked::Length(target));
+    }
+}
+
+pub fn alignments() {
+    for count in [100, 1_000, 4_000] {
+        let mut inputs = Inputs::new();
+        let mut states = States::new(count, || (inputs.between(1.0, 12.0), inputs.between(0.5, 20.0)));
+        states.compare(&format!("{count} states, an end every 20"), Asked::Ends);
+        states.compare(&format!("{count} states, no end"), Asked::Tail);
     }
 }

@@ -74,8 +74,9 @@ pub fn shown(time: Duration) -> String {
 type Group = (&'static str, &'static str, fn());
 
 const BOTH: &str = "Rust | Hejmirov | times as fast";
-const GROUPS: [Group; 5] = [
+const GROUPS: [Group; 6] = [
     ("durations", BOTH, durations::run),
+    ("alignments", BOTH, durations::alignments),
     ("trajectories", BOTH, trajectories::run),
     ("growth", BOTH, trajectories::growth),
     ("largest", BOTH, trajectories::largest),
