@@ -6,11 +6,11 @@ use mathlib.Core.List.{List, [], _∷_, _++_, append-nil}
 use Prim.Native.Nat.{ℕ, zero, suc, _+_, _-_, _*_, _≤_, _<_, zero-le}
 use native.Mathlib.Nat.{sub-zero, suc-mul}
 use native.Mathlib.Omega.{arith}
-use lib.Dec.{ltb}
-use lib.ListN.{length, getD, take, drop, replicate, length-append, length-take, length-drop, length-replicate}
+use lib.ListN.{length, getD, take, drop, replicate, length-append, length-drop, length-replicate}
 use lib.Seq.{take-all, drop-append-add}
 use lib.Ieee.{Float, le}
-use borrow.Author.Tests.{le-leb, ne-eqb, ltb-false}
+use borrow.Author.Tests.{le-leb, ne-eqb}
+use borrow.Rule.Slice.PartMut.{mid-len}
 use Rattle.lists.specs.Sizes.{mostFrames}
 use Rattle.lists.specs.Totals.{total}
 use Rattle.lists.specs.Refusals.{orElse}
@@ -25,16 +25,16 @@ use Rattle.steps.proofs.Settling.{Positive}
 use Rattle.steps.proofs.Settling.Positive.{none, more}
 use Rattle.duration.specs.declared.Aligned.{Aligned}
 use Rattle.duration.specs.declared.Aligned.the-variants as align
-use Rattle.duration.specs.declared.align.End.the-variants.{At}
 use Rattle.duration.specs.Estimate.{naturals}
 use Rattle.duration.specs.Fit.{fitTo, refusalTo}
-use Rattle.duration.specs.Align.{endIf, Group, given, closing, tail, groups, within, targetOf, fitOf, fitAlong, refusalToEnd, refusalOf, refusalAlong}
+use Rattle.duration.specs.Align.{endIf, Group, given, closing, tail, groups, within, targetOf, fitOf, fitAlong, refusalOf, refusalAlong}
 use Rattle.duration.specs.Promise.{aligned, refusalOfLabels, AlignSays}
 use Rattle.duration.specs.Fitting.{FairTo, FairAlong, lastFrom, AcceptedAlong}
 use Rattle.duration.specs.Fitting.FairAlong.{ended, next}
+use Rattle.duration.proofs.Closing.{accepted-group}
 use Rattle.duration.proofs.Estimates.{length-estimates}
 use Rattle.duration.proofs.Fairness.{positive-at, estimates-positive, fair-fit}
-use Rattle.duration.proofs.Refusals.{cond-none, labelled}
+use Rattle.duration.proofs.Refusals.{labelled}
 
 -- ---- one duration a state, none below the shortest
 
@@ -75,12 +75,6 @@ module _ (ms vs : List Float) (t : ℕ) (some : 0 < length ms) (agree : length v
 
 -- ---- group after group
 
-part-lengths : (a n : ℕ) (ms vs : List Float) → length vs ≡ length ms → length (take n (drop a vs)) ≡ length (take n (drop a ms))
-part-lengths a n ms vs e = length-take n (drop a vs) ∙ rw (length-drop a vs, e, ← length-drop a ms, ← length-take n (drop a ms))
-
-part-length : (a b : ℕ) (ms : List Float) → b ≤ length ms → length (take (b - a) (drop a ms)) ≡ b - a
-part-length a b ms h = length-take (b - a) (drop a ms) ∙ rw (length-drop a ms) (omega arith)
-
 -- the last group is the last of those behind the first
 last-later : (g : Group) (gs : List Group) → 0 < length gs → lastFrom (g ∷ gs) ≡ lastFrom gs
 unfolding lastFrom
@@ -98,12 +92,9 @@ module _ (ms vs : List Float) (agree : length vs ≡ length ms) where
     behind : done ≤ lastFrom gs
     natural : drop (lastFrom gs - done) (o .durations) ≡ naturals (drop (lastFrom gs) ms) (drop (lastFrom gs) vs)
 
-  within-few : (g : Group) (frames : ℕ) → refusalOf ms vs g frames ≡ 0 → (refusalToEnd (within g ms) (within g vs) frames (g .end) ≡ 0) × (frames + total (fitOf ms vs g frames .durations) ≤ mostFrames)
-  unfolding refusalOf
-  within-few g frames r =
-      let p = or-none (refusalToEnd (within g ms) (within g vs) frames (g .end)) _ r in
-      let n : ℕ = frames + total (fitOf ms vs g frames .durations) in
-      (p .0, ltb-false mostFrames n (cond-none (ltb mostFrames n) 7 0 (p .1) .0))
+  -- a group that lies in the lists has as many variances as means
+  same-parts : (g : Group) → g .to ≤ length ms → length (within g vs) ≡ length (within g ms)
+  same-parts g h = mid-len (g .from) (g .to) vs (omega arith) ∙ sym (mid-len (g .from) (g .to) ms h)
 
   -- the tail alone
   course-tail : (done frames : ℕ) → done ≤ length ms → refusalOf ms vs (tail done (length ms)) frames ≡ 0 → Course done frames (tail done (length ms) ∷ []) (fitAlong ms vs (tail done (length ms) ∷ []) frames)
@@ -111,15 +102,15 @@ module _ (ms vs : List Float) (agree : length vs ≡ length ms) where
   course-tail done frames h r =
       let g : Group = tail done (length ms) in
       let N : List ℕ = naturals (within g ms) (within g vs) in
-      let e : Each (within g ms) N = each-natural (within g ms) (within g vs) (part-lengths done (length ms - done) ms vs agree) in
-      let c : length N ≡ length ms - done = e .count ∙ part-length done (length ms) ms (omega arith) in
+      let e : Each (within g ms) N = each-natural (within g ms) (within g vs) (same-parts g (omega arith)) in
+      let c : length N ≡ length ms - done = e .count ∙ mid-len done (length ms) ms (omega arith) in
       let n : N ++ [] ≡ N = append-nil N in
       let whole : (xs : List Float) → length xs ≡ length ms → take (length ms - done) (drop done xs) ≡ drop done xs = λ xs q. take-all (length ms - done) (drop done xs) (omega (arith, length-drop done xs)) in
       record {
         some = omega arith;
         count = rw n (omega arith);
         positive = rw n (e .positive);
-        few = rw n (within-few g frames r .1);
+        few = rw n (accepted-group ms vs g frames r .1);
         fair = next (record { count = e .count; by-end = refl }) ended;
         behind = omega arith;
         natural = let z : done - done ≡ 0 = omega arith in rw (z, n, whole ms refl, whole vs agree);
@@ -133,10 +124,10 @@ module _ (ms vs : List Float) (agree : length vs ≡ length ms) where
       let g : Group = given done to x in
       let ds : List ℕ = fitOf ms vs g frames .durations in
       let es : List ℕ = fitAlong ms vs later (frames + total ds) .durations in
-      let l : length (within g ms) ≡ to - done = part-length done to ms k in
-      let own : refusalTo (within g ms) (within g vs) (targetOf x frames) ≡ 0 = within-few g frames r .0 in
+      let l : length (within g ms) ≡ to - done = mid-len done to ms k in
+      let own : refusalTo (within g ms) (within g vs) (targetOf x frames) ≡ 0 = accepted-group ms vs g frames r .0 in
       let many : 0 < length (within g ms) = omega arith in
-      let same : length (within g vs) ≡ length (within g ms) = part-lengths done (to - done) ms vs agree in
+      let same : length (within g vs) ≡ length (within g ms) = same-parts g k in
       let e : Each (within g ms) ds = each-fit (within g ms) (within g vs) (targetOf x frames) many same own in
       let last : lastFrom (g ∷ later) ≡ lastFrom later = last-later g later (rest .some) in
       let apart : lastFrom later - done ≡ length ds + (lastFrom later - to) = omega (arith, e .count, rest .behind) in

@@ -5,11 +5,9 @@ use Prim.Native.Nat.{ℕ, suc, _+_, _-_, _*_, _≤_, _<_, zero-le}
 use native.Mathlib.Nat.{zero-add, sub-zero, zero-mul, suc-mul, mul-one, mul-le-mul-left}
 use native.Mathlib.Numerals.{add-one}
 use native.Mathlib.Omega.{arith}
-use lib.Dec.{ltb}
 use lib.ListN.{length, take, drop, getD, length-append, length-drop, drop-of-length-le}
 use lib.Seq.{take-at, take-length, length-take-le, drop-cons}
 use lib.Ieee.{Float, nan}
-use borrow.Author.Tests.{ltb-false}
 use Rattle.lists.specs.Sizes.{mostFrames}
 use Rattle.lists.specs.Totals.{total}
 use Rattle.duration.specs.declared.Fitted.{Fitted}
@@ -20,16 +18,14 @@ use Rattle.duration.specs.declared.align.Label.{Label}
 use Rattle.duration.specs.declared.align.Closed.{Closed}
 use Rattle.duration.specs.declared.align.Closed.the-variants as close
 use Rattle.steps.specs.Steps.{Outcome}
-use Rattle.duration.specs.Estimate.{naturals}
 use Rattle.lists.specs.Refusals.{orElse}
-use Rattle.duration.specs.Align.{labelOf, Group, given, closing, tail, groups, within, targetOf, fitOf, fitAlong, refusalToEnd, refusalOf, refusalAlong}
+use Rattle.duration.specs.Align.{labelOf, Group, given, closing, tail, groups, within, targetOf, fitOf, fitAlong, refusalOf, refusalAlong}
 use Rattle.lists.specs.Answers.{Answer}
 use Rattle.duration.specs.Promise.{fitted}
 use Rattle.duration.specs.Inner.Asked.{InPlace, Lies, closed, grown, Closes, Labelled}
 use Rattle.lists.proofs.Answers.{refusing, refused, refused-is, accepted-is}
-use Rattle.duration.proofs.Refusals.{cond-none}
-use Rattle.lists.proofs.Refusals.{or-first, or-none}
-use Rattle.duration.proofs.Closing.{fit-few}
+use Rattle.lists.proofs.Refusals.{or-first}
+use Rattle.duration.proofs.Closing.{accepted-group, fit-few}
 
 abbrev joined : List ℕ → ℕ → Outcome → Outcome
 joined ds c o = record { durations = ds ++ o .durations; changes = c + o .changes }
@@ -111,10 +107,6 @@ module _ (ms vs : List Float) (k : ℕ) (ends : List Float) where
 
       -- it was accepted
       module _ (z : refusalOf ms vs group frames ≡ 0) where
-        frames-few : frames + total durations ≤ mostFrames
-        unfolding refusalOf
-        frames-few = ltb-false mostFrames (frames + total durations) (cond-none (ltb mostFrames (frames + total durations)) 7 0 (or-none (refusalToEnd (within group ms) (within group vs) frames end) _ z .1) .0)
-
         -- the durations before it and its own, and those of the groups after it
         so-far-is : joined (take done work ++ durations) (changes + more) (fitAlong ms vs later (frames + total durations)) ≡ outcome
         unfolding fitAlong
@@ -221,7 +213,7 @@ module _ (ms vs : List Float) (k : ℕ) (ends : List Float) where
             frames-is = let v = accepted .1 in cc
 
             grown-frames : frames + s ≤ mostFrames
-            grown-frames = rw frames-is (frames-few (label .first + k) (At end) later (here (At end) q) _ _ (closed r) work′ f (accepted .0))
+            grown-frames = rw frames-is (accepted-group ms vs (given done (label .first + k) end) frames (accepted .0) .1)
 
             more-few : c ≤ mostFrames
             more-few = rw changes-is (fit-few (within (given done (label .first + k) end) ms) (within (given done (label .first + k) end) vs) (targetOf end frames))

@@ -9,27 +9,27 @@ use lib.Dec.{ltb}
 use lib.ListN.{length, take, drop, take-append-drop}
 use lib.Seq.{take-at, drop-at, length-take-le}
 use lib.Ieee.{Float}
-use borrow.Author.Tests.{lt-ltb, le-ltb}
+use borrow.Author.Tests.{lt-ltb, le-ltb, ltb-false}
 use Rattle.lists.specs.Sizes.{mostFrames}
 use Rattle.lists.specs.Totals.{total}
 use Rattle.lists.proofs.Sums.{total-whole}
 use Rattle.lists.proofs.Numbers.{le-or-lt}
-use Rattle.lists.proofs.Refusals.{or-first}
+use Rattle.lists.proofs.Refusals.{or-first, or-none}
 use Rattle.duration.specs.declared.Fitted.{Fitted}
 use Rattle.duration.specs.declared.Fitted.the-variants as fit
 use Rattle.duration.specs.declared.align.Closed.the-variants as close
 use Rattle.duration.specs.declared.align.End.{End}
 use Rattle.duration.specs.declared.align.End.the-variants.{At, Open}
 use Rattle.steps.specs.Steps.{Outcome, unchanged}
-use Rattle.floats.specs.Numbers.{nought}
 use Rattle.duration.specs.Estimate.{estimates, naturals}
 use Rattle.duration.specs.Fit.{atShortest, fitTo, refusalTo}
 use Rattle.lists.specs.Refusals.{orElse}
-use Rattle.duration.specs.Align.{Group, given, tail, within, targetOf, fitToEnd, fitOf, refusalToEnd, refusalOf, refusalAlong}
+use Rattle.duration.specs.Align.{Group, given, tail, within, targetOf, fitOf, refusalToEnd, refusalOf, refusalAlong}
 use Rattle.duration.specs.Promise.{fitted, clears}
 use Rattle.duration.specs.Inner.Asked.{InPlace, closed, grown, Closes}
 use Rattle.lists.proofs.Answers.{refusing, refused, refused-is, accepted-is}
 use Rattle.steps.proofs.Stepping.{settle-few}
+use Rattle.duration.proofs.Refusals.{cond-none}
 use Rattle.duration.proofs.Fits.{fit-clears}
 
 -- ---- closing a group with an end, whose fit left w in its place
@@ -116,6 +116,15 @@ pub counted : (r : ℕ) (work w rest : List ℕ) (a n : ℕ) → r ≡ total (ta
 counted r work w rest a n e h l s =
     let back : take n (drop a (take a work ++ (w ++ rest))) ≡ w = ap (take n) (drop-at (take a work) (w ++ rest) a (length-take-le a work h)) ∙ take-at w rest n l in
     e ∙ rw back (total-whole w (omega arith))
+
+-- ---- a group that is not refused: its own tests, and the frames up to its end
+
+pub accepted-group : (ms vs : List Float) (g : Group) (frames : ℕ) → refusalOf ms vs g frames ≡ 0 → (refusalToEnd (within g ms) (within g vs) frames (g .end) ≡ 0) × (frames + total (fitOf ms vs g frames .durations) ≤ mostFrames)
+unfolding refusalOf
+accepted-group ms vs g frames r =
+    let p = or-none (refusalToEnd (within g ms) (within g vs) frames (g .end)) _ r in
+    let n : ℕ = frames + total (fitOf ms vs g frames .durations) in
+    (p .0, ltb-false mostFrames n (cond-none (ltb mostFrames n) 7 0 (p .1) .0))
 
 -- ---- how much a group adds
 

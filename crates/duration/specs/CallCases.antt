@@ -21,6 +21,7 @@ use Rattle.duration.specs.Fit.{startOf, fitTo, refusalTo}
 use Rattle.duration.specs.Speed.{targetAt, fitAt, refusalAt}
 use Rattle.duration.specs.Align.{endOf, groups, fitAlong, refusalOf, refusalAlong}
 use Rattle.duration.specs.Promise.{workOf, refusalOfLists, refusalOfLabels, FitSays, SpeedSays, AlignSays}
+use Rattle.duration.specs.Fitting.{lastFrom}
 use Rattle.duration.specs.Inputs.{two-three, one-one, sevens, nines, cleared, halves, unset}
 
 -- ---- -0 is given, the least number below it and NaN are open
@@ -111,6 +112,25 @@ no-label = record { answer = refl; output = refl; workspace = refl }
 pub tail-natural : AlignSays means varis 2 (number 8 ∷ unset ∷ []) output workspace (align.Done 4 1) (3 ∷ 5 ∷ 2 ∷ 3 ∷ 7 ∷ []) all-cleared
 unfolding workOf refusalOfLists refusalOfLabels groups refusalAlong refusalOf fitAlong naturals neg le eq refusalTo fitTo settle step keys keyOf leastOf costBelow absOf total startOf estimates roundedOf sumOf foldFrom pairsOf ofBits ofInt add sub mul div lt isNan
 tail-natural = record { answer = refl; output = refl; workspace = refl }
+
+-- its estimate is the mean plus 0 times the variance: of an infinite one that is NaN, and so 1
+pub tail-infinite : AlignSays two-three (number 1 ∷ inf false ∷ []) 1 (number 4 ∷ unset ∷ []) sevens nines (align.Done 2 0) (4 ∷ 1 ∷ 7 ∷ []) cleared
+unfolding workOf refusalOfLists refusalOfLabels groups refusalAlong refusalOf fitAlong naturals neg le eq refusalTo fitTo settle step keys keyOf leastOf costBelow absOf total startOf estimates roundedOf sumOf foldFrom pairsOf ofBits ofInt add sub mul div lt isNan
+tail-infinite = record { answer = refl; output = refl; workspace = refl }
+
+-- the tail begins behind the last given end, whatever is open before it
+pub tail-from : lastFrom (groups 2 0 0 (unset ∷ number 4 ∷ unset ∷ [])) ≡ 4
+unfolding lastFrom groups neg le ofBits ofInt
+tail-from = refl
+
+-- at the first state where no end is given, and behind the last where the last label has one
+pub tail-from-first : lastFrom (groups 2 0 0 (unset ∷ unset ∷ [])) ≡ 0
+unfolding lastFrom groups neg le ofBits ofInt
+tail-from-first = refl
+
+pub tail-from-last : lastFrom (groups 2 0 0 (unset ∷ number 4 ∷ [])) ≡ 4
+unfolding lastFrom groups neg le ofBits ofInt
+tail-from-last = refl
 
 -- two states of so many frames and one
 abbrev frames-and-one : ℕ → List Float

@@ -8,7 +8,7 @@ use borrow.Rule.Slice.PartMut.{mid-len, post-is, postOf}
 use lib.ListN.{length, take}
 use Rattle.lists.specs.Totals.{total}
 use Rattle.duration.specs.Estimate.{naturals}
-use Rattle.duration.specs.Align.{tail, within}
+use Rattle.duration.specs.Align.{Group, tail, within}
 use Rattle.duration.proofs.Closing.{tail-none, tail-long, tail-fits, counted}
 use Rattle.duration.proofs.align.close_tail.Statement.{statement}
 use Rattle.duration.proofs.align.close_tail.Tie as tie
@@ -21,15 +21,21 @@ module _ (c : tie.After-total-u32) where
   abbrev entry : tie.Start
   entry = made .before .before .before .before .before .before .before .before
 
+  abbrev group : Group
+  group = tail (entry .args .from) (entry .args .to)
+
+  abbrev durations : List ℕ
+  durations = naturals (within group (entry .args .means .now)) (within group (entry .args .varis .now))
+
   -- the estimates in their place
   abbrev W : List ℕ
   W = made .estimate-duration .last .1 .1 .1 .0
 
-  natural : W ≡ naturals (within (tail (entry .args .from) (entry .args .to)) (entry .args .means .now)) (within (tail (entry .args .from) (entry .args .to)) (entry .args .varis .now))
+  natural : W ≡ durations
   unfolding naturals
   natural = made .estimate-duration .ensures
 
-  sum : c .total-u32 .result ≡ total (naturals (within (tail (entry .args .from) (entry .args .to)) (entry .args .means .now)) (within (tail (entry .args .from) (entry .args .to)) (entry .args .varis .now)))
+  sum : c .total-u32 .result ≡ total durations
   sum =
       let a = entry .args in
       let n : length W ≡ a .to - a .from = made .estimate-duration .kept .1 .1 .1 .0 ∙ mid-len (a .from) (a .to) (a .work .now) (omega (arith, entry .pre .inside, entry .pre .lists .workspace)) in
