@@ -20,10 +20,10 @@ use Rattle.duration.specs.declared.align.Closed.the-variants as close
 use Rattle.steps.specs.Steps.{Outcome}
 use Rattle.lists.specs.Refusals.{orElse}
 use Rattle.duration.specs.Align.{labelOf, Group, given, closing, tail, groups, within, targetOf, fitOf, fitAlong, refusalOf, refusalAlong}
-use Rattle.lists.specs.Answers.{Answer}
+use Rattle.lists.specs.Answers.{Answer, refusing}
 use Rattle.duration.specs.Promise.{fitted}
 use Rattle.duration.specs.Inner.Asked.{InPlace, Lies, closed, grown, Closes, Labelled}
-use Rattle.lists.proofs.Answers.{refusing, refused, refused-is, accepted-is}
+use Rattle.lists.proofs.Answers.{refused, refused-is, accepted-is}
 use Rattle.lists.proofs.Refusals.{or-first}
 use Rattle.duration.proofs.Closing.{accepted-group, fit-few}
 

@@ -9,14 +9,14 @@ use lib.Ieee.{Float}
 use lib.Seq.{sets, take-at, drop-at}
 use borrow.Author.Tests.{ne-eqb}
 use Rattle.lists.proofs.Stores.{filled, copied}
-use Rattle.lists.proofs.Answers.{refusing, refused, Same, same, untouched, refused-is, accepted-is}
+use Rattle.lists.proofs.Answers.{refused, Same, same, untouched, refused-is, accepted-is}
 use Rattle.duration.specs.declared.Fitted.{Fitted}
 use Rattle.duration.specs.declared.Fitted.the-variants as fit
 use Rattle.duration.specs.declared.Aligned.{Aligned}
 use Rattle.duration.specs.declared.Aligned.the-variants as align
 use Rattle.lists.specs.Refusals.{orElse}
 use Rattle.duration.specs.Inner.Asked.{outputAfter, HandsOut}
-use Rattle.lists.specs.Answers.{Answer, answerOf}
+use Rattle.lists.specs.Answers.{Answer, refusing, answerOf}
 use Rattle.duration.specs.Promise.{fitted, aligned, clears, workOf, Says, FitSays, SpeedSays, AlignSays}
 
 pub handed : (r : Fitted) (c : ℕ) (new out out′ : List ℕ) → r ≡ fit.Done c → out′ ≡ new → out′ ≡ outputAfter r new out

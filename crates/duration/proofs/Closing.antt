@@ -27,7 +27,8 @@ use Rattle.lists.specs.Refusals.{orElse}
 use Rattle.duration.specs.Align.{Group, given, tail, within, targetOf, fitOf, refusalToEnd, refusalOf, refusalAlong}
 use Rattle.duration.specs.Promise.{fitted, clears}
 use Rattle.duration.specs.Inner.Asked.{InPlace, closed, grown, Closes}
-use Rattle.lists.proofs.Answers.{refusing, refused, refused-is, accepted-is}
+use Rattle.lists.specs.Answers.{refusing}
+use Rattle.lists.proofs.Answers.{refused, refused-is, accepted-is}
 use Rattle.steps.proofs.Stepping.{settle-few}
 use Rattle.duration.proofs.Refusals.{cond-none}
 use Rattle.duration.proofs.Fits.{fit-clears}

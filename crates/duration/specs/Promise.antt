@@ -14,19 +14,19 @@ use Rattle.duration.specs.declared.Aligned.the-variants as align
 use Rattle.duration.specs.Fit.{fitTo, refusalTo}
 use Rattle.lists.specs.Sizes.{mostStates, mostLabelStates}
 use Rattle.lists.specs.Refusals.{orElse}
-use Rattle.lists.specs.Answers.{Answer, answerOf, written}
+use Rattle.lists.specs.Answers.{Answer, accepting, refusing, answerOf, written}
 use Rattle.duration.specs.Speed.{fitAt, refusalAt}
 use Rattle.duration.specs.Align.{groups, fitAlong, refusalAlong}
 
 -- of a fit or a speed: the unit changes
 abbrev pub fitted : Fitted → Answer
-fitted (fit.Done changes) = record { number = 0; values = changes ∷ [] }
-fitted (fit.Refused number) = record { number = number; values = [] }
+fitted (fit.Done changes) = accepting (changes ∷ [])
+fitted (fit.Refused number) = refusing number
 
 -- of an alignment: how many durations were written, one a state, and the unit changes
 abbrev pub aligned : Aligned → Answer
-aligned (align.Done count changes) = record { number = 0; values = count ∷ changes ∷ [] }
-aligned (align.Refused number) = record { number = number; values = [] }
+aligned (align.Done count changes) = accepting (count ∷ changes ∷ [])
+aligned (align.Refused number) = refusing number
 
 -- RULES, Refusals: an accepted call, 7 and 8 zero the call's part of the work space; any other refusal leaves it as it was
 abbrev pub clears : ℕ → Bool
@@ -44,11 +44,15 @@ refusalOfLists n v o w = cond (ltb mostStates n) 3 (cond (not (eqb v n)) 4 (cond
 unfoldable pub refusalOfLabels : ℕ → ℕ → ℕ → ℕ → ℕ → ℕ → ℕ
 refusalOfLabels k l n v o w = cond (ltb mostStates n) 3 (cond (ltb k 1) 3 (cond (ltb mostLabelStates k) 3 (cond (not (eqb (l * k) n)) 4 (refusalOfLists n v o w))))
 
--- A call of n states with the refusal number k, 0 for none, and these values and durations where it is accepted: its answer, and the lists at exit.
-pub record Says (k : ℕ) (values new : List ℕ) (n : ℕ) (out work : List ℕ) (r : Answer) (out′ work′ : List ℕ) : Type 0 where
-  pub answer : r ≡ answerOf k values
-  pub output : out′ ≡ written k new out
-  pub workspace : work′ ≡ workOf k n work
+-- A call of n states that answers a, and these durations where that accepts: its answer, and the lists at exit.
+pub record Answers (a : Answer) (new : List ℕ) (n : ℕ) (out work : List ℕ) (r : Answer) (out′ work′ : List ℕ) : Type 0 where
+  pub answer : r ≡ a
+  pub output : out′ ≡ written (a .number) new out
+  pub workspace : work′ ≡ workOf (a .number) n work
+
+-- one with the refusal number k, 0 for none, and these values where it is accepted
+abbrev pub Says : ℕ → List ℕ → List ℕ → ℕ → List ℕ → List ℕ → Answer → List ℕ → List ℕ → Type 0
+Says k values = Answers (answerOf k values)
 
 -- `estimate_duration_with_frame_length`
 abbrev pub FitSays : List Float → List Float → Float → List ℕ → List ℕ → Fitted → List ℕ → List ℕ → Type 0

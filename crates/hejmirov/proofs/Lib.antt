@@ -1,3 +1,5 @@
 -- The laws of the C calls.
 pub mod One
 pub mod Rendering
+pub mod Telling
+pub mod Old

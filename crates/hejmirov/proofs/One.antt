@@ -18,7 +18,7 @@ use Rattle.job.specs.LinkPromise.{linkedNumber}
 use Rattle.job.proofs.LinkOutcomes.{link-begin-one, link-part-one, link-end-one}
 use Rattle.spool.specs.Promise.{placed, spanned}
 use Rattle.spool.proofs.One.{place-one, span-one}
-use Rattle.hejmirov.specs.Promise.{handed, HandsOne, HandsTwo, HandsThree, streamOf, FitCallSays, SpeedCallSays, AlignCallSays, MaskCallSays, BandCallSays, TrajectoryCallSays, PlaceCallSays, ExcerptCallSays, JobCallSays, LinkBeginCallSays, LinkPartCallSays, LinkEndCallSays}
+use Rattle.hejmirov.specs.Promise.{handed, HandsOne, HandsTwo, HandsThree, HandsJob, streamOf, FitCallSays, SpeedCallSays, AlignCallSays, MaskCallSays, BandCallSays, TrajectoryCallSays, PlaceCallSays, ExcerptCallSays, JobCallSays, LinkBeginCallSays, LinkPartCallSays, LinkEndCallSays}
 
 -- one answer gives one number and one value
 hands-one : (a b : Answer) (old r s x y : ℕ) → a ≡ b → HandsOne a old r x → HandsOne b old s y → (r ≡ s) × (x ≡ y)
@@ -33,6 +33,12 @@ hands-three : (a b : Answer) (o₀ o₁ o₂ r s x₀ x₁ x₂ y₀ y₁ y₂ :
     → (r ≡ s) × (x₀ ≡ y₀) × (x₁ ≡ y₁) × (x₂ ≡ y₂)
 hands-three a b o₀ o₁ o₂ r s x₀ x₁ x₂ y₀ y₁ y₂ e p q =
     (p .answers ∙ same e .0 ∙ sym (q .answers), p .first ∙ ap (λ c. handed c 0 o₀) (same e .1) ∙ sym (q .first), p .second ∙ ap (λ c. handed c 1 o₁) (same e .1) ∙ sym (q .second), p .third ∙ ap (λ c. handed c 2 o₂) (same e .1) ∙ sym (q .third))
+
+hands-job : (a b : Answer) (o₀ o₁ o₂ at r s x₀ x₁ x₂ p y₀ y₁ y₂ q : ℕ) → a ≡ b → HandsJob a o₀ o₁ o₂ at r x₀ x₁ x₂ p → HandsJob b o₀ o₁ o₂ at s y₀ y₁ y₂ q
+    → (r ≡ s) × (x₀ ≡ y₀) × (x₁ ≡ y₁) × (x₂ ≡ y₂) × (p ≡ q)
+hands-job a b o₀ o₁ o₂ at r s x₀ x₁ x₂ p y₀ y₁ y₂ q e f g =
+    let h = hands-three a b o₀ o₁ o₂ r s x₀ x₁ x₂ y₀ y₁ y₂ e (f .three) (g .three) in
+    (h .0, h .1, h .2, h .3, f .place ∙ ap (λ c. handed c 0 at) (same e .2) ∙ sym (g .place))
 
 module _ (ms vs : List Float) (out work o₁ w₁ o₂ w₂ : List ℕ) (changes r s x y : ℕ) where
   pub fit-call-one : (len : Float) → FitCallSays ms vs len out work changes r o₁ w₁ x → FitCallSays ms vs len out work changes s o₂ w₂ y → (r ≡ s) × (o₁ ≡ o₂) × (w₁ ≡ w₂) × (x ≡ y)
@@ -84,12 +90,13 @@ trajectory-call-one v masked threshold none gvOn weight widths coefs records ds 
     let t = create-one (streamOf v masked threshold none gvOn weight) widths coefs records ds gv switches out work marks (f .answer) (g .answer) o₁ w₁ m₁ o₂ w₂ m₂ (f .says) (g .says) in
     (f .gives ∙ ap createdNumber (t .0) ∙ sym (g .gives), t .1, t .2, t .3)
 
-pub job-call-one : (bytes out work : List ℕ) (states frames changes r s : ℕ) (o₁ w₁ o₂ w₂ : List ℕ) (x₀ x₁ x₂ y₀ y₁ y₂ : ℕ)
-    → JobCallSays bytes out work states frames changes r o₁ w₁ x₀ x₁ x₂ → JobCallSays bytes out work states frames changes s o₂ w₂ y₀ y₁ y₂ → (r ≡ s) × (o₁ ≡ o₂) × (w₁ ≡ w₂) × (x₀ ≡ y₀) × (x₁ ≡ y₁) × (x₂ ≡ y₂)
-job-call-one bytes out work states frames changes r s o₁ w₁ o₂ w₂ x₀ x₁ x₂ y₀ y₁ y₂ f g =
+pub job-call-one : (bytes out work : List ℕ) (states frames changes place r s : ℕ) (o₁ w₁ o₂ w₂ : List ℕ) (x₀ x₁ x₂ p y₀ y₁ y₂ q : ℕ)
+    → JobCallSays bytes out work states frames changes place r o₁ w₁ x₀ x₁ x₂ p → JobCallSays bytes out work states frames changes place s o₂ w₂ y₀ y₁ y₂ q
+    → (r ≡ s) × (o₁ ≡ o₂) × (w₁ ≡ w₂) × (x₀ ≡ y₀) × (x₁ ≡ y₁) × (x₂ ≡ y₂) × (p ≡ q)
+job-call-one bytes out work states frames changes place r s o₁ w₁ o₂ w₂ x₀ x₁ x₂ p y₀ y₁ y₂ q f g =
     let t = job-one bytes out work o₁ o₂ w₁ w₂ (f .answer) (g .answer) (f .says) (g .says) in
-    let h = hands-three (answered (f .answer)) (answered (g .answer)) states frames changes r s x₀ x₁ x₂ y₀ y₁ y₂ (ap answered (t .0)) (f .gives) (g .gives) in
-    (h .0, t .1, t .2, h .1, h .2, h .3)
+    let h = hands-job (answered (f .answer)) (answered (g .answer)) states frames changes place r s x₀ x₁ x₂ p y₀ y₁ y₂ q (ap answered (t .0)) (f .gives) (g .gives) in
+    (h .0, t .1, t .2, h .1, h .2, h .3, h .4)
 
 pub link-begin-call-one : (link : List ℕ) (r s : ℕ) (l₁ l₂ : List ℕ) → LinkBeginCallSays link r l₁ → LinkBeginCallSays link s l₂ → (r ≡ s) × (l₁ ≡ l₂)
 link-begin-call-one link r s l₁ l₂ f g =
@@ -101,10 +108,10 @@ link-part-call-one link bytes r s l₁ l₂ f g =
     let t = link-part-one link bytes (f .answer) (g .answer) l₁ l₂ (f .says) (g .says) in
     (f .gives ∙ ap linkedNumber (t .0) ∙ sym (g .gives), t .1)
 
-pub link-end-call-one : (link out work : List ℕ) (states frames changes r s : ℕ) (l₁ o₁ w₁ l₂ o₂ w₂ : List ℕ) (x₀ x₁ x₂ y₀ y₁ y₂ : ℕ)
-    → LinkEndCallSays link out work states frames changes r l₁ o₁ w₁ x₀ x₁ x₂ → LinkEndCallSays link out work states frames changes s l₂ o₂ w₂ y₀ y₁ y₂
-    → (r ≡ s) × (l₁ ≡ l₂) × (o₁ ≡ o₂) × (w₁ ≡ w₂) × (x₀ ≡ y₀) × (x₁ ≡ y₁) × (x₂ ≡ y₂)
-link-end-call-one link out work states frames changes r s l₁ o₁ w₁ l₂ o₂ w₂ x₀ x₁ x₂ y₀ y₁ y₂ f g =
+pub link-end-call-one : (link out work : List ℕ) (states frames changes place r s : ℕ) (l₁ o₁ w₁ l₂ o₂ w₂ : List ℕ) (x₀ x₁ x₂ p y₀ y₁ y₂ q : ℕ)
+    → LinkEndCallSays link out work states frames changes place r l₁ o₁ w₁ x₀ x₁ x₂ p → LinkEndCallSays link out work states frames changes place s l₂ o₂ w₂ y₀ y₁ y₂ q
+    → (r ≡ s) × (l₁ ≡ l₂) × (o₁ ≡ o₂) × (w₁ ≡ w₂) × (x₀ ≡ y₀) × (x₁ ≡ y₁) × (x₂ ≡ y₂) × (p ≡ q)
+link-end-call-one link out work states frames changes place r s l₁ o₁ w₁ l₂ o₂ w₂ x₀ x₁ x₂ p y₀ y₁ y₂ q f g =
     let t = link-end-one link out work (f .answer) (g .answer) l₁ o₁ w₁ l₂ o₂ w₂ (f .says) (g .says) in
-    let h = hands-three (answered (f .answer)) (answered (g .answer)) states frames changes r s x₀ x₁ x₂ y₀ y₁ y₂ (ap answered (t .0)) (f .gives) (g .gives) in
-    (h .0, t .1, t .2, t .3, h .1, h .2, h .3)
+    let h = hands-job (answered (f .answer)) (answered (g .answer)) states frames changes place r s x₀ x₁ x₂ p y₀ y₁ y₂ q (ap answered (t .0)) (f .gives) (g .gives) in
+    (h .0, t .1, t .2, t .3, h .1, h .2, h .3, h .4)

@@ -1,3 +1,4 @@
--- What the contracts of src/ cite, and what two calls after each other come to.
+-- What the contracts of src/ cite, what two calls after each other come to, and what two calls promised while 9 was the number of every damage.
 pub mod Promise
 pub mod Rendering
+pub mod Old

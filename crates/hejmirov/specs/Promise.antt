@@ -27,7 +27,8 @@ use Rattle.spool.specs.Promise.{placed, spanned, PlaceSays, SpanSays}
 use Rattle.spool.specs.declared.Placed.{Placed}
 use Rattle.spool.specs.declared.Span.{Span}
 
--- RULES, Refusals: a refusal has a number and nothing else; so value i of an answer is handed out where there is one, and what was there stays where not
+-- RULES, Refusals: a refusal has a number and nothing else, but for the place of a damaged job; so value i of an answer, or the place, is handed out where there is one, and
+-- what was there stays where not
 abbrev pub handed : List ℕ → ℕ → ℕ → ℕ
 handed values i old = getD values i old
 
@@ -48,6 +49,11 @@ pub record HandsThree (a : Answer) (old₀ old₁ old₂ r new₀ new₁ new₂ 
   pub first : new₀ ≡ handed (a .values) 0 old₀
   pub second : new₁ ≡ handed (a .values) 1 old₁
   pub third : new₂ ≡ handed (a .values) 2 old₂
+
+-- a job's number and its three values, and the place of its damage
+pub record HandsJob (a : Answer) (old₀ old₁ old₂ at r new₀ new₁ new₂ at′ : ℕ) : Type 0 where
+  pub three : HandsThree a old₀ old₁ old₂ r new₀ new₁ new₂
+  pub place : at′ ≡ handed (a .place) 0 at
 
 -- `hejmirov_fit`
 pub record FitCallSays (ms vs : List Float) (len : Float) (out work : List ℕ) (changes r : ℕ) (out′ work′ : List ℕ) (changes′ : ℕ) : Type 0 where
@@ -107,10 +113,10 @@ pub record ExcerptCallSays (trajectory : List Float) (durations : List ℕ) (v s
   pub gives : HandsTwo (spanned answer) first count r first′ count′
 
 -- `hejmirov_job`
-pub record JobCallSays (bytes out work : List ℕ) (states frames changes r : ℕ) (out′ work′ : List ℕ) (states′ frames′ changes′ : ℕ) : Type 0 where
+pub record JobCallSays (bytes out work : List ℕ) (states frames changes place r : ℕ) (out′ work′ : List ℕ) (states′ frames′ changes′ place′ : ℕ) : Type 0 where
   pub answer : Answered
   pub says : JobSays bytes out work answer out′ work′
-  pub gives : HandsThree (answered answer) states frames changes r states′ frames′ changes′
+  pub gives : HandsJob (answered answer) states frames changes place r states′ frames′ changes′ place′
 
 -- `hejmirov_link_begin`
 pub record LinkBeginCallSays (link : List ℕ) (r : ℕ) (link′ : List ℕ) : Type 0 where
@@ -125,7 +131,7 @@ pub record LinkPartCallSays (link bytes : List ℕ) (r : ℕ) (link′ : List �
   pub gives : r ≡ linkedNumber answer
 
 -- `hejmirov_link_end`
-pub record LinkEndCallSays (link out work : List ℕ) (states frames changes r : ℕ) (link′ out′ work′ : List ℕ) (states′ frames′ changes′ : ℕ) : Type 0 where
+pub record LinkEndCallSays (link out work : List ℕ) (states frames changes place r : ℕ) (link′ out′ work′ : List ℕ) (states′ frames′ changes′ place′ : ℕ) : Type 0 where
   pub answer : Answered
   pub says : LinkEndSays link out work answer link′ out′ work′
-  pub gives : HandsThree (answered answer) states frames changes r states′ frames′ changes′
+  pub gives : HandsJob (answered answer) states frames changes place r states′ frames′ changes′ place′

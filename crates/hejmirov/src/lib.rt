@@ -1,11 +1,13 @@
-// The calls for C and Rust. Each answers a refusal number, 0 for none, and gives its values through pointers, which a refusal leaves as they were.
+// The calls for C and Rust. Each but hejmirov_job_old_number answers a refusal number, 0 for none, and gives its values through pointers, which a refusal leaves as they
+// were, but for the place of a damaged job.
 // A list is a pointer and a length.
 ghost use mathlib.Core.Path.{_≡_};
 ghost use Rattle.duration.specs.Promise.{fitted, aligned};
 ghost use Rattle.lists.specs.Ends.{filled};
 ghost use Rattle.spool.specs.Promise.{placed, spanned};
+ghost use Rattle.job.specs.Damage.{oldNumber};
 ghost use Rattle.job.specs.Promise.{answered};
-ghost use Rattle.hejmirov.specs.Promise.{HandsOne, HandsTwo, HandsThree, varianceOf, FitCallSays, SpeedCallSays, AlignCallSays, MaskCallSays, BandCallSays, TrajectoryCallSays, PlaceCallSays, ExcerptCallSays, JobCallSays, LinkBeginCallSays, LinkPartCallSays, LinkEndCallSays};
+ghost use Rattle.hejmirov.specs.Promise.{HandsOne, HandsTwo, HandsJob, varianceOf, FitCallSays, SpeedCallSays, AlignCallSays, MaskCallSays, BandCallSays, TrajectoryCallSays, PlaceCallSays, ExcerptCallSays, JobCallSays, LinkBeginCallSays, LinkPartCallSays, LinkEndCallSays};
 use duration::Aligned;
 use duration::Fitted;
 use job::Answered;
@@ -260,15 +262,22 @@ pub extern "C" fn hejmirov_job(
     states: &mut u32,
     frames: &mut u32,
     changes: &mut u32,
+    place: &mut u64,
 ) -> u32
-    ensures { λ r. ⌜ JobCallSays (now (bytes .entry)) (now (out .entry)) (now (work .entry)) (now (states .entry)) (now (frames .entry)) (now (changes .entry)) r (now (out .exit)) (now (work .exit)) (now (states .exit)) (now (frames .exit)) (now (changes .exit)) ⌝ }
+    ensures { λ r. ⌜ JobCallSays (now (bytes .entry)) (now (out .entry)) (now (work .entry)) (now (states .entry)) (now (frames .entry)) (now (changes .entry)) (now (place .entry)) r (now (out .exit)) (now (work .exit)) (now (states .exit)) (now (frames .exit)) (now (changes .exit)) (now (place .exit)) ⌝ }
 {
     let answer = job::answer(bytes, out, work);
-    hand_out_job(answer, states, frames, changes)
+    hand_out_job(answer, states, frames, changes, place)
 }
 
-fn hand_out_job(answer: Answered, states: &mut u32, frames: &mut u32, changes: &mut u32) -> u32
-    ensures { λ r. ⌜ HandsThree (answered answer) (now (states .entry)) (now (frames .entry)) (now (changes .entry)) r (now (states .exit)) (now (frames .exit)) (now (changes .exit)) ⌝ }
+fn hand_out_job(
+    answer: Answered,
+    states: &mut u32,
+    frames: &mut u32,
+    changes: &mut u32,
+    place: &mut u64,
+) -> u32
+    ensures { λ r. ⌜ HandsJob (answered answer) (now (states .entry)) (now (frames .entry)) (now (changes .entry)) (now (place .entry)) r (now (states .exit)) (now (frames .exit)) (now (changes .exit)) (now (place .exit)) ⌝ }
 {
     match answer {
         Answered::Done {
@@ -281,8 +290,20 @@ fn hand_out_job(answer: Answered, states: &mut u32, frames: &mut u32, changes: &
             *changes = steps;
             0
         }
+        Answered::Damaged(damage, at) => {
+            *place = at;
+            damage.number() as u32
+        }
         Answered::Refused(number) => number as u32,
     }
+}
+
+// The old number of a refusal, for programs that know 9 alone.
+#[no_mangle]
+pub extern "C" fn hejmirov_job_old_number(number: u32) -> u32
+    ensures { λ r. ⌜ r ≡ oldNumber number ⌝ }
+{
+    job::old_number(number)
 }
 
 // Starts a job over a serial link, whatever its memory holds.
@@ -312,9 +333,10 @@ pub extern "C" fn hejmirov_link_end(
     states: &mut u32,
     frames: &mut u32,
     changes: &mut u32,
+    place: &mut u64,
 ) -> u32
-    ensures { λ r. ⌜ LinkEndCallSays (now (link .entry)) (now (out .entry)) (now (work .entry)) (now (states .entry)) (now (frames .entry)) (now (changes .entry)) r (now (link .exit)) (now (out .exit)) (now (work .exit)) (now (states .exit)) (now (frames .exit)) (now (changes .exit)) ⌝ }
+    ensures { λ r. ⌜ LinkEndCallSays (now (link .entry)) (now (out .entry)) (now (work .entry)) (now (states .entry)) (now (frames .entry)) (now (changes .entry)) (now (place .entry)) r (now (link .exit)) (now (out .exit)) (now (work .exit)) (now (states .exit)) (now (frames .exit)) (now (changes .exit)) (now (place .exit)) ⌝ }
 {
     let answer = job::link::end(link, out, work);
-    hand_out_job(answer, states, frames, changes)
+    hand_out_job(answer, states, frames, changes, place)
 }

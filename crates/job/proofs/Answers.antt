@@ -11,18 +11,20 @@ use Rattle.lists.proofs.Sums.{total-whole}
 use Rattle.duration.specs.declared.Fitted.{Fitted}
 use Rattle.duration.specs.declared.Fitted.the-variants as fit
 use Rattle.duration.specs.Speed.{refusalAt}
-use Rattle.lists.specs.Answers.{Answer, answerOf, written}
+use Rattle.lists.specs.Answers.{Answer, accepting, refusing, written}
 use Rattle.duration.specs.Promise.{fitted, workOf, refusalOfLists, Says}
-use Rattle.lists.proofs.Answers.{refusing, refused, refused-is, accepted-is}
+use Rattle.lists.proofs.Answers.{refused, refused-is, accepted-is}
 use Rattle.duration.proofs.Refusals.{fitting}
 use Rattle.lists.proofs.Refusals.{or-none}
-use Rattle.job.specs.declared.Answered.the-variants.{Done, Refused}
-use Rattle.job.specs.declared.Heading.{Heading}
-use Rattle.job.specs.declared.Heading.the-variants.{States, Damaged}
-use Rattle.job.specs.Format.{countOf, Job, jobAt, formatRefusal}
-use Rattle.job.specs.Inner.Reading.{headed, StatesFitted}
+use Rattle.job.specs.declared.Damage.{Damage}
+use Rattle.job.specs.declared.Damage.the-variants.{Mark, Version, Count, Length}
+use Rattle.job.specs.declared.finding.Found.the-variants.{Sound, Wrong}
+use Rattle.job.specs.declared.Answered.the-variants.{Done, Damaged, Refused}
+use Rattle.job.specs.Format.{countOf, Job, jobAt}
+use Rattle.job.specs.Damage.{damageOf}
+use Rattle.job.specs.Inner.Reading.{StatesFitted}
 use Rattle.job.specs.Promise.{jobFit, jobRefusal, JobSays}
-use Rattle.job.proofs.Departures.{accepted-job}
+use Rattle.job.proofs.Damages.{sound-job}
 use Rattle.job.proofs.Pairs.{floats-long}
 use Rattle.job.proofs.Frames.{Bounded, speed-bounded}
 
@@ -34,7 +36,7 @@ module _ (k : ℕ) (values new : List ℕ) (n : ℕ) (out work out′ work′ : 
       let s = refused-is m k c [] (f .answer) in
       record { answer = ap refusing (sym (s .0)) ∙ refused k values (s .1); output = f .output; workspace = f .workspace }
 
-  says-accepted : (a b : Answer) → k ≡ 0 → a ≡ record { number = 0; values = values } → Says k (c ∷ []) new n out work b out′ work′ → Says k values new n out work a out′ work′
+  says-accepted : (a b : Answer) → k ≡ 0 → a ≡ accepting values → Says k (c ∷ []) new n out work b out′ work′ → Says k values new n out work a out′ work′
   says-accepted a b z e f = record { answer = e ∙ rw z; output = f .output; workspace = f .workspace }
 
 -- ---- durations that `create` does not refuse, at the front of its output
@@ -55,26 +57,20 @@ module _ (j : Job) (out work out′ : List ℕ) (z : jobRefusal j out work ≡ 0
   pub fit-taken : take (length (j .means)) out′ ≡ jobFit j .durations
   fit-taken = ap (take (length (j .means))) out-is ∙ take-at (jobFit j .durations) (drop (length (jobFit j .durations)) out) (length (j .means)) (fit-bounded .count)
 
--- ---- a job that departs from the format
+-- ---- a job that is damaged
 
-pub damaged : (bytes out work : List ℕ) → formatRefusal bytes ≡ 9 → JobSays bytes out work (Refused 9) out work
+pub damaged-so : (bytes out work : List ℕ) (what : Damage) (at : ℕ) → damageOf bytes ≡ Wrong what at → JobSays bytes out work (Damaged what at) out work
 unfolding workOf
-damaged bytes out work e = rw e (record { answer = refl; output = refl; workspace = refl })
+damaged-so bytes out work Mark at e = rw e (record { answer = refl; output = refl; workspace = refl })
+damaged-so bytes out work Version at e = rw e (record { answer = refl; output = refl; workspace = refl })
+damaged-so bytes out work Count at e = rw e (record { answer = refl; output = refl; workspace = refl })
+damaged-so bytes out work Length at e = rw e (record { answer = refl; output = refl; workspace = refl })
 
-pub job-damaged : (bytes out work : List ℕ) (h : Heading) → h ≡ Damaged → headed h ≡ answerOf (formatRefusal bytes) (countOf bytes ∷ []) → JobSays bytes out work (Refused 9) out work
-job-damaged bytes out work h d e = damaged bytes out work (refused-is 9 (formatRefusal bytes) (countOf bytes) [] (sym (ap headed d) ∙ e) .0)
+-- ---- one with which nothing is wrong, of s states
 
--- ---- one that does not, of s states
-
-module _ (bytes : List ℕ) (s : ℕ) (h : Heading) (g : h ≡ States s) (e : headed h ≡ answerOf (formatRefusal bytes) (countOf bytes ∷ [])) where
-  sound : (formatRefusal bytes ≡ 0) × (s ∷ [] ≡ countOf bytes ∷ [])
-  sound = accepted-is (headed (States s)) (formatRefusal bytes) _ (sym (ap headed g) ∙ e) refl
-
-  count-is : s ≡ countOf bytes
-  count-is = let p = sound .1 in cc
-
+module _ (bytes : List ℕ) (s : ℕ) (fine : damageOf bytes ≡ Sound) (count-is : s ≡ countOf bytes) where
   pub few-states : s ≤ mostJobStates
-  few-states = rw count-is (accepted-job bytes (sound .0) .few)
+  few-states = rw count-is (sound-job bytes fine .few)
 
   abbrev j : Job
   j = jobAt bytes s
@@ -87,7 +83,7 @@ module _ (bytes : List ℕ) (s : ℕ) (h : Heading) (g : h ≡ States s) (e : he
     k = jobRefusal j out work
 
     pub job-refused : (m number : ℕ) → r ≡ fit.Refused m → number ≡ fitted r .number → JobSays bytes out work (Refused number) out′ work′
-    job-refused m number d q = rw (sound .0, ← count-is, q ∙ ap (λ (x : Fitted). fitted x .number) d) (says-refused k _ (jobFit j .durations) (length (j .means)) out work out′ work′ _ m (rw d at f))
+    job-refused m number d q = rw (fine, ← count-is, q ∙ ap (λ (x : Fitted). fitted x .number) d) (says-refused k _ (jobFit j .durations) (length (j .means)) out work out′ work′ _ m (rw d at f))
 
     -- accepted, with c changes
     module _ (c : ℕ) (d : r ≡ fit.Done c) where
@@ -114,5 +110,5 @@ module _ (bytes : List ℕ) (s : ℕ) (h : Heading) (g : h ≡ States s) (e : he
         job-done =
             let v = done .1 in
             let u : c ≡ jobFit j .changes = cc in
-            rw (sound .0, ← count-is)
-            (says-accepted k (length (j .means) ∷ total (jobFit j .durations) ∷ jobFit j .changes ∷ []) (jobFit j .durations) (length (j .means)) out work out′ work′ _ (record { number = 0; values = s ∷ frames ∷ c ∷ [] }) (fitted r) (done .0) (rw (long, frames-is, u)) f)
+            rw (fine, ← count-is)
+            (says-accepted k (length (j .means) ∷ total (jobFit j .durations) ∷ jobFit j .changes ∷ []) (jobFit j .durations) (length (j .means)) out work out′ work′ _ (accepting (s ∷ frames ∷ c ∷ [])) (fitted r) (done .0) (rw (long, frames-is, u)) f)

@@ -3,61 +3,111 @@ use mathlib.Core.Path.{_≡_, refl, sym, ap, _∙_}
 use mathlib.Core.Bool.{true, false}
 use mathlib.Core.Logic.{⊎-elim}
 use mathlib.Core.List.{List, [], _∷_, _++_, append-assoc, append-nil, map, flatten}
-use Prim.Native.Nat.{ℕ, zero, suc, _≤_, _<_}
+use Prim.Native.Nat.{ℕ, zero, suc, _≤_, _<_, min}
 use native.Mathlib.Omega.{arith}
-use lib.ListN.{length, take, drop, length-take}
+use lib.ListN.{length, take, drop, length-take, take-append-drop}
 use lib.Seq.{take-all, length-take-le}
+use Rattle.lists.specs.Bytes.{little, alike}
 use Rattle.lists.proofs.Numbers.{le-or-lt}
+use Rattle.lists.proofs.Fronts.{alike-same, part-same}
 use Rattle.lists.proofs.Answers.{same, written-long}
 use Rattle.lists.proofs.Bytes.{bytes-length}
 use Rattle.duration.specs.Promise.{workOf}
+use Rattle.job.specs.declared.Damage.{Damage}
+use Rattle.job.specs.declared.Damage.the-variants.{Mark, Length}
+use Rattle.job.specs.declared.finding.Found.{Found}
+use Rattle.job.specs.declared.finding.Found.the-variants.{Sound, Wrong}
 use Rattle.job.specs.declared.Answered.{Answered}
-use Rattle.job.specs.declared.Answered.the-variants.{Refused as Answered·Refused}
+use Rattle.job.specs.declared.Answered.the-variants.{Damaged as Answered·Damaged, Refused as Answered·Refused}
 use Rattle.job.specs.declared.link.Linked.{Linked}
 use Rattle.job.specs.declared.link.Linked.the-variants.{Taken, Refused}
-use Rattle.job.specs.Format.{IsJob, formatRefusal}
+use Rattle.job.specs.Format.{wordAt, mark, countOf, lengthOf}
+use Rattle.job.specs.Damage.{damageOf}
+use Rattle.job.specs.Places.{PlaceRight}
 use Rattle.job.specs.Promise.{JobSays}
 use Rattle.job.specs.Link.{headBytes, linkRoom, linkBytes, idle, underWay, hasEnded, cameIn, linkRefusal}
 use Rattle.job.specs.LinkPromise.{LinkBeginSays, LinkPartSays, LinkEndSays}
 use Rattle.job.specs.Linking.{Call, partOf, endWith, CallOutcome, taken, refused11, Calls, none, part-then, end-then, JobInParts, AsWhole}
-use Rattle.job.proofs.Departures.{no-job-9}
-use Rattle.job.proofs.Answers.{damaged}
-use Rattle.job.proofs.Outcomes.{answered-one, job-one, job-9}
+use Rattle.job.proofs.Damages.{found-mark, found-version, found-count, found-length, Way, wrong-mark, ends-early, wrong-version, ends-in-count, wrong-count, wrong-length, nowhere, way, sound-job}
+use Rattle.job.proofs.Answers.{damaged-so}
+use Rattle.job.proofs.Outcomes.{answered-one, job-one, job-found, job-told}
 use Rattle.job.proofs.Memory.{is-long, is-open, open-long, held-came, held-open, idle-ended, ended-11, open-0}
 
 -- ---- the room is enough
 
-no-job : (bytes : List ℕ) → linkRoom ≤ length bytes → IsJob bytes → ⊥
-no-job bytes h j = omega (arith, j .whole, j .few)
+-- a file that fills it: what is found of the file is found of the front that is kept
+module _ (bytes : List ℕ) (h : linkRoom ≤ length bytes) where
+  abbrev kept : List ℕ
+  kept = take linkRoom bytes
 
-module _ (bytes : List ℕ) where
-  front-full : linkRoom ≤ length bytes → linkRoom ≤ length (take linkRoom bytes)
-  front-full h = omega (arith, length-take-le linkRoom bytes h)
+  full : length kept ≡ linkRoom
+  full = length-take-le linkRoom bytes h
 
-  -- the format's verdict is that on the first 16,400 bytes
-  pub room-enough : formatRefusal bytes ≡ formatRefusal (take linkRoom bytes)
-  room-enough = ⊎-elim
-      (λ (h : linkRoom ≤ length bytes). no-job-9 bytes (no-job bytes h) ∙ sym (no-job-9 (take linkRoom bytes) (no-job (take linkRoom bytes) (front-full h))))
-      (λ (h : length bytes < linkRoom). ap formatRefusal (sym (take-all linkRoom bytes (omega arith))))
+  joined : kept ++ drop linkRoom bytes ≡ bytes
+  joined = take-append-drop linkRoom bytes
+
+  kept-alike : alike mark kept ≡ alike mark bytes
+  kept-alike = ap (alike mark) (sym (append-nil kept)) ∙ alike-same mark kept [] (drop linkRoom bytes) (omega (arith, full)) ∙ ap (alike mark) joined
+
+  kept-word : (at : ℕ) → at ≤ 5 → wordAt kept at ≡ wordAt bytes at
+  kept-word at g =
+      ap (λ (l : List ℕ). wordAt l at) (sym (append-nil kept))
+      ∙ ap little (part-same kept [] (drop linkRoom bytes) at 2 (omega (arith, full)))
+      ∙ ap (λ (l : List ℕ). wordAt l at) joined
+
+  way-kept : (f : Found) → Way bytes f → damageOf kept ≡ f
+  way-kept f (wrong-mark m g) = found-mark kept (omega (arith, full, kept-alike)) ∙ ap (Wrong Mark) kept-alike
+  way-kept f (ends-early l m) = absurd (omega arith)
+  way-kept f (wrong-version m l d) = found-version kept (omega (arith, kept-alike)) (omega (arith, full)) (λ e. d (sym (kept-word 3 (omega arith)) ∙ e))
+  way-kept f (ends-in-count m v l g) = absurd (omega arith)
+  way-kept f (wrong-count m v l g) = found-count kept (omega (arith, kept-alike)) (omega (arith, full)) (kept-word 3 (omega arith) ∙ v) (omega (arith, full)) (rw (kept-word 5 (omega arith)) g)
+  way-kept f (wrong-length m v l g d) =
+      let c : countOf kept ≡ countOf bytes = kept-word 5 (omega arith) in
+      let p : min (length kept) (lengthOf (countOf kept)) ≡ min (length bytes) (lengthOf (countOf bytes)) = omega (arith, full) in
+      found-length kept (omega (arith, kept-alike)) (omega (arith, full)) (kept-word 3 (omega arith) ∙ v) (omega (arith, full)) (rw c g) (λ e. omega (arith, full)) ∙ ap (Wrong Length) p
+  way-kept f (nowhere j) = absurd (omega (arith, j .whole, j .few))
+
+  pub room-found : damageOf kept ≡ damageOf bytes
+  room-found = way-kept (damageOf bytes) (way bytes)
+
+  no-job : damageOf bytes ≡ Sound → ⊥
+  no-job e = let j = sound-job bytes e in omega (arith, j .whole, j .few)
+
+  -- so both have one outcome
+  module _ (out work : List ℕ) (r : Answered) (out′ work′ : List ℕ) where
+    full-says : JobSays kept out work r out′ work′ → JobSays bytes out work r out′ work′
+    full-says s =
+        (elim (damageOf bytes) as (λ f. damageOf bytes ≡ f → JobSays bytes out work r out′ work′) [
+          | Sound ↦ λ e. absurd (no-job e)
+          | Wrong what at ↦ λ e.
+              let d = job-found kept out work r out′ work′ s what at (room-found ∙ e) in
+              rw (d .0, d .1, d .2) (damaged-so bytes out work what at e)
+        ])
+        refl
+
+    says-full : JobSays bytes out work r out′ work′ → JobSays kept out work r out′ work′
+    says-full s =
+        (elim (damageOf bytes) as (λ f. damageOf bytes ≡ f → JobSays kept out work r out′ work′) [
+          | Sound ↦ λ e. absurd (no-job e)
+          | Wrong what at ↦ λ e.
+              let d = job-found bytes out work r out′ work′ s what at e in
+              rw (d .0, d .1, d .2) (damaged-so kept out work what at (room-found ∙ e))
+        ])
+        refl
+
+-- a job's outcome is that of its first 16,400 bytes
+module _ (bytes out work : List ℕ) (r : Answered) (out′ work′ : List ℕ) where
+  pub room-says : JobSays (take linkRoom bytes) out work r out′ work′ → JobSays bytes out work r out′ work′
+  room-says s = ⊎-elim
+      (λ (h : linkRoom ≤ length bytes). full-says bytes h out work r out′ work′ s)
+      (λ (h : length bytes < linkRoom). rw (take-all linkRoom bytes (omega arith)) at s)
       (le-or-lt linkRoom (length bytes))
 
-  module _ (out work : List ℕ) (r : Answered) (out′ work′ : List ℕ) where
-    -- and so is the job's outcome
-    pub room-says : JobSays (take linkRoom bytes) out work r out′ work′ → JobSays bytes out work r out′ work′
-    room-says f = ⊎-elim
-        (λ (h : linkRoom ≤ length bytes).
-        let d = job-9 (take linkRoom bytes) out work r out′ work′ f (no-job (take linkRoom bytes) (front-full h)) in
-        rw (d .0, d .1, d .2) (damaged bytes out work (no-job-9 bytes (no-job bytes h))))
-        (λ (h : length bytes < linkRoom). rw (take-all linkRoom bytes (omega arith)) at f)
-        (le-or-lt linkRoom (length bytes))
-
-    pub says-room : JobSays bytes out work r out′ work′ → JobSays (take linkRoom bytes) out work r out′ work′
-    says-room f = ⊎-elim
-        (λ (h : linkRoom ≤ length bytes).
-        let d = job-9 bytes out work r out′ work′ f (no-job bytes h) in
-        rw (d .0, d .1, d .2) (damaged (take linkRoom bytes) out work (no-job-9 (take linkRoom bytes) (no-job (take linkRoom bytes) (front-full h)))))
-        (λ (h : length bytes < linkRoom). rw (take-all linkRoom bytes (omega arith)) f)
-        (le-or-lt linkRoom (length bytes))
+  pub says-room : JobSays bytes out work r out′ work′ → JobSays (take linkRoom bytes) out work r out′ work′
+  says-room s = ⊎-elim
+      (λ (h : linkRoom ≤ length bytes). says-full bytes h out work r out′ work′ s)
+      (λ (h : length bytes < linkRoom). rw (take-all linkRoom bytes (omega arith)) s)
+      (le-or-lt linkRoom (length bytes))
 
 -- ---- begin and parts
 
@@ -113,6 +163,10 @@ module _ (link : List ℕ) (h : linkBytes ≤ length link) (parts : List (List �
       let c = p .1 in
       let s : JobSays (take linkRoom (flatten parts)) out work r out′ work′ = rw (c .taking, c .came) at (j .ends .job) in
       record { starts = b .0; takes = p .0; answers = room-says (flatten parts) out work r out′ work′ s }
+
+  -- a place counts from the job's first byte, however it was cut
+  pub link-told : (what : Damage) (at : ℕ) → r ≡ Answered·Damaged what at → (damageOf (flatten parts) ≡ Wrong what at) × PlaceRight (flatten parts) what at
+  link-told = job-told (flatten parts) out work r out′ work′ (link-whole .answers)
 
 -- two cuttings of the same bytes, over any two memories
 pub cuttings-agree : (link₁ link₂ : List ℕ) → linkBytes ≤ length link₁ → linkBytes ≤ length link₂ → (parts₁ parts₂ : List (List ℕ)) → flatten parts₁ ≡ flatten parts₂

@@ -7,7 +7,7 @@ use native.Mathlib.Omega.{arith}
 use lib.Dec.{T}
 use lib.ListN.{length, take, drop, getD, take-append-drop, drop-of-length-le, List·getD-eq-default}
 use lib.Seq.{drop-drop}
-use lib.Ieee.{Float, nan, binary64, fits, ofBits, toBits}
+use lib.Ieee.{Float, nan, binary64, fits, toBits}
 use lib.Ieee.Bits.{toBits-lt, ofBits-fits}
 use Rattle.lists.specs.Build.{build}
 use Rattle.lists.specs.Bytes.{little, bytesOf}
@@ -16,9 +16,11 @@ use Rattle.lists.proofs.Bytes.{little-bytes}
 use Rattle.lists.proofs.Numbers.{le-or-lt}
 use Rattle.lists.proofs.Spelled.{part-spelled, part-below}
 use Rattle.floats.proofs.Patterns.{bits-back, bits-only}
-use Rattle.job.specs.Format.{wordAt, patternAt, floatAt, floatsAt, mark, version, countOf, IsJob, jobOf, formatRefusal}
+use Rattle.job.specs.declared.finding.Found.the-variants.{Sound}
+use Rattle.job.specs.Format.{wordAt, patternAt, floatAt, floatsAt, mark, version, countOf, IsJob, jobOf}
+use Rattle.job.specs.Damage.{damageOf}
 use Rattle.job.specs.Written.{bytesOfFloat, bytesOfPairs, bytesOfHeading, bytesOfJob, Writable, OneNan, Plain}
-use Rattle.job.proofs.Departures.{accepted-job}
+use Rattle.job.proofs.Damages.{sound-job}
 use Rattle.job.proofs.Pairs.{floats-long}
 use Rattle.job.proofs.Written.{mean-part, vari-part, speed-part, written-bytes}
 
@@ -95,8 +97,8 @@ module _ (bytes : List ℕ) (j : IsJob bytes) (p : Plain bytes) where
       ∙ heading-before
 
 -- a file that is accepted, and has no NaN but the one that is written, is written again as it was
-pub rewritten : (bytes : List ℕ) → formatRefusal bytes ≡ 0 → Plain bytes → bytesOfJob (jobOf bytes) ≡ bytes
-rewritten bytes e p = job-rewritten bytes (accepted-job bytes e) p
+pub rewritten : (bytes : List ℕ) → damageOf bytes ≡ Sound → Plain bytes → bytesOfJob (jobOf bytes) ≡ bytes
+rewritten bytes e p = job-rewritten bytes (sound-job bytes e) p
 
 -- ---- and only such a file
 
@@ -148,5 +150,5 @@ module _ (bytes : List ℕ) (j : IsJob bytes) where
         (λ (g : i % 2 < 1). let e : 7 + 8 * suc i ≡ 15 + 16 * (i / 2) = omega arith in rw e (mean-nan (i / 2) (omega arith)))
         (le-or-lt 1 (i % 2))
 
-pub rewritten-only : (bytes : List ℕ) → formatRefusal bytes ≡ 0 → bytesOfJob (jobOf bytes) ≡ bytes → Plain bytes
-rewritten-only bytes e r = record { each = rw r at (written-bytes (jobOf bytes)); nans = nan-of bytes (accepted-job bytes e) r }
+pub rewritten-only : (bytes : List ℕ) → damageOf bytes ≡ Sound → bytesOfJob (jobOf bytes) ≡ bytes → Plain bytes
+rewritten-only bytes e r = record { each = rw r at (written-bytes (jobOf bytes)); nans = nan-of bytes (sound-job bytes e) r }

@@ -10,9 +10,11 @@ use Rattle.lists.specs.Bytes.{little, bytesOf}
 use Rattle.lists.proofs.Bytes.{bytes-length, little-bytes}
 use Rattle.lists.proofs.Builds.{build-is}
 use Rattle.floats.proofs.Fields.{bytes-back}
-use Rattle.job.specs.Format.{floatAt, floatsAt, mark, version, countOf, IsJob, Job, jobOf, formatRefusal}
-use Rattle.job.specs.Written.{bytesOfFloat, bytesOfPairs, bytesOfHeading, bytesOfJob, Writable, Bytes}
-use Rattle.job.proofs.Departures.{job-accepted}
+use Rattle.job.specs.declared.finding.Found.the-variants.{Sound}
+use Rattle.job.specs.Format.{Bytes, floatAt, floatsAt, mark, version, countOf, IsJob, Job, jobOf}
+use Rattle.job.specs.Damage.{damageOf}
+use Rattle.job.specs.Written.{bytesOfFloat, bytesOfPairs, bytesOfHeading, bytesOfJob, Writable}
+use Rattle.job.proofs.Damages.{job-sound}
 
 -- ---- lengths
 
@@ -113,12 +115,12 @@ module _ (j : Job) (w : Writable j) where
   written-job = record { marked = refl; versioned = refl; few = rw count-back (w .few); whole = rw count-back written-long }
 
   -- and is not refused for its bytes
-  pub written-accepted : formatRefusal (bytesOfJob j) ≡ 0
-  written-accepted = job-accepted (bytesOfJob j) written-job
+  pub written-accepted : damageOf (bytesOfJob j) ≡ Sound
+  written-accepted = job-sound (bytesOfJob j) written-job
 
 -- ---- each number that is written is a byte
 
-bytes-append : (xs ys : List ℕ) → Bytes xs → Bytes ys → Bytes (xs ++ ys)
+pub bytes-append : (xs ys : List ℕ) → Bytes xs → Bytes ys → Bytes (xs ++ ys)
 bytes-append [] ys p q i = q i
 bytes-append (x ∷ xs) ys p q zero = p 0
 bytes-append (x ∷ xs) ys p q (suc i) = bytes-append xs ys (λ k. p (suc k)) q i
@@ -129,7 +131,7 @@ bytes-of zero n i = omega arith
 bytes-of (suc k) n zero = omega arith
 bytes-of (suc k) n (suc i) = bytes-of k (n / 256) i
 
-bytes-mark : Bytes mark
+pub bytes-mark : Bytes mark
 bytes-mark zero = omega arith
 bytes-mark (suc zero) = omega arith
 bytes-mark (suc (suc zero)) = omega arith

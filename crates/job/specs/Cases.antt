@@ -1,11 +1,12 @@
 -- The rules' worked job, and departures from it, computed.
 use mathlib.Core.Path.{_≡_, refl}
-use mathlib.Core.List.{List, [], _∷_, _++_}
+use mathlib.Core.List.{List, [], _∷_, _++_, map}
 use Prim.Native.Nat.{ℕ}
 use lib.ListN.{set, take}
 use lib.Ieee.{binary64, ofBits, toBits, ofInt, add, sub, mul, div, lt, eq, isNan}
+use Rattle.lists.specs.Answers.{refusingAt}
 use Rattle.lists.specs.Build.{build, foldFrom}
-use Rattle.lists.specs.Bytes.{little, bytesOf, startsWith}
+use Rattle.lists.specs.Bytes.{little, bytesOf, alike}
 use Rattle.lists.specs.Totals.{total}
 use Rattle.floats.specs.Rounding.{roundedOf}
 use Rattle.floats.specs.Order.{absOf, costBelow}
@@ -16,10 +17,13 @@ use Rattle.steps.specs.Steps.{keyOf, keys, leastOf, step, settle}
 use Rattle.duration.specs.Fit.{startOf, fitTo, refusalTo}
 use Rattle.duration.specs.Speed.{targetAt, fitAt, refusalAt}
 use Rattle.duration.specs.Promise.{workOf, refusalOfLists}
-use Rattle.job.specs.declared.Answered.the-variants.{Done, Refused}
-use Rattle.job.specs.Format.{floatsAt, Job, formatRefusal}
+use Rattle.job.specs.declared.Damage.the-variants.{Mark, Version, Count, Length}
+use Rattle.job.specs.declared.finding.Found.the-variants.{Wrong}
+use Rattle.job.specs.declared.Answered.the-variants.{Done, Damaged, Refused}
+use Rattle.job.specs.Format.{floatsAt, Job}
+use Rattle.job.specs.Damage.{damageOf, oldNumber}
 use Rattle.job.specs.Written.{bytesOfPairs, bytesOfHeading, bytesOfJob}
-use Rattle.job.specs.Promise.{JobSays}
+use Rattle.job.specs.Promise.{answered, JobSays}
 
 -- RULES, Job file: the worked job has the means 2 and 3, both variances 1, and speed 0.5
 abbrev worked : Job
@@ -48,15 +52,54 @@ nines = 9 ∷ 9 ∷ 9 ∷ []
 
 -- RULES, Job file: it comes to 2 states and 10 frames after 1 change: 4 and 6
 pub worked-job : JobSays bytes sevens nines (Done 2 10 1) (4 ∷ 6 ∷ 7 ∷ []) (0 ∷ 0 ∷ 9 ∷ [])
-unfolding formatRefusal startsWith little floatsAt build workOf refusalOfLists refusalAt fitAt naturals targetAt refusalTo fitTo settle step keys keyOf leastOf costBelow absOf total startOf estimates roundedOf sumOf foldFrom pairsOf ofBits ofInt add sub mul div lt eq isNan
+unfolding damageOf alike little floatsAt build workOf refusalOfLists refusalAt fitAt naturals targetAt refusalTo fitTo settle step keys keyOf leastOf costBelow absOf total startOf estimates roundedOf sumOf foldFrom pairsOf ofBits ofInt add sub mul div lt eq isNan
 worked-job = record { answer = refl; output = refl; workspace = refl }
 
 -- room for one number where the job has two states
 pub worked-no-room : JobSays bytes (7 ∷ []) nines (Refused 6) (7 ∷ []) nines
-unfolding formatRefusal startsWith little floatsAt build workOf refusalOfLists
+unfolding damageOf alike little floatsAt build workOf refusalOfLists
 worked-no-room = record { answer = refl; output = refl; workspace = refl }
 
--- another mark, another version, one state more, a byte too few, a byte too many, no bytes
-pub departures : (formatRefusal (set bytes 2 75) ≡ 9) × (formatRefusal (set bytes 3 2) ≡ 9) × (formatRefusal (set bytes 5 3) ≡ 9) × (formatRefusal (take 46 bytes) ≡ 9) × (formatRefusal (bytes ++ (0 ∷ [])) ≡ 9) × (formatRefusal [] ≡ 9)
-unfolding formatRefusal startsWith little
-departures = (refl, refl, refl, refl, refl, refl)
+-- RULES, Job file: the third letter is another; nothing but the number and the place is told
+pub wrong-letter : JobSays (set bytes 2 75) sevens nines (Damaged Mark 2) sevens nines
+unfolding damageOf alike little workOf
+wrong-letter = record { answer = refl; output = refl; workspace = refl }
+
+-- RULES, Job file: of two wrong letters the first is told, and a wrong letter before a wrong version, that before a wrong count, that before a wrong length
+pub first-by-place :
+    (damageOf (set (set bytes 2 75) 0 88) ≡ Wrong Mark 0) × (damageOf (set (set bytes 3 2) 1 81) ≡ Wrong Mark 1) × (damageOf (set (set bytes 6 9) 4 1) ≡ Wrong Version 3) × (damageOf (set (take 46 bytes) 6 9) ≡ Wrong Count 5)
+unfolding damageOf alike little
+first-by-place = (refl, refl, refl, refl)
+
+-- RULES, Job file: a byte too few, a state too few, a byte too many, a state too many
+pub wrong-length : (damageOf (take 46 bytes) ≡ Wrong Length 46) × (damageOf (set bytes 5 3) ≡ Wrong Length 47) × (damageOf (bytes ++ (0 ∷ [])) ≡ Wrong Length 47) × (damageOf (set bytes 5 1) ≡ Wrong Length 31)
+unfolding damageOf alike little
+wrong-length = (refl, refl, refl, refl)
+
+-- files that end early, behind the mark
+abbrev SPJ : List ℕ → List ℕ
+SPJ behind = 83 ∷ 80 ∷ 74 ∷ behind
+
+-- RULES, Job file: no byte, S, SP, SX and SPJ
+pub short-in-mark : (damageOf [] ≡ Wrong Length 0) × (damageOf (83 ∷ []) ≡ Wrong Length 1) × (damageOf (83 ∷ 80 ∷ []) ≡ Wrong Length 2) × (damageOf (83 ∷ 88 ∷ []) ≡ Wrong Mark 1) × (damageOf (SPJ []) ≡ Wrong Length 3)
+unfolding damageOf alike
+short-in-mark = (refl, refl, refl, refl, refl)
+
+-- RULES, Job file: one byte of a version, right or wrong; the version 2, and 1, and nothing more
+pub short-in-version : (damageOf (SPJ (1 ∷ [])) ≡ Wrong Length 4) × (damageOf (SPJ (2 ∷ [])) ≡ Wrong Length 4) × (damageOf (SPJ (2 ∷ 0 ∷ [])) ≡ Wrong Version 3) × (damageOf (SPJ (1 ∷ 0 ∷ [])) ≡ Wrong Length 5)
+unfolding damageOf alike little
+short-in-version = (refl, refl, refl, refl)
+
+-- RULES, Job file: one byte of a number of states; 1,025 states, and 1,024, and nothing more
+pub short-in-count : (damageOf (SPJ (1 ∷ 0 ∷ 255 ∷ [])) ≡ Wrong Length 6) × (damageOf (SPJ (1 ∷ 0 ∷ 1 ∷ 4 ∷ [])) ≡ Wrong Count 5) × (damageOf (SPJ (1 ∷ 0 ∷ 0 ∷ 4 ∷ [])) ≡ Wrong Length 7)
+unfolding damageOf alike little
+short-in-count = (refl, refl, refl)
+
+-- RULES, Job file: the number of each damage, with its place and nothing else
+pub numbers : (answered (Damaged Mark 1) ≡ refusingAt 12 1) × (answered (Damaged Version 3) ≡ refusingAt 13 3) × (answered (Damaged Count 5) ≡ refusingAt 14 5) × (answered (Damaged Length 46) ≡ refusingAt 9 46)
+numbers = (refl, refl, refl, refl)
+
+-- RULES, Job file: the old number of each number from 8 to 15
+pub old-numbers : map oldNumber (8 ∷ 9 ∷ 10 ∷ 11 ∷ 12 ∷ 13 ∷ 14 ∷ 15 ∷ []) ≡ 8 ∷ 9 ∷ 10 ∷ 11 ∷ 9 ∷ 9 ∷ 9 ∷ 15 ∷ []
+unfolding oldNumber
+old-numbers = refl

@@ -1,14 +1,16 @@
 -- The job file.
 use mathlib.Core.Path.{_≡_}
-use mathlib.Core.Bool.{not, cond}
 use mathlib.Core.List.{List, [], _∷_}
-use Prim.Native.Nat.{ℕ, _+_, _*_, _≤_}
-use lib.Dec.{ltb, eqb}
-use lib.ListN.{length, take, drop}
+use Prim.Native.Nat.{ℕ, _+_, _*_, _≤_, _<_}
+use lib.ListN.{length, take, drop, getD}
 use lib.Ieee.{Float, binary64, ofBits}
 use Rattle.lists.specs.Sizes.{mostJobStates}
 use Rattle.lists.specs.Build.{build}
-use Rattle.lists.specs.Bytes.{little, startsWith}
+use Rattle.lists.specs.Bytes.{little}
+
+-- each number is a byte
+abbrev pub Bytes : List ℕ → Type 0
+Bytes xs = (i : ℕ) → getD xs i 0 < 256
 
 -- RULES, Job file: every number stands with its least byte first; the 16 bits, the pattern of 64 and the float at a place
 abbrev pub wordAt : List ℕ → ℕ → ℕ
@@ -61,11 +63,3 @@ jobAt bytes n = record { speed = floatAt bytes 7; means = floatsAt bytes 15 n; v
 
 abbrev pub jobOf : List ℕ → Job
 jobOf bytes = jobAt bytes (countOf bytes)
-
--- RULES, Job file: whatever departs from this is refused with 9; each departure on its own, in the order of their places
-unfoldable pub formatRefusal : List ℕ → ℕ
-formatRefusal bytes =
-    cond (not (startsWith mark bytes)) 9
-    (cond (not (eqb (versionOf bytes) version)) 9
-    (cond (ltb mostJobStates (countOf bytes)) 9
-    (cond (not (eqb (length bytes) (lengthOf (countOf bytes)))) 9 0)))

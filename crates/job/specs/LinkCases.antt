@@ -3,11 +3,11 @@ use mathlib.Core.Path.{_≡_, refl}
 use mathlib.Core.Bool.{true, false}
 use mathlib.Core.List.{List, [], _∷_, _++_}
 use Prim.Native.Nat.{ℕ}
-use lib.ListN.{take, drop, replicate}
+use lib.ListN.{set, take, drop, replicate}
 use lib.Ieee.{ofBits, ofInt, add, sub, mul, div, lt, eq, isNan}
 use Rattle.lists.specs.Answers.{written}
 use Rattle.lists.specs.Build.{build, foldFrom}
-use Rattle.lists.specs.Bytes.{little, bytesOf, startsWith}
+use Rattle.lists.specs.Bytes.{little, bytesOf, alike}
 use Rattle.lists.specs.Totals.{total}
 use Rattle.floats.specs.Rounding.{roundedOf}
 use Rattle.floats.specs.Order.{absOf, costBelow}
@@ -17,9 +17,11 @@ use Rattle.steps.specs.Steps.{keyOf, keys, leastOf, step, settle}
 use Rattle.duration.specs.Fit.{startOf, fitTo, refusalTo}
 use Rattle.duration.specs.Speed.{targetAt, fitAt, refusalAt}
 use Rattle.duration.specs.Promise.{workOf, refusalOfLists}
-use Rattle.job.specs.declared.Answered.the-variants.{Done, Refused}
+use Rattle.job.specs.declared.Damage.the-variants.{Mark}
+use Rattle.job.specs.declared.Answered.the-variants.{Done, Damaged, Refused}
 use Rattle.job.specs.declared.link.Linked.the-variants.{Taken, Refused as Linked·Refused}
-use Rattle.job.specs.Format.{floatsAt, formatRefusal}
+use Rattle.job.specs.Format.{floatsAt}
+use Rattle.job.specs.Damage.{damageOf}
 use Rattle.job.specs.Link.{linkRoom, linkBytes, idle, underWay, hasEnded, cameIn, beginRefusal, linkRefusal}
 use Rattle.job.specs.LinkPromise.{LinkPartSays, LinkEndSays}
 use Rattle.job.specs.Linking.{none, part-then, taken, JobInParts}
@@ -34,7 +36,7 @@ holding front = written 0 front memory
 
 -- RULES, Serial link: the worked job, cut inside the mark and with an empty part between, is answered as the file is: 4 and 6
 pub worked-in-parts : JobInParts memory (take 2 bytes ∷ [] ∷ drop 2 bytes ∷ []) sevens nines (Done 2 10 1) (written 0 idle (holding (underWay bytes))) (4 ∷ 6 ∷ 7 ∷ []) (0 ∷ 0 ∷ 9 ∷ [])
-unfolding underWay hasEnded cameIn beginRefusal linkRefusal formatRefusal startsWith little bytesOf floatsAt build workOf refusalOfLists refusalAt fitAt naturals targetAt refusalTo fitTo settle step keys keyOf leastOf costBelow absOf total startOf estimates roundedOf sumOf foldFrom pairsOf ofBits ofInt add sub mul div lt eq isNan
+unfolding underWay hasEnded cameIn beginRefusal linkRefusal damageOf alike little bytesOf floatsAt build workOf refusalOfLists refusalAt fitAt naturals targetAt refusalTo fitTo settle step keys keyOf leastOf costBelow absOf total startOf estimates roundedOf sumOf foldFrom pairsOf ofBits ofInt add sub mul div lt eq isNan
 worked-in-parts =
     record {
       begun = Taken;
@@ -43,6 +45,21 @@ worked-in-parts =
       full = holding (underWay bytes);
       begins = record { answer = refl; memory = refl };
       comes = part-then {mid = holding (underWay (take 2 bytes))} (record { answer = refl; memory = refl }) (part-then {mid = holding (underWay (take 2 bytes))} (record { answer = refl; memory = refl }) (part-then (record { answer = refl; memory = refl }) none));
+      ends = record { job = record { answer = refl; output = refl; workspace = refl }; memory = refl };
+    }
+
+-- RULES, Serial link: its third letter wrong, and cut before it: the place counts from the job's first byte
+pub wrong-letter-in-parts :
+    JobInParts memory (take 2 bytes ∷ drop 2 (set bytes 2 75) ∷ []) sevens nines (Damaged Mark 2) (written 0 idle (holding (underWay (set bytes 2 75)))) sevens nines
+unfolding underWay hasEnded cameIn beginRefusal linkRefusal damageOf alike little bytesOf workOf
+wrong-letter-in-parts =
+    record {
+      begun = Taken;
+      clean = holding (underWay []);
+      outcomes = taken (take 2 bytes) ∷ taken (drop 2 (set bytes 2 75)) ∷ [];
+      full = holding (underWay (set bytes 2 75));
+      begins = record { answer = refl; memory = refl };
+      comes = part-then {mid = holding (underWay (take 2 bytes))} (record { answer = refl; memory = refl }) (part-then (record { answer = refl; memory = refl }) none);
       ends = record { job = record { answer = refl; output = refl; workspace = refl }; memory = refl };
     }
 

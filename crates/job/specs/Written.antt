@@ -7,7 +7,7 @@ use lib.ListN.{length, getD}
 use lib.Ieee.{Float, nan, binary64, fits, toBits}
 use Rattle.lists.specs.Sizes.{mostJobStates}
 use Rattle.lists.specs.Bytes.{bytesOf}
-use Rattle.job.specs.Format.{patternAt, mark, version, countOf, Job}
+use Rattle.job.specs.Format.{Bytes, patternAt, mark, version, countOf, Job}
 
 -- RULES, Job file: a float stands as its pattern
 abbrev pub bytesOfFloat : Float → List ℕ
@@ -33,10 +33,6 @@ pub record Writable (j : Job) : Type 0 where
   pub speed : T (fits binary64 (j .speed))
   pub means : (i : ℕ) → T (fits binary64 (getD (j .means) i nan))
   pub varis : (i : ℕ) → T (fits binary64 (getD (j .varis) i nan))
-
--- each number is a byte
-abbrev pub Bytes : List ℕ → Type 0
-Bytes xs = (i : ℕ) → getD xs i 0 < 256
 
 -- a pattern is no NaN's, which are those above infinity's, the sign aside; or it is the one that is written for every NaN
 abbrev pub OneNan : ℕ → Type 0

@@ -1,51 +1,62 @@
 // The job file: what its bytes say, and the answer of the job.
 ghost use mathlib.Core.Path.{_≡_};
-ghost use mathlib.Core.List.{[], _∷_};
 ghost use Prim.Native.Nat.{_≤_};
 ghost use lib.ListN.{length};
 ghost use Rattle.lists.specs.Sizes.{mostJobStates};
-ghost use Rattle.lists.specs.Answers.{answerOf};
-ghost use Rattle.job.specs.Format.{floatsAt, countOf, jobAt, formatRefusal};
-ghost use Rattle.job.specs.Inner.Reading.{headed, StatesFitted};
+ghost use Rattle.job.specs.Format.{floatsAt, jobAt};
+ghost use Rattle.job.specs.declared.finding.Found.the-variants.{Sound};
+ghost use Rattle.job.specs.Damage.{damageOf, damageNumber, oldNumber};
+ghost use Rattle.job.specs.Inner.Reading.{StatesFitted};
 ghost use Rattle.job.specs.Promise.{JobSays};
 use duration::Fitted;
+use finding::Found;
 
+mod finding;
 pub mod link;
 
 pub const MOST_STATES: usize = 1024;
 
+// What is wrong with a job file.
+pub enum Damage {
+    Mark,
+    Version,
+    Count,
+    Length,
+}
+
+impl Damage {
+    // The number of its refusal.
+    pub fn number(self) -> u8
+        ensures { λ r. ⌜ r ≡ damageNumber self ⌝ }
+    {
+        match self {
+            Damage::Mark => 12,
+            Damage::Version => 13,
+            Damage::Count => 14,
+            Damage::Length => 9,
+        }
+    }
+}
+
+// A damaged job has the place of a byte.
 pub enum Answered {
     Done {
         states: u32,
         frames: u32,
         changes: u32,
     },
+    Damaged(Damage, u64),
     Refused(u8),
 }
 
-// A job's state count, unless its bytes depart from the format.
-enum Heading {
-    States(u32),
-    Damaged,
-}
-
-fn read_heading(bytes: &[u8]) -> Heading
-    ensures { λ r. ⌜ headed r ≡ answerOf (formatRefusal (now (bytes .entry))) (countOf (now (bytes .entry)) ∷ []) ⌝ }
+// The old number of a refusal, for programs that know 9 alone.
+pub fn old_number(number: u32) -> u32
+    ensures { λ r. ⌜ r ≡ oldNumber number ⌝ }
 {
-    if !lists::starts_with(bytes, b"SPJ") {
-        return Heading::Damaged;
+    if (number == 9) | ((number == 12) | ((number == 13) | (number == 14))) {
+        return 9;
     }
-    if lists::little_endian(bytes, 3, 2) != 1 {
-        return Heading::Damaged;
-    }
-    let count = lists::little_endian(bytes, 5, 2);
-    if count > 1024 {
-        return Heading::Damaged;
-    }
-    if bytes.len() as u64 != 15 + 16 * count {
-        return Heading::Damaged;
-    }
-    Heading::States(count as u32)
+    number
 }
 
 // Every other float from a place on.
@@ -78,13 +89,12 @@ fn fit_states(bytes: &[u8], n: usize, out: &mut [u32], work: &mut [u32]) -> Fitt
     )
 }
 
-// The durations of a job's states, at its speed.
-pub fn answer(bytes: &[u8], out: &mut [u32], work: &mut [u32]) -> Answered
+// Answers a file with which nothing is wrong.
+fn answer_sound(bytes: &[u8], out: &mut [u32], work: &mut [u32]) -> Answered
+    requires { ⌜ damageOf (now bytes) ≡ Sound ⌝ }
     ensures { λ r. ⌜ JobSays (now (bytes .entry)) (now (out .entry)) (now (work .entry)) r (now (out .exit)) (now (work .exit)) ⌝ }
 {
-    let Heading::States(states) = read_heading(bytes) else {
-        return Answered::Refused(9);
-    };
+    let states = lists::little_endian(bytes, 5, 2) as u32;
     let n = states as usize;
     let fit = fit_states(bytes, n, out, work);
     let Fitted::Done(changes) = fit else {
@@ -95,5 +105,15 @@ pub fn answer(bytes: &[u8], out: &mut [u32], work: &mut [u32]) -> Answered
         states: states,
         frames: frames as u32,
         changes: changes,
+    }
+}
+
+// The durations of a job's states, at its speed.
+pub fn answer(bytes: &[u8], out: &mut [u32], work: &mut [u32]) -> Answered
+    ensures { λ r. ⌜ JobSays (now (bytes .entry)) (now (out .entry)) (now (work .entry)) r (now (out .exit)) (now (work .exit)) ⌝ }
+{
+    match finding::damage_of(bytes) {
+        Found::Wrong(damage, place) => Answered::Damaged(damage, place),
+        Found::Sound => answer_sound(bytes, out, work),
     }
 }

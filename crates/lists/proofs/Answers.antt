@@ -4,18 +4,14 @@ use mathlib.Core.List.{List, [], _∷_, _++_}
 use Prim.Native.Nat.{ℕ, zero, suc, _≤_}
 use native.Mathlib.Omega.{arith}
 use lib.ListN.{length, drop, length-append, length-drop}
-use Rattle.lists.specs.Answers.{Answer, given, answerOf, written}
+use Rattle.lists.specs.Answers.{Answer, accepting, refusing, given, answerOf, written}
 
--- the answer of a refusal
-abbrev pub refusing : ℕ → Answer
-refusing k = record { number = k; values = [] }
-
--- equal numbers and values
+-- equal numbers, values and places
 abbrev pub Same : Answer → Answer → Type 0
-Same a b = (a .number ≡ b .number) × (a .values ≡ b .values)
+Same a b = (a .number ≡ b .number) × (a .values ≡ b .values) × (a .place ≡ b .place)
 
 pub same : {a b : Answer} → a ≡ b → Same a b
-same e = (ap (λ (x : Answer). x .number) e, ap (λ (x : Answer). x .values) e)
+same e = (ap (λ (x : Answer). x .number) e, ap (λ (x : Answer). x .values) e, ap (λ (x : Answer). x .place) e)
 
 -- of two the second is given, where the number is another than 0
 pub given-none : {A : Type 0} (q : ℕ) (x y : A) → (q ≡ 0 → ⊥) → given q x y ≡ y
@@ -24,7 +20,7 @@ given-none (suc q) x y z = refl
 
 -- a call of such a number answers with it alone
 pub refused : (q : ℕ) (values : List ℕ) → (q ≡ 0 → ⊥) → refusing q ≡ answerOf q values
-refused q values z = ap (λ (vs : List ℕ). record { number = q; values = vs }) (sym (given-none q values [] z))
+refused q values z = ap (λ (vs : List ℕ). record { number = q; values = vs; place = [] }) (sym (given-none q values [] z))
 
 -- the same by the number
 pub refused-as : (k q : ℕ) (values : List ℕ) → q ≡ suc k → refusing (suc k) ≡ answerOf q values
@@ -36,7 +32,7 @@ untouched zero new old z = absurd (z refl)
 untouched (suc q) new old z = refl
 
 -- an accepted call answers with its values
-pub accepted : (q : ℕ) (xs values : List ℕ) → q ≡ 0 → xs ≡ values → record { number = 0; values = xs } ≡ answerOf q values
+pub accepted : (q : ℕ) (xs values : List ℕ) → q ≡ 0 → xs ≡ values → accepting xs ≡ answerOf q values
 accepted q xs values z e = rw (z, e)
 
 -- and has written its lists

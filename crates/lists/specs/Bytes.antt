@@ -1,8 +1,9 @@
 -- Numbers and their bytes, little-endian, and what bytes begin with.
-use mathlib.Core.Bool.{Bool, true, false, _&&_}
+use mathlib.Core.Bool.{Bool, cond}
 use mathlib.Core.List.{List, [], _∷_}
 use Prim.Native.Nat.{ℕ, zero, suc, _+_, _*_, _/_, _%_}
 use lib.Dec.{eqb}
+use lib.ListN.{length}
 
 -- the number that bytes say, the least byte first
 unfoldable pub little : List ℕ → ℕ
@@ -14,8 +15,12 @@ unfoldable pub bytesOf : ℕ → ℕ → List ℕ
 bytesOf zero n = []
 bytesOf (suc k) n = n % 256 ∷ bytesOf k (n / 256)
 
+-- how many numbers at the front of two lists are the same
+unfoldable pub alike : List ℕ → List ℕ → ℕ
+alike [] bytes = 0
+alike (m ∷ ms) [] = 0
+alike (m ∷ ms) (b ∷ bs) = cond (eqb b m) (suc (alike ms bs)) 0
+
 -- whether a list begins with these numbers
 unfoldable pub startsWith : List ℕ → List ℕ → Bool
-startsWith [] bytes = true
-startsWith (m ∷ ms) [] = false
-startsWith (m ∷ ms) (b ∷ bs) = eqb b m && startsWith ms bs
+startsWith front bytes = eqb (alike front bytes) (length front)

@@ -7,7 +7,7 @@ ghost use lib.Seq.{sets};
 ghost use Rattle.lists.specs.Totals.{total};
 ghost use Rattle.lists.specs.Parts.{PartSays};
 ghost use Rattle.lists.specs.Ends.{filled};
-ghost use Rattle.lists.specs.Bytes.{little, bytesOf, startsWith};
+ghost use Rattle.lists.specs.Bytes.{little, bytesOf, alike, startsWith};
 
 // How many frames lists were filled for, or the number of why none was.
 pub enum Filled {
@@ -208,19 +208,24 @@ pub fn put_little_endian(bytes: &mut [u8], at: usize, number: u64)
     }
 }
 
+// How many bytes at the front of both are the same.
+pub fn alike(bytes: &[u8], front: &[u8]) -> usize
+    ensures { λ r. ⌜ r ≡ alike (now (front .entry)) (now (bytes .entry)) ⌝ }
+{
+    let n = least(bytes.len(), front.len());
+    let mut i = 0;
+    while i < n {
+        if bytes[i] != front[i] {
+            return i;
+        }
+        i += 1;
+    }
+    n
+}
+
 // Whether bytes begin with these.
 pub fn starts_with(bytes: &[u8], front: &[u8]) -> bool
     ensures { λ r. ⌜ r ≡ startsWith (now (front .entry)) (now (bytes .entry)) ⌝ }
 {
-    let mut i = 0;
-    while i < front.len() {
-        if i >= bytes.len() {
-            return false;
-        }
-        if bytes[i] != front[i] {
-            return false;
-        }
-        i += 1;
-    }
-    true
+    alike(bytes, front) == front.len()
 }

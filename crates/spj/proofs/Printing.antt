@@ -4,7 +4,7 @@ use mathlib.Core.List.{List}
 use Prim.Native.Nat.{ℕ, _≤_}
 use lib.ListN.{length}
 use Rattle.job.specs.declared.Answered.{Answered}
-use Rattle.job.specs.declared.Answered.the-variants.{Done, Refused}
+use Rattle.job.specs.declared.Answered.the-variants.{Done, Damaged, Refused}
 use Rattle.job.specs.Promise.{JobSaysAfter}
 use Rattle.job.specs.Link.{cameIn, linkRefusal}
 use Rattle.job.specs.LinkPromise.{LinkEndSays}
@@ -13,6 +13,7 @@ use Rattle.spj.specs.Printing.{StatesWithin}
 
 pub states-within : (k : ℕ) (bytes out work : List ℕ) (r : Answered) (out′ work′ : List ℕ) → JobSaysAfter k bytes out work r out′ work′ → StatesWithin r (length out′)
 states-within k bytes out work (Done s frames c) out′ work′ f = job-states k bytes out work (Done s frames c) s frames c out′ work′ refl f .0
+states-within k bytes out work (Damaged what at) out′ work′ f = tt
 states-within k bytes out work (Refused number) out′ work′ f = tt
 
 pub end-within : (link out work : List ℕ) (r : Answered) (link′ out′ work′ : List ℕ) → LinkEndSays link out work r link′ out′ work′ → StatesWithin r (length out′)

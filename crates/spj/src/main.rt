@@ -3,6 +3,7 @@ ghost use lib.ListN.{length};
 ghost use Rattle.spj.specs.Reading.{Within, pieceBytes};
 ghost use Rattle.spj.specs.Printing.{StatesWithin};
 use job::Answered;
+use job::Damage;
 use job::link::ROOM;
 use libc::STDERR_FILENO;
 use libc::STDIN_FILENO;
@@ -72,11 +73,25 @@ fn print_done(states: u32, frames: u32, changes: u32, durations: &[u32]) -> bool
         && print_each(durations)
 }
 
+// What is wrong and at which byte; or the old number, for programs that know 9 alone.
+fn print_damaged(damage: Damage, place: u64, old: bool) -> bool {
+    let number = damage.number() as u32;
+    if old {
+        return print_named(b"refused ", job::old_number(number));
+    }
+    io::write_all(STDOUT_FILENO, b"refused ")
+        && io::print_decimal(STDOUT_FILENO, number as u64)
+        && io::write_all(STDOUT_FILENO, b" at byte ")
+        && io::print_decimal(STDOUT_FILENO, place)
+        && io::write_all(STDOUT_FILENO, b"\n")
+}
+
 // An answer, whose durations stand at the front of the output.
-fn print_answered(answer: Answered, out: &[u32]) -> bool
+fn print_answered(answer: Answered, out: &[u32], old: bool) -> bool
     requires { ⌜ StatesWithin answer (length (now out)) ⌝ }
 {
     match answer {
+        Answered::Damaged(damage, place) => print_damaged(damage, place, old),
         Answered::Refused(number) => print_named(b"refused ", number as u32),
         Answered::Done {
             states,
@@ -89,18 +104,18 @@ fn print_answered(answer: Answered, out: &[u32]) -> bool
     }
 }
 
-fn print_answer(bytes: &[u8]) -> bool {
+fn print_answer(bytes: &[u8], old: bool) -> bool {
     let mut out = [0u32; job::MOST_STATES];
     let mut work = [0u32; job::MOST_STATES];
     let answer = job::answer(bytes, &mut out, &mut work);
-    print_answered(answer, &out)
+    print_answered(answer, &out, old)
 }
 
-fn print_end(link: &mut [u8]) -> bool {
+fn print_end(link: &mut [u8], old: bool) -> bool {
     let mut out = [0u32; job::MOST_STATES];
     let mut work = [0u32; job::MOST_STATES];
     let answer = job::link::end(link, &mut out, &mut work);
-    print_answered(answer, &out)
+    print_answered(answer, &out, old)
 }
 
 // Says on standard error what failed, with errno's text: a write that goes through leaves errno as it was.
@@ -109,14 +124,14 @@ fn fail(what: &[u8]) {
     os::fail(what);
 }
 
-// Answers the job that is read from a descriptor; name is what a message calls it. A file larger than any job fills the room, which has one byte more than the largest, and is refused by its length.
-fn answer_from(fd: i32, name: &[u8]) {
+// Answers the job that is read from a descriptor; name is what a message calls it. A file larger than any job fills the room, which has one byte more than the largest, and is answered as that front is.
+fn answer_from(fd: i32, name: &[u8], old: bool) {
     let mut room = [0u8; ROOM];
     let Input::Bytes(n) = read_all(fd, &mut room) else {
         fail(name);
         return;
     };
-    if !print_answer(&room[..n]) {
+    if !print_answer(&room[..n], old) {
         fail(b"standard output");
     }
 }
@@ -149,36 +164,36 @@ fn take_parts(fd: i32, link: &mut [u8]) -> bool {
 }
 
 // Answers the job that comes over standard input as a serial link.
-fn answer_link() {
+fn answer_link(old: bool) {
     let mut link = [0u8; job::link::BYTES];
     job::link::begin(&mut link);
     if !take_parts(STDIN_FILENO, &mut link) {
         fail(b"standard input");
         return;
     }
-    if !print_end(&mut link) {
+    if !print_end(&mut link, old) {
         fail(b"standard output");
     }
 }
 
-fn answer_input() {
-    answer_from(STDIN_FILENO, b"standard input");
+fn answer_input(old: bool) {
+    answer_from(STDIN_FILENO, b"standard input", old);
 }
 
-fn answer_file(path: &[u8]) {
+fn answer_file(path: &[u8], old: bool) {
     let fd = os::open_read(path);
     if fd < 0 {
         fail(path);
         return;
     }
-    answer_from(fd, path);
+    answer_from(fd, path, old);
     libc::close(fd);
 }
 
 fn print_help() {
     let printed = io::write_all(
         STDOUT_FILENO,
-        b"usage: spj [FILE]\n       spj --link\n\nAnswers a job file, or standard input where FILE is - or is not given. With --link standard\ninput is a serial link: the job is taken in whatever pieces it comes, and answered at its end\nas the file is. It prints the number of states, of frames and of unit changes, and then each\nstate's frames, one to a line; or one line such as 'refused 9' where the job is refused. What\ncan't be read or written is said on standard error. The exit status is 0 in any case.\n",
+        b"usage: spj [--old] [FILE]\n       spj [--old] --link\n\nAnswers a job file, or standard input where FILE is - or is not given. With --link standard\ninput is a serial link: the job is taken in whatever pieces it comes, and answered at its end\nas the file is. It prints the number of states, of frames and of unit changes, and then each\nstate's frames, one to a line; or one line where the job is refused. Of a damaged file that\nline is such as 'refused 12 at byte 2': 12 the mark, 13 the version, 14 the number of states,\n9 the length, the file's first byte being byte 0. Of any other it is such as 'refused 6'. With\n--old a damaged file is 'refused 9'. What can't be read or written is said on standard error.\nThe exit status is 0 in any case.\n",
     );
     if !printed {
         fail(b"standard output");
@@ -196,45 +211,61 @@ fn is(word: &[u8], text: &[u8]) -> bool {
     word.len() == text.len() && lists::starts_with(word, text)
 }
 
-// Does what the only argument asks: what begins with a dash names no file.
-fn answer_word(word: &[u8]) {
+// Does what a word asks: what begins with a dash names no file.
+fn answer_word(word: &[u8], old: bool) {
     if is(word, b"--help") {
         print_help();
         return;
     }
     if is(word, b"--link") {
-        answer_link();
+        answer_link(old);
         return;
     }
     if is(word, b"-") {
-        answer_input();
+        answer_input(old);
         return;
     }
     if lists::starts_with(word, b"-") {
         refuse_option(word);
         return;
     }
-    answer_file(word);
+    answer_file(word, old);
 }
 
-fn main() {
-    let words = os::arg_count();
-    if words > 2 {
+// Whether the first word is --old.
+fn asks_old() -> bool {
+    let mut word = io::buffer();
+    let n = os::arg(1, &mut word);
+    os::errno() == 0 && is(&word[..n], b"--old")
+}
+
+// Answers the word at a place, which is the last, or standard input where there is none.
+fn answer_at(words: usize, place: usize, old: bool) {
+    if words <= place {
+        answer_input(old);
+        return;
+    }
+    if words - place > 1 {
         io::write_all(
             STDERR_FILENO,
-            b"spj: one FILE at most, and none with --link; see spj --help\n",
+            b"spj: one FILE at most, and none with --link; --old comes first; see spj --help\n",
         );
         return;
     }
-    if words < 2 {
-        answer_input();
-        return;
-    }
     let mut word = io::buffer();
-    let n = os::arg(1, &mut word);
+    let n = os::arg(place, &mut word);
     if os::errno() != 0 {
         fail(b"FILE");
         return;
     }
-    answer_word(&word[..n]);
+    answer_word(&word[..n], old);
+}
+
+fn main() {
+    let words = os::arg_count();
+    if words > 1 && asks_old() {
+        answer_at(words, 2, true);
+        return;
+    }
+    answer_at(words, 1, false);
 }

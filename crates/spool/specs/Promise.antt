@@ -5,7 +5,7 @@ use Prim.Native.Nat.{ℕ, _+_, _*_}
 use denote.Ref.{RefT}
 use lib.Ieee.{Float}
 use lib.ListN.{length}
-use Rattle.lists.specs.Answers.{Answer, given, answerOf}
+use Rattle.lists.specs.Answers.{Answer, accepting, refusing, given, answerOf}
 use Rattle.spool.specs.Place.{placeOf}
 use Rattle.spool.specs.Excerpt.{excerptStart, excerptCount, excerptOf}
 use Rattle.spool.specs.Refusal.{placeRefusal, excerptRefusal}
@@ -16,13 +16,13 @@ use Rattle.spool.specs.declared.Span.the-variants as span
 
 -- RULES, Forms: the number and the values of a place
 abbrev pub placed : Placed → Answer
-placed (place.At at) = record { number = 0; values = at ∷ [] }
-placed (place.Refused number) = record { number = number; values = [] }
+placed (place.At at) = accepting (at ∷ [])
+placed (place.Refused number) = refusing number
 
 -- and of a span
 abbrev pub spanned : Span → Answer
-spanned (span.Numbers first count) = record { number = 0; values = first ∷ count ∷ [] }
-spanned (span.Refused number) = record { number = number; values = [] }
+spanned (span.Numbers first count) = accepting (first ∷ count ∷ [])
+spanned (span.Refused number) = refusing number
 
 -- RULES, Places: what `place` answers
 abbrev pub PlaceSays : ℕ → ℕ → ℕ → Placed → Type 0

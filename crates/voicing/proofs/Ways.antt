@@ -14,7 +14,8 @@ use Rattle.lists.specs.Totals.{total}
 use Rattle.lists.specs.Refusals.{orElse}
 use Rattle.lists.proofs.Numbers.{le-or-lt}
 use Rattle.lists.proofs.Refusals.{or-first, or-none}
-use Rattle.lists.proofs.Answers.{refusing, same, refused, untouched, accepted, in-front}
+use Rattle.lists.specs.Answers.{refusing}
+use Rattle.lists.proofs.Answers.{same, refused, untouched, accepted, in-front}
 use Rattle.model.specs.declared.voice.model.Weight.the-variants.{Given}
 use Rattle.lists.specs.Flags.{flag, isOn}
 use Rattle.voicing.specs.Mask.{maskOf, weightsOf}

@@ -13,7 +13,7 @@ use Rattle.duration.specs.declared.align.Closed.{Closed}
 use Rattle.duration.specs.declared.align.Closed.the-variants as close
 use Rattle.steps.specs.Steps.{Outcome}
 use Rattle.duration.specs.Align.{Group, fitOf, refusalOf}
-use Rattle.lists.specs.Answers.{Answer, answerOf}
+use Rattle.lists.specs.Answers.{Answer, accepting, refusing, answerOf}
 use Rattle.duration.specs.Promise.{fitted}
 
 -- lists that agree, with one number of the work space a state
@@ -46,8 +46,8 @@ pub record Lies (ms vs : List Float) (work : List ℕ) (g : Group) (frames : ℕ
 
 -- a group's answer as a number and values: its changes and its frames
 abbrev pub closed : Closed → Answer
-closed (close.Grown changes frames) = record { number = 0; values = changes ∷ frames ∷ [] }
-closed (close.Refused number) = record { number = number; values = [] }
+closed (close.Grown changes frames) = accepting (changes ∷ frames ∷ [])
+closed (close.Refused number) = refusing number
 
 -- what a group that is not refused adds
 abbrev pub grown : List Float → List Float → Group → ℕ → List ℕ

@@ -7,12 +7,14 @@ use Rattle.spj.proofs.print_answered.Statement.{statement}
 use Rattle.spj.proofs.print_answered.Tie as tie
 
 slice-aggregate-print-done : tie.Need-slice-aggregate-print-done
-slice-aggregate-print-done c = sym (length-take-le _ _ (done-within _ _ _ _ _ (c .before .before .answer2 .given .1) (c .before .before .before .before .before .pre)))
+slice-aggregate-print-done c = sym (length-take-le _ _ (done-within _ _ _ _ _ (c .before .before .answer3 .given .1) (c .before .before .before .before .before .pre)))
 
 pub print-answered-spec : {M : Type 1} → statement M
 print-answered-spec =
     tie.close
     (tie.spec
+    (λ c. search needs)
+    (λ c κs. search needs)
     (λ c. search needs)
     (λ c. search needs)
     (λ c. search needs)
@@ -21,5 +23,6 @@ print-answered-spec =
     (λ c. search needs)
     slice-aggregate-print-done
     (λ c κs. search needs)
+    (λ c. search needs)
     (λ c. search needs)
     (λ c. search needs))
