@@ -1,8 +1,9 @@
 /* hejmirov.h: the calls of libhejmirov.a, the numeric core of a talking-book renderer.
  *
- * Every call answers 0, or the number of the first refusal that applies (enum hejmirov_refusal). It
- * ends on any numbers and any lengths, allocates nothing, keeps nothing between calls but in memory
- * that it is lent, and may run in any number of threads at once.
+ * Every call answers 0, or the number of the first refusal that applies (enum hejmirov_refusal);
+ * hejmirov_job_old_number alone refuses nothing and turns one such number into another. A call ends
+ * on any numbers and any lengths, allocates nothing, keeps nothing between calls but in memory that
+ * it is lent, and may run in any number of threads at once.
  *
  * Lists. A list is a pointer and, right after it, how many items it has. A list of 0 items may come
  * with a null pointer. A list that is only read is `const`. A list that is written must not overlap
@@ -11,9 +12,9 @@
  * Values. A pointer without a length is to one number; it must not be null.
  *
  * Afterwards. An accepted call writes the items that its comment names, and nothing beyond them. A
- * refused call writes no output and no value. Work space holds anything before a call; an accepted
- * call leaves zeros in the part it is entitled to, so do the refusals 7 and 8, and every other
- * refusal leaves it as it was.
+ * refused call writes no output and no value, but for a damaged job's place. Work space holds
+ * anything before a call; an accepted call leaves zeros in the part it is entitled to, so do the
+ * refusals 7 and 8, and every other refusal leaves it as it was.
  *
  * Numbers. Any double is taken: infinities, NaN, either zero. A NaN that is handed out has the bits
  * 0x7FF8000000000000. States, frames, components and items are counted from 0.
@@ -22,8 +23,8 @@
  * program starts with: rounding to nearest, subnormal numbers kept, no traps. A program that is
  * linked with -ffast-math, or that flushes subnormal numbers to zero, may get others.
  *
- * "Refused with" lists the numbers in the order in which they are looked for, 7 and 8 apart:
- * between these two the work's order decides.
+ * "Refused with" lists the numbers in the order in which they are looked for, but for two groups:
+ * between 7 and 8 the work's order decides, and of 9, 12, 13 and 14 the first by place is given.
  */
 #ifndef HEJMIROV_H
 #define HEJMIROV_H
@@ -35,7 +36,7 @@
 extern "C" {
 #endif
 
-#define HEJMIROV_VERSION "0.2.0"
+#define HEJMIROV_VERSION "0.3.0"
 
 /* Limits: more is refused. All but the frames of a place, which are any 32-bit number. */
 #define HEJMIROV_MAX_WINDOWS 4       /* windows in a set, at least 1 */
@@ -68,9 +69,15 @@ enum hejmirov_refusal {
     HEJMIROV_TOO_LITTLE_ROOM = 6,   /* output, work space or a link's memory too short */
     HEJMIROV_TARGET_TOO_LONG = 7,   /* a rounded target length above 65,536 */
     HEJMIROV_ESTIMATE_TOO_LONG = 8, /* an estimate's or an alignment's total above 65,536 */
-    HEJMIROV_JOB_DAMAGED = 9,       /* job file damaged */
+    HEJMIROV_JOB_LENGTH = 9,        /* job file too short or too long */
     HEJMIROV_NO_SUCH_PLACE = 10,    /* no such frame, component or state */
-    HEJMIROV_JOB_ENDED = 11         /* a part or an end of a job that has ended */
+    HEJMIROV_JOB_ENDED = 11,        /* a part or an end of a job that has ended */
+    HEJMIROV_JOB_MARK = 12,         /* job file's mark is wrong */
+    HEJMIROV_JOB_VERSION = 13,      /* job file's version is wrong */
+    HEJMIROV_JOB_COUNT = 14,        /* job file says too many states */
+
+    /* The old number of 9, 12, 13 and 14: see hejmirov_job_old_number. */
+    HEJMIROV_JOB_DAMAGED = 9
 };
 
 /* One line for a log. */
@@ -85,9 +92,12 @@ static inline const char *hejmirov_refusal_text(uint32_t refusal) {
     case HEJMIROV_TOO_LITTLE_ROOM: return "output, work space or a link's memory too short";
     case HEJMIROV_TARGET_TOO_LONG: return "a rounded target length above 65,536";
     case HEJMIROV_ESTIMATE_TOO_LONG: return "an estimate's or an alignment's total above 65,536";
-    case HEJMIROV_JOB_DAMAGED: return "job file damaged";
+    case HEJMIROV_JOB_LENGTH: return "job file too short or too long";
     case HEJMIROV_NO_SUCH_PLACE: return "no such frame, component or state";
     case HEJMIROV_JOB_ENDED: return "a part or an end of a job that has ended";
+    case HEJMIROV_JOB_MARK: return "job file's mark is wrong";
+    case HEJMIROV_JOB_VERSION: return "job file's version is wrong";
+    case HEJMIROV_JOB_COUNT: return "job file says too many states";
     default: return "a refusal that this header doesn't know";
     }
 }
@@ -306,10 +316,25 @@ uint32_t hejmirov_excerpt(const double *trajectory, size_t n_trajectory,
  *   states         afterwards n
  *   frames         afterwards the durations' total
  *   changes        afterwards the changes of hejmirov_speed
+ *   place          afterwards, of a damaged file alone, the place of a byte, the file's first byte
+ *                  having the place 0; whatever else is answered, it is as it was
  *
  * It needs about 16 KiB of stack.
  *
- * Refused with 9, before all others: the bytes depart from the format. 6: n_out or n_work below n.
+ * A file is damaged where its bytes depart from the format. Its number says how, and place where:
+ *
+ *   12             a byte of the mark is wrong: place is that of the first, 0, 1 or 2
+ *   13             the version is not 1: place is 3
+ *   14             there are more than 1,024 states: place is 5
+ *   9              the file ends short: place is n_bytes, where it ends; or it goes on behind its
+ *                  last state: place is 15 + 16 x n, the first byte too many
+ *
+ * The order is by place: each byte of the mark, the version, the number of states, and last the
+ * length. A file that ends before a field's last byte is 9 at its end, whatever it has of that
+ * field. So S is 9 at 1, and SX is 12 at 1; SPJ and one byte is 9 at 4, whatever that byte is; and
+ * SPJ and the version 2 is 13 at 3, though the file ends there.
+ *
+ * Refused with 9, 12, 13 or 14, before all others: the file is damaged. 6: n_out or n_work below n.
  * 7, 8: as hejmirov_speed.
  */
 uint32_t hejmirov_job(const uint8_t *bytes, size_t n_bytes,
@@ -317,7 +342,19 @@ uint32_t hejmirov_job(const uint8_t *bytes, size_t n_bytes,
                       uint32_t *work, size_t n_work,
                       uint32_t *states,
                       uint32_t *frames,
-                      uint32_t *changes);
+                      uint32_t *changes,
+                      uint64_t *place);
+
+/* The old number of a refusal: HEJMIROV_JOB_DAMAGED, which is 9, for 9, 12, 13 and 14, and every
+ * other number as it is.
+ *
+ *   number         any 32-bit number
+ *
+ * It is for programs that know 9 alone, which was the number of every damage. It also tells of a
+ * job's refusal whether it has a place: where its old number is HEJMIROV_JOB_DAMAGED. Ask
+ * hejmirov_refusal_text for the number as it came: for the old one it has the text of 9, the length.
+ */
+uint32_t hejmirov_job_old_number(uint32_t number);
 
 /* Serial link: a job that comes a few bytes at a time. Begin, its parts in order, end; however it
  * is cut, the end answers what hejmirov_job answers on the joined bytes.
@@ -347,7 +384,8 @@ uint32_t hejmirov_link_begin(uint8_t *link, size_t n_link);
  *   part           any number of bytes, 0 too, cut anywhere
  *
  * Of a job that is longer than the longest that there is, 16,399 bytes, one byte more is kept and
- * counted and no others, so that any number may come: its end is refused with 9.
+ * counted and no others, so that any number may come: its end is refused as the whole file is, with
+ * 9 at the first byte too many where its head is good, else with 12, 13 or 14.
  *
  * Refused with 11, before all others: no job is under way. 6: n_link below HEJMIROV_LINK_BYTES. The
  * memory is then as it was.
@@ -358,25 +396,29 @@ uint32_t hejmirov_link_part(uint8_t *link, size_t n_link,
 /* Ends the job that is under way, and answers it: the durations of its states, at its speed.
  *
  *   link           a link's memory; afterwards no job is under way, also where the job is refused
- *                  with 9, 6, 7 or 8; all but the first eight bytes are as they were
+ *                  with 9, 12, 13, 14, 6, 7 or 8; all but the first eight bytes are as they were
  *   out            afterwards the n durations, each at least 1; n is the job's number of states, at
  *                  most HEJMIROV_MAX_JOB_STATES
  *   work           n numbers; afterwards n zeros
  *   states         afterwards n
  *   frames         afterwards the durations' total
  *   changes        afterwards the changes of hejmirov_speed
+ *   place          afterwards, of a damaged job alone, the place of a byte, as of hejmirov_job; it
+ *                  counts from the job's first byte, over all parts; whatever else is answered, it
+ *                  is as it was
  *
  * It needs about 16 KiB of stack.
  *
  * Refused with 11, before all others: no job is under way. 6: n_link below HEJMIROV_LINK_BYTES. The
- * memory is then as it was. Then as hejmirov_job: 9, 6, 7, 8; the job has then ended.
+ * memory is then as it was. Then as hejmirov_job: 9, 12, 13 or 14; 6, 7, 8; the job has then ended.
  */
 uint32_t hejmirov_link_end(uint8_t *link, size_t n_link,
                            uint32_t *out, size_t n_out,
                            uint32_t *work, size_t n_work,
                            uint32_t *states,
                            uint32_t *frames,
-                           uint32_t *changes);
+                           uint32_t *changes,
+                           uint64_t *place);
 
 #ifdef __cplusplus
 }

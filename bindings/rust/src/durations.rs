@@ -279,13 +279,15 @@ pub fn align_into(
 ///
 /// # Errors
 ///
-/// [`JobDamaged`](Refusal::JobDamaged): the bytes depart from the format.
-/// [`TargetTooLong`](Refusal::TargetTooLong) and [`EstimateTooLong`](Refusal::EstimateTooLong) as
-/// [`speed`].
+/// [`JobDamaged`](Refusal::JobDamaged), before all others: the bytes depart from the format; it says
+/// what is wrong, and at which byte. [`TargetTooLong`](Refusal::TargetTooLong) and
+/// [`EstimateTooLong`](Refusal::EstimateTooLong) as [`speed`].
 ///
 /// # Examples
 ///
 /// ```
+/// use hejmirov::{Damage, Refusal};
+///
 /// let mut bytes = b"SPJ\x01\0\x02\0".to_vec();
 /// for number in [0.5_f64, 2.0, 1.0, 3.0, 1.0] {
 ///     bytes.extend(number.to_le_bytes());
@@ -293,10 +295,14 @@ pub fn align_into(
 /// let fitted = hejmirov::job(&bytes)?;
 /// assert_eq!((fitted.frames(), fitted.changes), (10, 1));
 /// assert_eq!(fitted.durations, [4, 6]);
-/// # Ok::<(), hejmirov::Refusal>(())
+///
+/// bytes.push(0);
+/// let refused = hejmirov::job(&bytes);
+/// assert_eq!(refused, Err(Refusal::JobDamaged { damage: Damage::Length, place: 47 }));
+/// # Ok::<(), Refusal>(())
 /// ```
 pub fn job(bytes: &[u8]) -> Result<Fitted, Refusal> {
-    // A job of more states, or of other bytes than these, is damaged, and that comes before room.
+    // A job of more states, or of another length, is damaged, and that comes before room.
     let states = bytes.len().saturating_sub(JOB_HEAD_BYTES) / JOB_STATE_BYTES;
     let (mut durations, mut work) = room(states.min(MAX_JOB_STATES));
     let answered = job_into(bytes, &mut durations, &mut work)?;
@@ -319,17 +325,22 @@ pub fn job(bytes: &[u8]) -> Result<Fitted, Refusal> {
 /// # Examples
 ///
 /// ```
-/// use hejmirov::{Answered, MAX_JOB_STATES};
+/// use hejmirov::{Answered, Damage, MAX_JOB_STATES, Refusal};
 ///
 /// let bytes = std::fs::read("../../examples/worked.spj")?;
 /// let (mut out, mut work) = ([0; MAX_JOB_STATES], [0; MAX_JOB_STATES]);
 /// let answered = hejmirov::job_into(&bytes, &mut out, &mut work)?;
 /// assert_eq!(answered, Answered { states: 2, frames: 10, changes: 1 });
 /// assert_eq!(out[..answered.states as usize], [4, 6]);
+///
+/// let damaged = std::fs::read("../../examples/damaged.spj")?;
+/// let refused = hejmirov::job_into(&damaged, &mut out, &mut work);
+/// assert_eq!(refused, Err(Refusal::JobDamaged { damage: Damage::Mark, place: 2 }));
+/// assert_eq!(out[..2], [4, 6]); // as it was
 /// # Ok::<(), Box<dyn std::error::Error>>(())
 /// ```
 pub fn job_into(bytes: &[u8], out: &mut [u32], work: &mut [u32]) -> Result<Answered, Refusal> {
-    let (mut states, mut frames, mut changes) = (0, 0, 0);
+    let (mut states, mut frames, mut changes, mut place) = (0, 0, 0, 0);
     // SAFETY: each pointer and length are those of one slice, and the written ones are borrowed alone.
     let refusal = unsafe {
         sys::hejmirov_job(
@@ -342,10 +353,12 @@ pub fn job_into(bytes: &[u8], out: &mut [u32], work: &mut [u32]) -> Result<Answe
             &raw mut states,
             &raw mut frames,
             &raw mut changes,
+            &raw mut place,
         )
     };
-    Refusal::or(
+    Refusal::or_at(
         refusal,
+        place,
         Answered {
             states,
             frames,

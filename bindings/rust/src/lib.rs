@@ -16,10 +16,11 @@
 //! [`link_end_into`], which take the caller's.
 //!
 //! No call panics, whatever its numbers and lengths; what the library doesn't take is a
-//! [`Refusal`]. After a refusal every output is as it was. Any `f64` is taken; a NaN that is handed
-//! out has the bits 0x7FF8000000000000. The calls keep nothing between them but what a link's memory
-//! holds, and threads may make them at once. The answers are exact, to the bit, as long as nothing in
-//! the program makes the processor flush subnormal numbers to zero.
+//! [`Refusal`], which says of a damaged job what is wrong with it, and at which byte. After a
+//! refusal every output is as it was. Any `f64` is taken; a NaN that is handed out has the bits
+//! 0x7FF8000000000000. The calls keep nothing between them but what a link's memory holds, and
+//! threads may make them at once. The answers are exact, to the bit, as long as nothing in the
+//! program makes the processor flush subnormal numbers to zero.
 //!
 //! # Linking
 //!
@@ -38,7 +39,7 @@ pub use durations::{
     Aligned, Answered, Fitted, align, align_into, fit, fit_into, job, job_into, speed, speed_into,
 };
 pub use link::{Link, link_begin, link_end_into, link_part};
-pub use refusal::Refusal;
+pub use refusal::{Damage, Refusal};
 pub use spool::{excerpt, excerpt_range, place};
 pub use trajectory::{
     BandRows, GlobalVariance, Mask, Stream, Trajectory, Windows, band_rows, band_rows_into, mask,

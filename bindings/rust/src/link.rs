@@ -39,9 +39,10 @@ impl Link {
     /// # Examples
     ///
     /// ```
-    /// use hejmirov::{Link, Refusal};
+    /// use hejmirov::{Damage, Link, Refusal};
     ///
-    /// assert_eq!(Link::new().end(), Err(Refusal::JobDamaged)); // no bytes are no job
+    /// let refused = Link::new().end(); // no bytes are no job
+    /// assert_eq!(refused, Err(Refusal::JobDamaged { damage: Damage::Length, place: 0 }));
     /// ```
     #[must_use]
     pub fn new() -> Self {
@@ -95,16 +96,18 @@ impl Link {
     /// # Errors
     ///
     /// [`JobEnded`](Refusal::JobEnded): no job is under way; nothing changes. Else those of
-    /// [`job`](crate::job), and the job has ended.
+    /// [`job`](crate::job), and the job has ended; a place counts from the job's first byte, over
+    /// all parts.
     ///
     /// # Examples
     ///
     /// ```
-    /// use hejmirov::{Link, Refusal};
+    /// use hejmirov::{Damage, Link, Refusal};
     ///
     /// let mut link = Link::new();
-    /// link.part(b"SPK")?;
-    /// assert_eq!(link.end(), Err(Refusal::JobDamaged));
+    /// link.part(b"S")?;
+    /// link.part(b"PK")?;
+    /// assert_eq!(link.end(), Err(Refusal::JobDamaged { damage: Damage::Mark, place: 2 }));
     /// assert_eq!(link.end(), Err(Refusal::JobEnded));
     /// # Ok::<(), Refusal>(())
     /// ```
@@ -218,12 +221,12 @@ pub fn link_part(link: &mut [u8], bytes: &[u8]) -> Result<(), Refusal> {
 /// [`JobEnded`](Refusal::JobEnded), before all others: no job is under way.
 /// [`TooLittleRoom`](Refusal::TooLittleRoom): the memory is too short. It is then as it was. Else
 /// those of [`job_into`](crate::job_into), with `out` and `work` as that leaves them, and the job
-/// has ended.
+/// has ended; a place counts from the job's first byte, over all parts.
 ///
 /// # Examples
 ///
 /// ```
-/// use hejmirov::{LINK_BYTES, Refusal};
+/// use hejmirov::{Damage, LINK_BYTES, Refusal};
 ///
 /// let mut memory = [0; LINK_BYTES];
 /// let (mut out, mut work) = ([7; 2], [7; 2]);
@@ -233,6 +236,11 @@ pub fn link_part(link: &mut [u8], bytes: &[u8]) -> Result<(), Refusal> {
 /// assert_eq!((answered.frames, out, work), (10, [4, 6], [0, 0]));
 /// let again = hejmirov::link_end_into(&mut memory, &mut out, &mut work);
 /// assert_eq!(again, Err(Refusal::JobEnded));
+///
+/// hejmirov::link_begin(&mut memory)?;
+/// hejmirov::link_part(&mut memory, b"SPJ\x02\0")?;
+/// let refused = hejmirov::link_end_into(&mut memory, &mut out, &mut work);
+/// assert_eq!(refused, Err(Refusal::JobDamaged { damage: Damage::Version, place: 3 }));
 /// # Ok::<(), Box<dyn std::error::Error>>(())
 /// ```
 pub fn link_end_into(
@@ -240,7 +248,7 @@ pub fn link_end_into(
     out: &mut [u32],
     work: &mut [u32],
 ) -> Result<Answered, Refusal> {
-    let (mut states, mut frames, mut changes) = (0, 0, 0);
+    let (mut states, mut frames, mut changes, mut place) = (0, 0, 0, 0);
     // SAFETY: each pointer and length are those of one slice, and each is borrowed alone.
     let refusal = unsafe {
         sys::hejmirov_link_end(
@@ -253,10 +261,12 @@ pub fn link_end_into(
             &raw mut states,
             &raw mut frames,
             &raw mut changes,
+            &raw mut place,
         )
     };
-    Refusal::or(
+    Refusal::or_at(
         refusal,
+        place,
         Answered {
             states,
             frames,

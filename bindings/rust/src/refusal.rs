@@ -3,19 +3,28 @@
 use std::error::Error;
 use std::fmt;
 
+use crate::sys;
+
 /// Why a call refused: the first of these that applies, in the order of their numbers
-/// ([`JobEnded`](Refusal::JobEnded) and then [`JobDamaged`](Refusal::JobDamaged) before all others;
-/// between the two that are too long the work's order decides).
+/// ([`JobDamaged`](Refusal::JobDamaged) before all others, and before that, over a link,
+/// [`JobEnded`](Refusal::JobEnded) and a memory that is too short; between the two that are too
+/// long the work's order decides).
 ///
 /// Every call's outputs are then as they were.
 ///
+/// # Examples
+///
 /// ```
-/// use hejmirov::Refusal;
+/// use hejmirov::{Damage, Refusal};
 ///
 /// let refusal = hejmirov::place(7, 40, 40).unwrap_err();
 /// assert_eq!(refusal, Refusal::NoSuchPlace);
 /// assert_eq!(refusal.number(), 10);
 /// assert_eq!(refusal.to_string(), "refused 10: no such frame, component or state");
+///
+/// let refusal = hejmirov::job(b"SPK").unwrap_err();
+/// assert_eq!(refusal, Refusal::JobDamaged { damage: Damage::Mark, place: 2 });
+/// assert_eq!(refusal.to_string(), "refused 12 at byte 2: job file's mark is wrong");
 /// ```
 #[derive(Clone, Copy, Debug, PartialEq, Eq, Hash)]
 #[non_exhaustive]
@@ -36,8 +45,13 @@ pub enum Refusal {
     TargetTooLong,
     /// 8: an estimate's or an alignment's total above 65,536.
     EstimateTooLong,
-    /// 9: job file damaged.
-    JobDamaged,
+    /// 9, 12, 13 or 14: job file damaged.
+    JobDamaged {
+        /// What is wrong with it.
+        damage: Damage,
+        /// The place of a byte, as [`Damage`] says, the job's first byte having the place 0.
+        place: u64,
+    },
     /// 10: no such frame, component or state.
     NoSuchPlace,
     /// 11: a part or an end of a job that has ended.
@@ -59,11 +73,29 @@ impl Refusal {
             Refusal::TooLittleRoom => 6,
             Refusal::TargetTooLong => 7,
             Refusal::EstimateTooLong => 8,
-            Refusal::JobDamaged => 9,
+            Refusal::JobDamaged { damage, .. } => damage.number(),
             Refusal::NoSuchPlace => 10,
             Refusal::JobEnded => 11,
             Refusal::Unknown(number) => number,
         }
+    }
+
+    /// The old number: 9 for 9, 12, 13 and 14, and every other [`number`](Refusal::number) as it is.
+    ///
+    /// It is for programs that know 9 alone, which was the number of every damage.
+    ///
+    /// # Examples
+    ///
+    /// ```
+    /// let damaged = hejmirov::job(b"SPK").unwrap_err();
+    /// assert_eq!((damaged.number(), damaged.old_number()), (12, 9));
+    /// let absent = hejmirov::place(7, 40, 40).unwrap_err();
+    /// assert_eq!((absent.number(), absent.old_number()), (10, 10));
+    /// ```
+    #[must_use]
+    pub fn old_number(self) -> u32 {
+        // SAFETY: it takes a number and answers one.
+        unsafe { sys::hejmirov_job_old_number(self.number()) }
     }
 
     fn of(number: u32) -> Self {
@@ -76,7 +108,6 @@ impl Refusal {
             6 => Refusal::TooLittleRoom,
             7 => Refusal::TargetTooLong,
             8 => Refusal::EstimateTooLong,
-            9 => Refusal::JobDamaged,
             10 => Refusal::NoSuchPlace,
             11 => Refusal::JobEnded,
             other => Refusal::Unknown(other),
@@ -93,7 +124,7 @@ impl Refusal {
             Refusal::TooLittleRoom => "output, work space or a link's memory too short",
             Refusal::TargetTooLong => "a rounded target length above 65,536",
             Refusal::EstimateTooLong => "an estimate's or an alignment's total above 65,536",
-            Refusal::JobDamaged => "job file damaged",
+            Refusal::JobDamaged { damage, .. } => damage.text(),
             Refusal::NoSuchPlace => "no such frame, component or state",
             Refusal::JobEnded => "a part or an end of a job that has ended",
             Refusal::Unknown(_) => "a refusal that these bindings don't know",
@@ -107,27 +138,123 @@ impl Refusal {
             _ => Err(Self::of(number)),
         }
     }
+
+    /// A job's answer: its values, where the number is 0; where it is a damage's, that and the place.
+    pub(crate) fn or_at<T>(number: u32, place: u64, values: T) -> Result<T, Self> {
+        match Damage::of(number) {
+            Some(damage) => Err(Refusal::JobDamaged { damage, place }),
+            None => Self::or(number, values),
+        }
+    }
 }
 
 impl fmt::Display for Refusal {
     fn fmt(&self, f: &mut fmt::Formatter<'_>) -> fmt::Result {
-        write!(f, "refused {}: {}", self.number(), self.text())
+        write!(f, "refused {}", self.number())?;
+        if let Refusal::JobDamaged { place, .. } = self {
+            write!(f, " at byte {place}")?;
+        }
+        write!(f, ": {}", self.text())
     }
 }
 
 impl Error for Refusal {}
 
+/// What is wrong with a damaged job, and the place of which byte a refusal says.
+///
+/// The order is by place: each byte of the mark, the version, the number of states, and last the
+/// length. A file that ends before a field's last byte is [`Length`](Damage::Length) at its end,
+/// whatever it has of that field.
+///
+/// # Examples
+///
+/// ```
+/// use hejmirov::{Damage, Refusal};
+///
+/// for (bytes, damage, place) in [
+///     (&b"SX"[..], Damage::Mark, 1),
+///     (b"SPJ\x02\0", Damage::Version, 3),
+///     (b"SPJ\x01\0\x01\x04", Damage::Count, 5),
+///     (b"S", Damage::Length, 1),
+/// ] {
+///     assert_eq!(hejmirov::job(bytes), Err(Refusal::JobDamaged { damage, place }));
+/// }
+/// ```
+#[derive(Clone, Copy, Debug, PartialEq, Eq, Hash)]
+#[non_exhaustive]
+pub enum Damage {
+    /// 12: the mark is wrong; the first wrong byte, at 0, 1 or 2.
+    Mark,
+    /// 13: the version is not 1; its first byte, at 3.
+    Version,
+    /// 14: there are more than 1,024 states; their number's first byte, at 5.
+    Count,
+    /// 9: the file ends short, at its length; or it goes on behind its last state, and the first
+    /// byte too many is at 15 + 16 × states.
+    Length,
+}
+
+impl Damage {
+    fn number(self) -> u32 {
+        match self {
+            Damage::Mark => 12,
+            Damage::Version => 13,
+            Damage::Count => 14,
+            Damage::Length => 9,
+        }
+    }
+
+    fn of(number: u32) -> Option<Self> {
+        match number {
+            12 => Some(Damage::Mark),
+            13 => Some(Damage::Version),
+            14 => Some(Damage::Count),
+            9 => Some(Damage::Length),
+            _ => None,
+        }
+    }
+
+    fn text(self) -> &'static str {
+        match self {
+            Damage::Mark => "job file's mark is wrong",
+            Damage::Version => "job file's version is wrong",
+            Damage::Count => "job file says too many states",
+            Damage::Length => "job file too short or too long",
+        }
+    }
+}
+
 #[cfg(test)]
 mod tests {
-    use super::Refusal;
+    use super::{Damage, Refusal};
 
     #[test]
     fn every_number_comes_back() {
         for number in 1..=20 {
             assert_eq!(Refusal::of(number).number(), number);
+            assert_eq!(Refusal::or_at(number, 5, ()).unwrap_err().number(), number);
         }
         assert_eq!(Refusal::or(0, "values"), Ok("values"));
         assert_eq!(Refusal::or(11, ()), Err(Refusal::JobEnded));
-        assert_eq!(Refusal::or(12, ()), Err(Refusal::Unknown(12)));
+        assert_eq!(Refusal::or(15, ()), Err(Refusal::Unknown(15)));
+    }
+
+    #[test]
+    fn damage_alone_has_a_place() {
+        for (number, damage) in [
+            (9, Damage::Length),
+            (12, Damage::Mark),
+            (13, Damage::Version),
+            (14, Damage::Count),
+        ] {
+            let place = 7;
+            let refused = Err(Refusal::JobDamaged { damage, place });
+            assert_eq!(Refusal::or_at(number, place, ()), refused);
+            assert_eq!(Refusal::or(number, ()), Err(Refusal::Unknown(number)));
+        }
+        for number in [6, 7, 8, 11, 15] {
+            assert_eq!(Refusal::or_at(number, 7, ()), Refusal::or(number, ()));
+        }
+        assert_eq!(Refusal::or_at(0, 7, "values"), Ok("values"));
     }
 }

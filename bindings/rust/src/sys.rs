@@ -123,7 +123,10 @@ unsafe extern "C" {
         states: *mut u32,
         frames: *mut u32,
         changes: *mut u32,
+        place: *mut u64,
     ) -> u32;
+
+    pub fn hejmirov_job_old_number(number: u32) -> u32;
 
     pub fn hejmirov_link_begin(link: *mut u8, n_link: usize) -> u32;
 
@@ -139,5 +142,139 @@ unsafe extern "C" {
         states: *mut u32,
         frames: *mut u32,
         changes: *mut u32,
+        place: *mut u64,
     ) -> u32;
+}
+
+#[cfg(test)]
+mod tests {
+    //! What stands behind a job's pointers, of which the safe calls show only what was written.
+
+    use super::{hejmirov_job, hejmirov_link_end};
+    use crate::{LINK_BYTES, link_begin, link_part};
+
+    /// What a call left behind the pointers, of numbers that would show if they were touched.
+    #[derive(Clone, Debug, PartialEq)]
+    struct Left {
+        out: Vec<u32>,
+        work: Vec<u32>,
+        values: [u32; 3],
+        place: u64,
+    }
+
+    /// As it is before a call, with room for so many states.
+    fn untouched(room: usize) -> Left {
+        Left {
+            out: vec![7; room],
+            work: vec![9; room],
+            values: [21, 22, 23],
+            place: 0xa5a5_a5a5_a5a5_a5a5,
+        }
+    }
+
+    /// A job as a file, with room for so many states: the number, and what is left.
+    fn job(bytes: &[u8], room: usize) -> (u32, Left) {
+        let mut left = untouched(room);
+        let [states, frames, changes] = &mut left.values;
+        // SAFETY: each pointer and length are those of one list, and each is borrowed alone.
+        let number = unsafe {
+            hejmirov_job(
+                bytes.as_ptr(),
+                bytes.len(),
+                left.out.as_mut_ptr(),
+                room,
+                left.work.as_mut_ptr(),
+                room,
+                states,
+                frames,
+                changes,
+                &raw mut left.place,
+            )
+        };
+        (number, left)
+    }
+
+    /// The end of the job in a link's memory, the same.
+    fn end(memory: &mut [u8], room: usize) -> (u32, Left) {
+        let mut left = untouched(room);
+        let [states, frames, changes] = &mut left.values;
+        // SAFETY: each pointer and length are those of one list, and each is borrowed alone.
+        let number = unsafe {
+            hejmirov_link_end(
+                memory.as_mut_ptr(),
+                memory.len(),
+                left.out.as_mut_ptr(),
+                room,
+                left.work.as_mut_ptr(),
+                room,
+                states,
+                frames,
+                changes,
+                &raw mut left.place,
+            )
+        };
+        (number, left)
+    }
+
+    /// A memory in which the job has come in two parts.
+    fn come(bytes: &[u8]) -> Vec<u8> {
+        let mut memory = vec![0; LINK_BYTES];
+        link_begin(&mut memory).unwrap();
+        let (front, back) = bytes.split_at(bytes.len() / 2);
+        link_part(&mut memory, front).unwrap();
+        link_part(&mut memory, back).unwrap();
+        memory
+    }
+
+    /// A job of two states of variance 1: their means, and the speed.
+    fn two(means: [f64; 2], speed: f64) -> Vec<u8> {
+        let mut bytes = b"SPJ\x01\0\x02\0".to_vec();
+        for number in [speed, means[0], 1.0, means[1], 1.0] {
+            bytes.extend(number.to_le_bytes());
+        }
+        bytes
+    }
+
+    #[test]
+    fn place_is_written_of_a_damaged_job_alone() {
+        let worked = two([2.0, 3.0], 0.5);
+        let answered = Left {
+            out: vec![4, 6, 7],
+            work: vec![0, 0, 9],
+            values: [2, 10, 1],
+            ..untouched(3)
+        };
+        let zeros = Left {
+            work: vec![0, 0, 9],
+            ..untouched(3)
+        };
+        let at = |place| Left {
+            place,
+            ..untouched(3)
+        };
+        for (bytes, expected) in [
+            (&worked[..], (0, answered)),
+            (&two([2.0, 3.0], 0.0), (7, zeros.clone())),
+            (&two([65_536.0, 1.0], 1.0), (8, zeros)),
+            (&worked[..46], (9, at(46))),
+            (b"SPK", (12, at(2))),
+            (b"SPJ\x02\0", (13, at(3))),
+            (b"SPJ\x01\0\x01\x04", (14, at(5))),
+        ] {
+            assert_eq!(job(bytes, 3), expected);
+            assert_eq!(end(&mut come(bytes), 3), expected);
+        }
+        assert_eq!(job(&worked, 1), (6, untouched(1)));
+        assert_eq!(end(&mut come(&worked), 1), (6, untouched(1)));
+    }
+
+    #[test]
+    fn place_stays_where_a_link_refuses() {
+        let mut memory = come(b"SPK");
+        let short = &mut memory[..LINK_BYTES - 1];
+        assert_eq!(end(short, 3), (6, untouched(3)));
+        assert_eq!(end(&mut memory, 3).0, 12);
+        assert_eq!(end(&mut memory, 3), (11, untouched(3)));
+        assert_eq!(end(&mut [], 3), (11, untouched(3)));
+    }
 }

@@ -3,9 +3,9 @@
 #![allow(clippy::float_cmp)] // what is promised is exact
 
 use hejmirov::{
-    Aligned, Fitted, GlobalVariance, JOB_STATE_BYTES, LINK_BYTES, Link, MAX_FRAMES, MAX_JOB_STATES,
-    MAX_NSTATE, MAX_STATES, MAX_V, MAX_WIDTH, MAX_WINDOWS, OPEN_END, Refusal, Stream,
-    WORK_FLOATS_A_FRAME, WORK_MARKS_A_FRAME, Windows,
+    Aligned, Damage, Fitted, GlobalVariance, JOB_STATE_BYTES, LINK_BYTES, Link, MAX_FRAMES,
+    MAX_JOB_STATES, MAX_NSTATE, MAX_STATES, MAX_V, MAX_WIDTH, MAX_WINDOWS, OPEN_END, Refusal,
+    Stream, WORK_FLOATS_A_FRAME, WORK_MARKS_A_FRAME, Windows,
 };
 
 const MEANS: [f64; 2] = [2.0, 3.0];
@@ -22,6 +22,10 @@ const PLAIN: Stream = Stream {
     fill: -1.0,
     gv: None,
 };
+
+fn damaged(damage: Damage, place: u64) -> Refusal {
+    Refusal::JobDamaged { damage, place }
+}
 
 #[test]
 fn windows_are_refused() {
@@ -170,7 +174,7 @@ fn lengths_above_the_limit_zero_the_work_space() {
 
 #[test]
 fn jobs_places_and_states_that_are_not_there() {
-    assert_eq!(hejmirov::job(b"SPJ"), Err(Refusal::JobDamaged));
+    assert_eq!(hejmirov::job(b"SPJ"), Err(damaged(Damage::Length, 3)));
     assert_eq!(hejmirov::place(0, 40, 40), Err(Refusal::NoSuchPlace));
     assert_eq!(
         hejmirov::excerpt(&[1.0, 2.0], &[2], 1, 1),
@@ -353,7 +357,7 @@ fn limits_are_the_last_accepted() {
     );
 
     assert_eq!(job(MAX_JOB_STATES), Ok(MAX_JOB_STATES as u64));
-    assert_eq!(job(MAX_JOB_STATES + 1), Err(Refusal::JobDamaged));
+    assert_eq!(job(MAX_JOB_STATES + 1), Err(damaged(Damage::Count, 5)));
 }
 
 #[test]
@@ -363,7 +367,7 @@ fn a_link_that_has_ended_takes_nothing_but_begin() {
     let mut memory = vec![0xff; LINK_BYTES + 1];
     for (part, expected) in [
         (&job[..], Err(Refusal::TooLittleRoom)), // a refused end is an end
-        (b"SPJ", Err(Refusal::JobDamaged)),
+        (b"SPJ", Err(damaged(Damage::Length, 3))),
         (&job_of(0), Ok(0)),
     ] {
         hejmirov::link_begin(&mut memory).unwrap();
@@ -438,7 +442,7 @@ fn more_bytes_than_any_job_has() {
         let mut longer = link.clone();
         longer.part(&vec![0; surplus]).unwrap();
         longer.part(&largest).unwrap();
-        assert_eq!(longer.end(), Err(Refusal::JobDamaged));
+        assert_eq!(longer.end(), Err(damaged(Damage::Length, 16_399)));
         longer.begin();
         longer.part(&largest).unwrap();
         assert_eq!(longer.end(), Ok(ended.clone()));
