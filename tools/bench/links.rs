@@ -8,13 +8,13 @@ use crate::{Inputs, Side, least_times, shown};
 unsafe extern "C" {
     fn hejmirov_job(
         bytes: *const u8, n_bytes: usize, out: *mut u32, n_out: usize, work: *mut u32, n_work: usize,
-        states: *mut u32, frames: *mut u32, changes: *mut u32,
+        states: *mut u32, frames: *mut u32, changes: *mut u32, place: *mut u64,
     ) -> u32;
     fn hejmirov_link_begin(link: *mut u8, n_link: usize) -> u32;
     fn hejmirov_link_part(link: *mut u8, n_link: usize, part: *const u8, n_part: usize) -> u32;
     fn hejmirov_link_end(
         link: *mut u8, n_link: usize, out: *mut u32, n_out: usize, work: *mut u32, n_work: usize,
-        states: *mut u32, frames: *mut u32, changes: *mut u32,
+        states: *mut u32, frames: *mut u32, changes: *mut u32, place: *mut u64,
     ) -> u32;
 }
 
@@ -45,12 +45,12 @@ impl Job {
     /// Frames in all, of the whole file.
     fn as_file(&mut self) -> u32 {
         let (out, work, count) = (self.out.as_mut_ptr(), self.work.as_mut_ptr(), self.out.len());
-        let (mut states, mut frames, mut changes) = (0, 0, 0);
+        let (mut states, mut frames, mut changes, mut place) = (0, 0, 0, 0);
         // Every list comes with its own length and outlives the call.
         let refusal = unsafe {
             hejmirov_job(
                 self.bytes.as_ptr(), self.bytes.len(), out, count, work, count,
-                &mut states, &mut frames, &mut changes,
+                &mut states, &mut frames, &mut changes, &mut place,
             )
         };
         assert_eq!(refusal, 0);
@@ -61,7 +61,7 @@ impl Job {
     fn over_link(&mut self, part: usize) -> u32 {
         let (link, bytes) = (self.link.as_mut_ptr(), self.link.len());
         let (out, work, count) = (self.out.as_mut_ptr(), self.work.as_mut_ptr(), self.out.len());
-        let (mut states, mut frames, mut changes) = (0, 0, 0);
+        let (mut states, mut frames, mut changes, mut place) = (0, 0, 0, 0);
         // Every list comes with its own length and outlives the calls.
         unsafe {
             assert_eq!(hejmirov_link_begin(link, bytes), 0);
@@ -69,7 +69,7 @@ impl Job {
                 assert_eq!(hejmirov_link_part(link, bytes, part.as_ptr(), part.len()), 0);
             }
             let refusal = hejmirov_link_end(
-                link, bytes, out, count, work, count, &mut states, &mut frames, &mut changes,
+                link, bytes, out, count, work, count, &mut states, &mut frames, &mut changes, &mut place,
             );
             assert_eq!(refusal, 0);
         }
