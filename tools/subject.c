@@ -44,7 +44,9 @@ uint32_t hejmirov_excerpt(DOUBLES(trajectory), WHOLES(durations), uint32_t v, ui
                           uint64_t *first, uint64_t *count);
 #pragma weak hejmirov_job
 uint32_t hejmirov_job(BYTES(bytes), OUT_WHOLES(out), OUT_WHOLES(work), uint32_t *states,
-                      uint32_t *frames, uint32_t *changes);
+                      uint32_t *frames, uint32_t *changes, uint64_t *place);
+#pragma weak hejmirov_job_old_number
+uint32_t hejmirov_job_old_number(uint32_t number);
 
 #pragma weak hejmirov_link_begin
 uint32_t hejmirov_link_begin(OUT_BYTES(link));
@@ -52,9 +54,9 @@ uint32_t hejmirov_link_begin(OUT_BYTES(link));
 uint32_t hejmirov_link_part(OUT_BYTES(link), BYTES(part));
 #pragma weak hejmirov_link_end
 uint32_t hejmirov_link_end(OUT_BYTES(link), OUT_WHOLES(out), OUT_WHOLES(work), uint32_t *states,
-                           uint32_t *frames, uint32_t *changes);
+                           uint32_t *frames, uint32_t *changes, uint64_t *place);
 
-enum { FIT = 3, SPEED, ALIGN, MASK, BAND, TRAJECTORY, PLACE, EXCERPT, JOB, LINK };
+enum { FIT = 3, SPEED, ALIGN, MASK, BAND, TRAJECTORY, PLACE, EXCERPT, JOB, LINK, OLD_NUMBER };
 enum { ANSWERED = 0, NO_SUCH_CALL = 3, STRAYED = 4, PARTED = 5 };
 
 /* The calls on a link's memory, as a case names them. */
@@ -303,17 +305,21 @@ static void run_excerpt(void) {
 static void run_job(void) {
     List *bytes = input(1), *out = lent(4), *work = lent(4);
     uint32_t states = untouched, frames = untouched, changes = untouched;
-    put_u32(hejmirov_job(IN_B(bytes), OUT_W(out), OUT_W(work), &states, &frames, &changes));
+    uint64_t place = untouched_long;
+    put_u32(hejmirov_job(IN_B(bytes), OUT_W(out), OUT_W(work), &states, &frames, &changes, &place));
     put_u32(states);
     put_u32(frames);
     put_u32(changes);
+    put_u64(place);
     put_list(out);
     put_list(work);
 }
 
+static void run_old_number(void) { put_u32(hejmirov_job_old_number(take_u32())); }
+
 /* What the ends of a case left: the values through pointers, and the lists joined. */
 typedef struct {
-    Buffer refusals, states, frames, changes, out, work;
+    Buffer refusals, states, frames, changes, places, out, work;
 } Left;
 
 /* What a link was given since a begin that was taken. */
@@ -324,12 +330,13 @@ typedef struct {
 
 /* Whether hejmirov_job on the joined bytes answers as an end did, and leaves the same. */
 static bool same_as_job(const Given *given, uint32_t refusal, const uint32_t values[3],
-                        const List *out, const List *work) {
+                        uint64_t place, const List *out, const List *work) {
     List *own_out = lent_of(4, out->count), *own_work = lent_of(4, work->count);
     uint32_t own[3] = {untouched, untouched, untouched};
+    uint64_t own_place = untouched_long;
     uint32_t answered = hejmirov_job(given->joined.bytes, given->joined.size, OUT_W(own_out),
-                                     OUT_W(own_work), &own[0], &own[1], &own[2]);
-    return answered == refusal && memcmp(own, values, sizeof own) == 0 &&
+                                     OUT_W(own_work), &own[0], &own[1], &own[2], &own_place);
+    return answered == refusal && memcmp(own, values, sizeof own) == 0 && own_place == place &&
            memcmp(own_out->numbers, out->numbers, out->size) == 0 &&
            memcmp(own_work->numbers, work->numbers, work->size) == 0;
 }
@@ -337,13 +344,15 @@ static bool same_as_job(const Given *given, uint32_t refusal, const uint32_t val
 static uint32_t end_link(const List *link, Given *given, size_t n_out, size_t n_work, Left *left) {
     List *out = lent_of(4, n_out), *work = lent_of(4, n_work);
     uint32_t values[3] = {untouched, untouched, untouched};
+    uint64_t place = untouched_long;
     uint32_t refusal = hejmirov_link_end(OUT_B(link), OUT_W(out), OUT_W(work), &values[0],
-                                         &values[1], &values[2]);
-    if (given->under_way && !same_as_job(given, refusal, values, out, work)) status = PARTED;
+                                         &values[1], &values[2], &place);
+    if (given->under_way && !same_as_job(given, refusal, values, place, out, work)) status = PARTED;
     given->under_way = false;
     append(&left->states, &values[0], sizeof values[0]);
     append(&left->frames, &values[1], sizeof values[1]);
     append(&left->changes, &values[2], sizeof values[2]);
+    append(&left->places, &place, sizeof place);
     append(&left->out, out->numbers, out->size);
     append(&left->work, work->numbers, work->size);
     return refusal;
@@ -363,8 +372,8 @@ static uint32_t begin_link(const List *link, Given *given) {
     return refusal;
 }
 
-static void put_wholes(const Buffer *buffer) {
-    put_u32((uint32_t)(buffer->size / sizeof(uint32_t)));
+static void put_items(const Buffer *buffer, size_t element) {
+    put_u32((uint32_t)(buffer->size / element));
     put(buffer->bytes, buffer->size);
 }
 
@@ -409,10 +418,10 @@ static void run_link(void) {
         append(&left.refusals, &refusal, sizeof refusal);
         close_lists(own);
     }
-    Buffer *told[] = {&left.refusals, &left.states, &left.frames,
-                      &left.changes,  &left.out,    &left.work};
+    Buffer *told[] = {&left.refusals, &left.states, &left.frames, &left.changes,
+                      &left.places,   &left.out,    &left.work};
     for (size_t i = 0; i < sizeof told / sizeof *told; i++) {
-        put_wholes(told[i]);
+        put_items(told[i], told[i] == &left.places ? sizeof(uint64_t) : sizeof(uint32_t));
         free(told[i]->bytes);
     }
     put_list(link);
@@ -429,9 +438,10 @@ static bool there(uint8_t kind) {
     case TRAJECTORY: return hejmirov_trajectory;
     case PLACE: return hejmirov_place;
     case EXCERPT: return hejmirov_excerpt;
-    case JOB: return hejmirov_job;
-    case LINK:
-        return hejmirov_link_begin && hejmirov_link_part && hejmirov_link_end && hejmirov_job;
+    case OLD_NUMBER: return hejmirov_job_old_number;
+    /* An archive without that one has an older hejmirov_job, which tells no place. */
+    case JOB: return hejmirov_job && there(OLD_NUMBER);
+    case LINK: return hejmirov_link_begin && hejmirov_link_part && hejmirov_link_end && there(JOB);
     default: return false;
     }
 }
@@ -448,6 +458,7 @@ static void run(uint8_t kind) {
     case EXCERPT: run_excerpt(); break;
     case JOB: run_job(); break;
     case LINK: run_link(); break;
+    case OLD_NUMBER: run_old_number(); break;
     }
 }
 
@@ -472,8 +483,9 @@ static void print_kinds(void) {
                                   [ALIGN] = "align", [MASK] = "mask",
                                   [BAND] = "band",   [TRAJECTORY] = "trajectory",
                                   [PLACE] = "place", [EXCERPT] = "excerpt",
-                                  [JOB] = "job",     [LINK] = "link"};
-    for (uint8_t kind = FIT; kind <= LINK; kind++)
+                                  [JOB] = "job",     [LINK] = "link",
+                                  [OLD_NUMBER] = "old_number"};
+    for (uint8_t kind = FIT; kind <= OLD_NUMBER; kind++)
         if (there(kind)) puts(names[kind]);
 }
 

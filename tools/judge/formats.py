@@ -10,7 +10,7 @@ Schema = list[tuple[str, str]]
 # A lent list comes with its length alone: its numbers at entry are those of `marked`.
 ROOM = "room"
 SCALARS = {"u8": "B", "u32": "I", "u64": "Q", "f64": "d", ROOM: "I"}
-LISTS = {"u32s": ("I", 4), "f64s": ("d", 8)}
+LISTS = {"u32s": ("I", 4), "u64s": ("Q", 8), "f64s": ("d", 8)}
 
 UNTOUCHED_U32 = 0xA5A5A5A5
 UNTOUCHED_U64 = 0xA5A5A5A5A5A5A5A5
@@ -110,7 +110,7 @@ KINDS = {
         11,
         [("bytes", "u8s"), *FIT_ROOM],
         [("states", "u32"), ("frames", "u32"), ("changes", "u32"), ("durations", "u32s")],
-        [REFUSAL, ("states", "u32"), ("frames", "u32"), ("changes", "u32"), *FIT_EXIT],
+        [REFUSAL, ("states", "u32"), ("frames", "u32"), ("changes", "u32"), ("place", "u64"), *FIT_EXIT],
     ),
     "link": Kind(
         12,
@@ -120,8 +120,9 @@ KINDS = {
         [("states", "u32s"), ("frames", "u32s"), ("changes", "u32s"), ("durations", "u32s")],
         # A refusal a call; of every end the values through pointers, and its lists joined.
         [("refusals", "u32s"), ("states", "u32s"), ("frames", "u32s"), ("changes", "u32s")]
-        + [*FIT_EXIT, ("memory", "u8s")],
+        + [("places", "u64s"), *FIT_EXIT, ("memory", "u8s")],
     ),
+    "old_number": Kind(13, [("number", "u32")], [("old", "u32")], [("old", "u32")]),
 }
 
 

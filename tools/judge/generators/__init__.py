@@ -22,6 +22,7 @@ GENERATORS: dict[str, Callable[[Random, bool], Case]] = {
     "excerpt": spool.excerpt_case,
     "job": spool.job_case,
     "link": links.a_link,
+    "old_number": spool.old_number_case,
 }
 
 # Fits with many steps to take and many ties.

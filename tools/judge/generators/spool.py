@@ -1,9 +1,10 @@
-"""Places, excerpts and jobs."""
+"""Places, excerpts, jobs and old numbers."""
 
 import struct
 from random import Random
 
 from ..formats import Case
+from ..reading.jobs import DAMAGES
 from .common import durations_for, room, state_count, to_the_limit, with_odd_nan
 from .durations import speed_case
 
@@ -40,3 +41,9 @@ def job_case(rng: Random, small: bool) -> Case:
         "out": room(rng, len(pairs)),
         "work": room(rng, len(pairs)),
     })
+
+
+def old_number_case(rng: Random, small: bool) -> Case:
+    """Of a refusal, or with the last bits of a damaged job's, or any."""
+    alike = rng.choice(DAMAGES) + (1 << rng.randrange(4, 32))
+    return Case("old_number", {"number": rng.choice([rng.randint(0, 16), alike, rng.randrange(2**32)])})

@@ -24,6 +24,7 @@ ANSWERS = {
     "excerpt": places.excerpt_values,
     "job": jobs.job_values,
     "link": links.link_values,
+    "old_number": jobs.old_number_values,
 }
 
 

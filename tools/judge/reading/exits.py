@@ -77,6 +77,7 @@ def link_exit(case: Case, values: Fields) -> Fields:
     return {
         "refusals": followed.refusals,
         **{name: [end[name] for end in ends] for name in ("states", "frames", "changes")},
+        "places": [end["place"] for end in ends],
         **{name: [number for end in ends for number in end[name]] for name in ("out", "work")},
         "memory": followed.memory,
     }
@@ -92,6 +93,7 @@ EXITS = {
     "place": lambda case, values: values,
     "excerpt": lambda case, values: values,
     "job": duration_exit,
+    "old_number": lambda case, values: values,
 }
 
 
@@ -104,4 +106,6 @@ def at_exit(case: Case, refusal: int, values: Fields) -> Fields:
         fields |= EXITS[case.kind](case, values)
     elif refusal in ZEROING_REFUSALS:
         fields["work"] = written_u32([0] * state_count(case), case["work"])
+    elif refusal in jobs.DAMAGES:
+        fields["place"] = jobs.damage(case["bytes"]).place
     return fields | {"refusal": refusal}

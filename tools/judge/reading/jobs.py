@@ -1,7 +1,8 @@
-"""RULES, Job file: what the bytes say, and what a job comes to."""
+"""RULES, Job file: what is wrong with the bytes, what they say, and what a job comes to."""
 
 import struct
 from dataclasses import dataclass
+from typing import NamedTuple
 
 from ..formats import Case, Fields
 from . import durations
@@ -11,6 +12,54 @@ VERSION = 1
 MAX_COUNT = 1_024
 HEAD = 15
 PAIR = 16
+
+DAMAGES = (9, 12, 13, 14)
+WRONG_LENGTH, WRONG_MARK, WRONG_VERSION, TOO_MANY_STATES = DAMAGES
+
+
+class Damage(NamedTuple):
+    number: int
+    place: int
+
+
+class Field(NamedTuple):
+    place: int
+    size: int
+    least: int
+    most: int
+    number: int  # the refusal of any other value
+
+
+# In the order in which they are looked at, the number of states last.
+FIELDS = [
+    Field(0, 1, MARK[0], MARK[0], WRONG_MARK),
+    Field(1, 1, MARK[1], MARK[1], WRONG_MARK),
+    Field(2, 1, MARK[2], MARK[2], WRONG_MARK),
+    Field(3, 2, VERSION, VERSION, WRONG_VERSION),
+    Field(5, 2, 0, MAX_COUNT, TOO_MANY_STATES),
+]
+
+
+def damage(data: bytes) -> Damage | None:
+    """What is wrong with a file, None for nothing."""
+    for place, size, least, most, number in FIELDS:
+        if len(data) < place + size:
+            return Damage(WRONG_LENGTH, len(data))
+        value = int.from_bytes(data[place : place + size], "little")
+        if not least <= value <= most:
+            return Damage(number, place)
+    whole = HEAD + PAIR * value
+    if len(data) != whole:
+        return Damage(WRONG_LENGTH, min(len(data), whole))  # where it ends, or the first byte too many
+    return None
+
+
+def old_number(number: int) -> int:
+    return WRONG_LENGTH if number in DAMAGES else number
+
+
+def old_number_values(case: Case) -> Fields:
+    return {"old": old_number(case["number"])}
 
 
 @dataclass
@@ -22,11 +71,9 @@ class Job:
 
 def parse(data: bytes) -> Job | None:
     """None where the file is damaged."""
-    if len(data) < HEAD or data[:3] != MARK:
+    if damage(data):
         return None
-    version, count, speed = struct.unpack_from("<HHd", data, 3)
-    if version != VERSION or count > MAX_COUNT or len(data) != HEAD + PAIR * count:
-        return None
+    count, speed = struct.unpack_from("<Hd", data, 5)
     numbers = list(struct.unpack_from(f"<{2 * count}d", data, HEAD))
     return Job(speed, numbers[0::2], numbers[1::2])
 

@@ -128,11 +128,11 @@ def excerpt_checks(case: Case) -> Checks:
 
 
 def job_checks(case: Case) -> Checks:
-    job = jobs.parse(case["bytes"])
-    # A damaged job's 9 comes before all others.
-    return {9: lambda: True} if job is None else {
-        6: lambda: case["out"] < len(job.means) or case["work"] < len(job.means)
-    }
+    damage = jobs.damage(case["bytes"])
+    if damage:
+        return {damage.number: lambda: True}  # before all others
+    n = len(jobs.parse(case["bytes"]).means)
+    return {6: lambda: case["out"] < n or case["work"] < n}
 
 
 CHECKS: dict[str, Callable[[Case], Checks]] = {
