@@ -9,7 +9,7 @@ from . import reading
 from .domain import Judge, answered, judge_of, oracle_answers, tail_of
 from .formats import KINDS, Case, Fields, decode, encode, encode_case
 from .programs import ANSWERED, PANICKED, PARTED, STRAYED, Program
-from .reading import links
+from .reading import jobs, links
 from .reading.durations import TooLong
 
 # As many equal bytes are told one by one.
@@ -73,6 +73,8 @@ class Tally:
     refusals: Counter = field(default_factory=Counter)
     # Accepted alignments with a tail, which is not compared with the Rust.
     tails: int = 0
+    # Damaged jobs, over links too: by number, how many at each place.
+    damaged: dict[int, Counter] = field(default_factory=lambda: {number: Counter() for number in jobs.DAMAGES})
     # Over links: jobs that came to their end, those of them that were accepted, and calls that were refused.
     jobs: int = 0
     accepted: int = 0
@@ -83,6 +85,8 @@ class Tally:
         line = f"{judged}; refused {numbered(self.refusals)}"
         if self.tails:
             line += f"; {self.tails} tails not compared with the Rust"
+        if any(self.damaged.values()):
+            line += f"; damaged jobs {', '.join(placed(number, at) for number, at in self.damaged.items() if at)}"
         if self.jobs:
             line += f"; over links {self.jobs} jobs, {self.accepted} accepted, calls refused {numbered(self.link_refusals)}"
         return line
@@ -90,6 +94,10 @@ class Tally:
 
 def numbered(refusals: Counter) -> str:
     return ", ".join(f"{number}: {count}" for number, count in sorted(refusals.items())) or "none"
+
+
+def placed(number: int, places: Counter) -> str:
+    return f"{number}: {places.total()} at {len(places)} place{'s' if len(places) > 1 else ''}"
 
 
 # Each case's refusal number and values; None where the reading would take too long.
@@ -126,11 +134,20 @@ class Comparison:
                 self.tally.judged["the reading alone"] += 1
             if case.kind == "align" and refusal == 0:
                 self.tally.tails += bool(tail_of(case))
+            if case.kind == "job":
+                self.count_damage(case, refusal)
             if case.kind == "link":
                 followed = links.followed(case)
                 self.tally.jobs += sum(end.ended for end in followed.ends)
                 self.tally.accepted += len(followed.accepted())
                 self.tally.link_refusals.update(number for number in followed.refusals if number)
+                for end in followed.ends:
+                    self.count_damage(end.job, end.refusal)
+
+    def count_damage(self, job: Case, refusal: int) -> None:
+        if refusal in jobs.DAMAGES:
+            number, place = jobs.damage(job["bytes"])
+            self.tally.damaged[number][place] += 1
 
     def against_oracles(self, cases: list[Case], answers: Answers) -> list[Difference]:
         """Compares values; fills in the oracle's where the reading has none."""

@@ -1,9 +1,11 @@
 """Bad shapes of every kind, several at once."""
 
 from collections.abc import Callable
+from itertools import groupby
 from random import Random
 
-from .formats import KINDS, ROOM, Case, LinkCall, link_calls, link_case
+from .broken_jobs import broken
+from .formats import KINDS, PART, ROOM, Case, LinkCall, link_calls, link_case
 from .reading.ieee import MAX_FRAMES, NAN
 from .reading.refusals import MAX_STATES, MAX_V, MAX_WIDTH
 
@@ -103,21 +105,25 @@ def too_many_band_frames(rng: Random, case: Case) -> Case:
 
 
 def changed_bytes(rng: Random, case: Case) -> Case:
-    """A damaged job: cut anywhere, surplus bytes, single bytes changed, fields off by one."""
-    if case.kind != "job" or not case["bytes"]:
+    """A job's bytes damaged, or those of one that comes over a link."""
+    if case.kind == "job":
+        return case.with_fields(bytes=broken(rng, case["bytes"]))
+    return changed_parts(rng, case) if case.kind == "link" else case
+
+
+def changed_parts(rng: Random, case: Case) -> Case:
+    """Parts that follow each other with their joined bytes damaged, cut where they were."""
+    calls = link_calls(case)
+    runs = [list(run) for is_part, run in groupby(range(len(calls)), lambda at: calls[at].call == PART) if is_part]
+    if not runs:
         return case
-    data = bytearray(case["bytes"])
-    how = rng.randrange(4)
-    if how == 0:
-        del data[rng.randrange(len(data)) :]
-    elif how == 1:
-        data += rng.randbytes(rng.choice([1, 8, 16]))
-    elif how == 2:
-        data[rng.randrange(min(len(data), 16))] ^= 1 << rng.randrange(8)
-    else:
-        for _ in range(rng.randint(1, 4)):
-            data[rng.randrange(len(data))] = rng.randrange(256)
-    return case.with_fields(bytes=bytes(data))
+    *earlier, last = rng.choice(runs)
+    data = broken(rng, b"".join(calls[at].part for at in [*earlier, last]))
+    for at in earlier:
+        size = len(calls[at].part)
+        calls[at], data = LinkCall(PART, part=data[:size]), data[size:]
+    calls[last] = LinkCall(PART, part=data)
+    return link_case(case["memory"], calls)
 
 
 def other_memory(rng: Random, case: Case) -> Case:
@@ -169,8 +175,8 @@ BY_KIND: dict[str, list[Damage]] = {
     "trajectory": [*GENERAL, bad_windows, too_many_frames, too_many_states],
     "place": [number_out_of_range],
     "excerpt": [*GENERAL, too_many_states, too_many_frames, longer_trajectory],
-    "job": [short_room, changed_bytes, changed_bytes],
-    "link": [other_memory, other_calls, other_calls],
+    "job": [short_room, changed_bytes],
+    "link": [other_memory, other_calls, other_calls, changed_bytes],
 }
 
 

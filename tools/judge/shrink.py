@@ -2,7 +2,9 @@
 
 from collections.abc import Callable, Iterator
 
+from .broken_jobs import COUNT_AT, SPEED_AT, count_of, put, put_number
 from .formats import END, KINDS, PART, ROOM, Case, LinkCall, link_calls, link_case
+from .reading.jobs import HEAD, PAIR
 
 # Which lists hold one number a state, so that a state leaves them all at once.
 STATE_LISTS = ("means", "varis", "weights", "durations", "switches")
@@ -34,7 +36,7 @@ def drop_states(case: Case, count: int, first: int, last: int, nstate: int) -> C
     return Case(case.kind, fields)
 
 
-def without(items: list, first: int, count: int) -> list:
+def without(items: list | bytes, first: int, count: int) -> list | bytes:
     return items[:first] + items[first + count :]
 
 
@@ -127,6 +129,21 @@ def simpler(number: float) -> list[float]:
     return SIMPLE + rounded
 
 
+SOUND = b"SPJ\x01\0"
+
+
+def smaller_job(case: Case) -> Iterator[Case]:
+    """A job's bytes cut, with fewer states, with a sound byte in front, or with zeros behind the count."""
+    data = case["bytes"]
+    smaller = [data[:length] for length in smaller_wholes(len(data))]
+    for count in smaller_wholes(count_of(data)):
+        fewer = put_number(data, COUNT_AT, count)
+        smaller += [without(fewer, HEAD, PAIR * (count_of(data) - count)), fewer]
+    smaller += [put(data, place, SOUND[place : place + 1]) for place in range(len(SOUND))]
+    smaller += [data[:kept].ljust(len(data), b"\0") for kept in (SPEED_AT, HEAD)]
+    yield from (case.with_fields(bytes=less) for less in smaller)
+
+
 # From these bytes on a part is made zeros: all of it, or what is behind a job's mark, count or speed.
 PLAIN_FROM = [0, 3, 7, 15]
 
@@ -170,7 +187,10 @@ def plainer_memory(case: Case) -> Iterator[Case]:
 
 
 GENERAL = (without_states, narrower, shorter_lists, smaller_numbers)
-BY_KIND = {"link": (fewer_calls, smaller_calls, plainer_memory)}
+BY_KIND = {
+    "job": (smaller_job, smaller_numbers),
+    "link": (fewer_calls, smaller_calls, plainer_memory),
+}
 
 
 def smallest(case: Case, shows: Callable[[list[Case]], list[bool]]) -> Case:

@@ -48,7 +48,7 @@ def make(seed: int, kind: str, index: int) -> Case:
 
 
 def make_damaged(seed: int, kind: str, index: int) -> Case:
-    """A damaged case; of a job the bytes are, whatever else is."""
+    """A damaged case; of a job, or of one that comes over a link, the bytes are, whatever else is."""
     rng = Random(f"{seed} {kind} {index}")
     case = GENERATORS[kind](rng, False)
     return damage.damaged(rng, damage.changed_bytes(rng, case))

@@ -3,7 +3,7 @@
 import struct
 from random import Random
 
-from .. import damage
+from .. import broken_jobs, damage
 from ..formats import BEGIN, END, PART, Case, LinkCall, link_case
 from ..numbers import positive
 from ..reading import jobs
@@ -25,7 +25,7 @@ def a_job(rng: Random, small: bool) -> Case:
     shape = rng.random()
     job = largest(rng) if shape < 0.02 else job_case(rng, small or rng.random() < 0.97)
     if shape < 0.04:
-        return of_another_length(rng, job)
+        return job.with_fields(bytes=broken_jobs.too_long(rng, job["bytes"]))
     if shape < 0.12:
         return damage.damaged(rng, job)
     return damage.changed_bytes(rng, job) if shape < 0.2 else job
@@ -36,12 +36,6 @@ def largest(rng: Random) -> Case:
     mean, vari = positive(rng, "decimal"), positive(rng, "decimal")
     data = jobs.MARK + struct.pack("<HHd", 1, jobs.MAX_COUNT, 1.0) + struct.pack("<dd", mean, vari) * jobs.MAX_COUNT
     return Case("job", {"bytes": data, "out": room(rng, jobs.MAX_COUNT), "work": room(rng, jobs.MAX_COUNT)})
-
-
-def of_another_length(rng: Random, job: Case) -> Case:
-    """Around the length of the largest job, or so many bytes that 16 bits don't count them."""
-    length = rng.choice([KEPT - 2, KEPT - 1, KEPT, KEPT, KEPT + 1, 2 * KEPT, 2**16, 2**16 + len(job["bytes"])])
-    return job.with_fields(bytes=(job["bytes"] + bytes(length))[:length])
 
 
 def cuttings(rng: Random, data: bytes) -> list[bytes]:
