@@ -18,6 +18,12 @@ class Fault:
 
 HALF = "    if abs(x) - whole >= 0.5:  # the difference is exact"
 TAIL = "    tail = estimate(means[fitted:], varis[fitted:], 0.0)"
+FIELD = "    for place, size, least, most, number in FIELDS:"
+ENDS = "        if len(data) < place + size:"
+WRONG = "            return Damage(number, place)"
+WHOLE = "        return Damage(WRONG_LENGTH, min(len(data), whole))  # where it ends, or the first byte too many"
+OLD = "    return WRONG_LENGTH if number in DAMAGES else number"
+PLACES_OF_ENDS = '        "places": [end["place"] for end in ends],'
 
 FAULTS = [
     Fault("rounding to even", IEEE, HALF,
@@ -164,15 +170,45 @@ FAULTS = [
     Fault("an excerpt counted in frames", PLACES,
           '    return {"first": before * v, "count": case["durations"][state] * v}',
           '    return {"first": before, "count": case["durations"][state]}'),
-    Fault("surplus bytes of a job passed over", JOBS,
-          "    if version != VERSION or count > MAX_COUNT or len(data) != HEAD + PAIR * count:",
-          "    if version != VERSION or count > MAX_COUNT or len(data) < HEAD + PAIR * count:"),
+    Fault("surplus bytes of a job passed over", JOBS, "    if len(data) != whole:", "    if len(data) < whole:"),
     Fault("a job's version in 8 bits", JOBS,
-          "    if version != VERSION or count > MAX_COUNT or len(data) != HEAD + PAIR * count:",
-          "    if version % 256 != VERSION or count > MAX_COUNT or len(data) != HEAD + PAIR * count:"),
+          '        value = int.from_bytes(data[place : place + size], "little")',
+          '        value = int.from_bytes(data[place : place + (1 if place == 3 else size)], "little")'),
     Fault("a job of 1,024 states refused", JOBS,
-          "    if version != VERSION or count > MAX_COUNT or len(data) != HEAD + PAIR * count:",
-          "    if version != VERSION or count >= MAX_COUNT or len(data) != HEAD + PAIR * count:"),
+          "    Field(5, 2, 0, MAX_COUNT, TOO_MANY_STATES),", "    Field(5, 2, 0, MAX_COUNT - 1, TOO_MANY_STATES),"),
+    Fault("the last wrong byte of the mark told", JOBS, WRONG,
+          "            return Damage(number, max(i for i, (a, b) in enumerate(zip(data, MARK)) if a != b)"
+          " if number == WRONG_MARK else place)"),
+    Fault("the mark looked at whole", JOBS, ENDS, "        if len(data) < max(place + size, len(MARK)):"),
+    Fault("a file that ends inside the mark told as 12", JOBS,
+          "            return Damage(WRONG_LENGTH, len(data))",
+          "            return Damage(WRONG_MARK if place < len(MARK) else WRONG_LENGTH, len(data))"),
+    Fault("the version looked at before the mark", JOBS, FIELD,
+          "    for place, size, least, most, number in [FIELDS[3], *FIELDS]:"),
+    Fault("half a version told as 13", JOBS, ENDS, "        if len(data) <= place:"),
+    Fault("a version's place at its second byte", JOBS, WRONG,
+          "            return Damage(number, place + (number == WRONG_VERSION and data[3] == VERSION))"),
+    Fault("a count's place at its second byte", JOBS, WRONG,
+          "            return Damage(number, place + (number == TOO_MANY_STATES))"),
+    Fault("too many states told by the length", JOBS,
+          "        if not least <= value <= most:", "        if not least <= value <= most and place < 5:"),
+    Fault("a file that ends in its head told before its fields", JOBS, ENDS, "        if len(data) < HEAD:"),
+    Fault("a file longer than any job told by its length", JOBS, FIELD,
+          "    for place, size, least, most, number in FIELDS if len(data) <= 16_399 else FIELDS[4:]:"),
+    Fault("a surplus told before a wrong version", JOBS, WRONG,
+          '            return Damage(number, place) if number != 13 or len(data) <= (whole := HEAD + PAIR *'
+          ' int.from_bytes(data[5:7], "little")) else Damage(WRONG_LENGTH, whole)'),
+    Fault("a short file told where it should end", JOBS, WHOLE, "        return Damage(WRONG_LENGTH, whole)"),
+    Fault("a short file told as 14", JOBS, WHOLE,
+          "        return Damage(TOO_MANY_STATES if len(data) < whole else WRONG_LENGTH, min(len(data), whole))"),
+    Fault("a surplus told at the file's end", JOBS, WHOLE, "        return Damage(WRONG_LENGTH, len(data))"),
+    Fault("the old number of 14 left as 14", JOBS, OLD, "    return WRONG_LENGTH if number in (9, 12, 13) else number"),
+    Fault("the old number of 11 made 9", JOBS, OLD,
+          "    return WRONG_LENGTH if number in (*DAMAGES, 11) else number"),
+    Fault("the old number of all from 12 up made 9", JOBS, OLD,
+          "    return WRONG_LENGTH if number == 9 or number >= 12 else number"),
+    Fault("the old number by the last 8 bits", JOBS, OLD,
+          "    return WRONG_LENGTH if number % 256 in DAMAGES else number"),
     Fault("a job's means, then its variances", JOBS,
           "    return Job(speed, numbers[0::2], numbers[1::2])",
           "    return Job(speed, numbers[:count], numbers[count:])"),
@@ -210,6 +246,10 @@ FAULTS = [
     Fault("the largest refusal that applies", REFUSALS,
           "    return next((number for number in sorted(checks) if checks[number]()), 0)",
           "    return next((number for number in sorted(checks, reverse=True) if checks[number]()), 0)"),
+    Fault("a damaged job's room looked at first", REFUSALS,
+          "        return {damage.number: lambda: True}  # before all others",
+          '        return {damage.number: lambda: True, 6: lambda: 16 * min(case["out"], case["work"])'
+          ' < len(case["bytes"]) - 15}'),
     Fault("GV's lists checked with GV off", REFUSALS, '        if not case["gv_on"]:', "        if False:"),
     Fault("coefficients beyond the windows unchecked", REFUSALS,
           '        2: lambda: not all(math.isfinite(tap) for tap in case["coefficients"]),',
@@ -223,6 +263,19 @@ FAULTS = [
           'out=case["out"] + case["nstate"]'
           ' * next((i for i, e in enumerate(case["ends"][::-1]) if e >= 0), len(case["ends"])))'),
     Fault("work space untouched at 8", EXITS, "ZEROING_REFUSALS = (7, 8)", "ZEROING_REFUSALS = (7,)"),
+    Fault("a place for 9 alone", EXITS,
+          "    elif refusal in jobs.DAMAGES:", "    elif refusal == jobs.WRONG_LENGTH:"),
+    Fault("the place written for 6", EXITS,
+          "    fields = untouched(case)", '    fields = untouched(case) | ({"place": 0} if refusal == 6 else {})'),
+    Fault("the place written for an accepted job", EXITS,
+          '    "job": duration_exit,', '    "job": lambda case, values: duration_exit(case, values) | {"place": 0},'),
+    Fault("a place counted in a link's memory", EXITS, PLACES_OF_ENDS,
+          '        "places": [end["place"] + links.NUMBER * (one.refusal in jobs.DAMAGES)'
+          " for end, one in zip(ends, followed.ends)],"),
+    Fault("a place counted from the last part's first byte", EXITS, PLACES_OF_ENDS,
+          '        "places": [(end["place"] - max(0, len(one.job["bytes"]) - last) * (one.refusal in jobs.DAMAGES)) % 2**64'
+          ' for end, one, last in zip(ends, followed.ends, [[2**64, *case["lengths"]][case["calls"][:at].count(1)]'
+          ' for at, call in enumerate(case["calls"]) if call == 2])],'),
     Fault("work space zeroed whole", EXITS,
           '        "work": written_f64([0.0] * (WORK_FLOATS * frames), case["work"]),',
           '        "work": [0.0] * case["work"],'),
