@@ -20,8 +20,8 @@ use Rattle.job.specs.declared.Damage.{Damage}
 use Rattle.job.specs.declared.Damage.the-variants.{Mark, Version, Count, Length}
 use Rattle.job.specs.declared.finding.Found.the-variants.{Sound, Wrong}
 use Rattle.job.specs.declared.Answered.the-variants.{Done, Damaged, Refused}
-use Rattle.job.specs.Format.{countOf, Job, jobAt}
-use Rattle.job.specs.Damage.{damageOf}
+use Rattle.job.specs.Format.{countOf, Job, jobAt, jobOf}
+use Rattle.job.specs.Damage.{damageOf, damageNumber}
 use Rattle.job.specs.Inner.Reading.{StatesFitted}
 use Rattle.job.specs.Promise.{jobFit, jobRefusal, JobSays}
 use Rattle.job.proofs.Damages.{sound-job}
@@ -59,12 +59,19 @@ module _ (j : Job) (out work out′ : List ℕ) (z : jobRefusal j out work ≡ 0
 
 -- ---- a job that is damaged
 
-pub damaged-so : (bytes out work : List ℕ) (what : Damage) (at : ℕ) → damageOf bytes ≡ Wrong what at → JobSays bytes out work (Damaged what at) out work
+-- its number leaves both lists as they were
+pub damage-leaves : (what : Damage) (new out : List ℕ) (n : ℕ) (work : List ℕ) → (out ≡ written (damageNumber what) new out) × (work ≡ workOf (damageNumber what) n work)
 unfolding workOf
-damaged-so bytes out work Mark at e = rw e (record { answer = refl; output = refl; workspace = refl })
-damaged-so bytes out work Version at e = rw e (record { answer = refl; output = refl; workspace = refl })
-damaged-so bytes out work Count at e = rw e (record { answer = refl; output = refl; workspace = refl })
-damaged-so bytes out work Length at e = rw e (record { answer = refl; output = refl; workspace = refl })
+damage-leaves Mark new out n work = (refl, refl)
+damage-leaves Version new out n work = (refl, refl)
+damage-leaves Count new out n work = (refl, refl)
+damage-leaves Length new out n work = (refl, refl)
+
+pub damaged-so : (bytes out work : List ℕ) (what : Damage) (at : ℕ) → damageOf bytes ≡ Wrong what at → JobSays bytes out work (Damaged what at) out work
+damaged-so bytes out work what at e =
+    let j : Job = jobOf bytes in
+    let l = damage-leaves what (jobFit j .durations) out (length (j .means)) work in
+    rw e (record { answer = refl; output = l .0; workspace = l .1 })
 
 -- ---- one with which nothing is wrong, of s states
 

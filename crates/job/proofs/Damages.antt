@@ -1,7 +1,7 @@
 -- What is found wrong with a file: nothing exactly where it is a job, else the first departure by place.
-use mathlib.Core.Path.{_≡_, refl, sym, ap, _∙_}
+use mathlib.Core.Path.{_≡_, refl, sym, ap, _∙_, subst}
 use mathlib.Core.Bool.{Bool, true, false, cond, _||_}
-use mathlib.Core.Logic.{_⊎_, inl, inr, ⊎-elim, _≢_}
+use mathlib.Core.Logic.{_⊎_, inl, inr, ⊎-elim}
 use mathlib.Core.List.{List}
 use Prim.Native.Nat.{ℕ, _+_, _≤_, _<_, min, zero-le}
 use native.Mathlib.Omega.{arith}
@@ -10,7 +10,7 @@ use lib.ListN.{length, take}
 use borrow.Author.Tests.{eq-eqb, ne-eqb, lt-ltb, le-ltb, ltb-false}
 use Rattle.lists.specs.Sizes.{mostJobStates}
 use Rattle.lists.specs.Bytes.{alike}
-use Rattle.lists.proofs.Numbers.{le-or-lt, same-or-not}
+use Rattle.lists.proofs.Numbers.{le-or-lt, same-or-not, less-or-more}
 use Rattle.lists.proofs.Fronts.{alike-is, is-alike}
 use Rattle.job.specs.declared.Damage.{Damage}
 use Rattle.job.specs.declared.Damage.the-variants.{Mark, Version, Count, Length}
@@ -31,9 +31,6 @@ either false = refl
 
 outside : (w least most : ℕ) → (w < least) ⊎ (most < w) → ltb w least || ltb most w ≡ true
 outside w least most h = ⊎-elim (λ (g : w < least). rw (lt-ltb w least g)) (λ (g : most < w). rw (lt-ltb most w g) (either (ltb w least))) h
-
-another : (w n : ℕ) → w ≢ n → (w < n) ⊎ (n < w)
-another w n d = ⊎-elim (λ (h : n ≤ w). inr (omega arith)) (λ (h : w < n). inl h) (le-or-lt n w)
 
 -- ---- each departure, where those before it are none
 
@@ -63,7 +60,7 @@ module _ (bytes : List ℕ) where
 
       pub found-version : (versionOf bytes ≡ version → ⊥) → damageOf bytes ≡ Wrong Version 3
       unfolding damageOf
-      found-version d = rw (marked, le-ltb len 5 five, outside (versionOf bytes) version version (another (versionOf bytes) version d))
+      found-version d = rw (marked, le-ltb len 5 five, outside (versionOf bytes) version version (less-or-more (versionOf bytes) version d))
 
       module _ (v : versionOf bytes ≡ version) where
         right : ltb (versionOf bytes) version || ltb version (versionOf bytes) ≡ false
@@ -145,17 +142,21 @@ job-sound bytes j =
     let h : min 3 (length bytes) ≤ alike mark bytes = omega arith in
     found-nothing bytes h (omega (arith, j .whole)) (j .versioned) (omega (arith, j .whole)) (j .few) (j .whole)
 
-way-job : (bytes : List ℕ) (f : Found) → Way bytes f → f ≡ Sound → IsJob bytes
-way-job bytes f (nowhere j) e = j
-way-job bytes f (wrong-mark h g) e = absurd (let z : _≡_ {A = ℕ} 0 1 = cc in omega arith)
-way-job bytes f (ends-early l h) e = absurd (let z : _≡_ {A = ℕ} 0 1 = cc in omega arith)
-way-job bytes f (wrong-version m l d) e = absurd (let z : _≡_ {A = ℕ} 0 1 = cc in omega arith)
-way-job bytes f (ends-in-count m v l g) e = absurd (let z : _≡_ {A = ℕ} 0 1 = cc in omega arith)
-way-job bytes f (wrong-count m v l g) e = absurd (let z : _≡_ {A = ℕ} 0 1 = cc in omega arith)
-way-job bytes f (wrong-length m v l g d) e = absurd (let z : _≡_ {A = ℕ} 0 1 = cc in omega arith)
+abbrev JobWhere : List ℕ → Found → Type 0
+JobWhere bytes Sound = IsJob bytes
+JobWhere bytes (Wrong what at) = Unit {0}
+
+way-job : (bytes : List ℕ) (f : Found) → Way bytes f → JobWhere bytes f
+way-job bytes f (wrong-mark h g) = tt
+way-job bytes f (ends-early l h) = tt
+way-job bytes f (wrong-version m l d) = tt
+way-job bytes f (ends-in-count m v l g) = tt
+way-job bytes f (wrong-count m v l g) = tt
+way-job bytes f (wrong-length m v l g d) = tt
+way-job bytes f (nowhere j) = j
 
 pub sound-job : (bytes : List ℕ) → damageOf bytes ≡ Sound → IsJob bytes
-sound-job bytes e = way-job bytes (damageOf bytes) (way bytes) e
+sound-job bytes e = subst (JobWhere bytes) e (way-job bytes (damageOf bytes) (way bytes))
 
 -- ---- the heading, and then the length
 

@@ -25,6 +25,7 @@ use Rattle.job.specs.Damage.{damageOf, damageNumber, isDamage, oldNumber
 use Rattle.job.specs.Promise.{answered, jobFit, jobRefusal, unlessFound, behind, JobSaysAfter}
 use Rattle.job.specs.Old.{formatRefusal, foundNumber, OldSaysAfter, oldAnswer}
 use Rattle.job.proofs.Damages.{job-sound, sound-job}
+use Rattle.job.proofs.Answers.{damage-leaves}
 use Rattle.job.proofs.Telling.{job-none}
 
 -- ---- the old verdict on the format: 9 exactly where the bytes are no job
@@ -113,11 +114,14 @@ module _ (values new : List ℕ) (n : ℕ) (out work : List ℕ) (a : Answer) (o
 
   -- a damage
   old-damaged : (what : Damage) (at : ℕ) → Answers (record { number = damageNumber what; values = []; place = at ∷ [] }) new n out work a out′ work′ → Says 9 values new n out work (oldAnswer a) out′ work′
-  unfolding oldNumber workOf
-  old-damaged Mark at f = record { answer = ap oldAnswer (f .answer); output = f .output; workspace = f .workspace }
-  old-damaged Version at f = record { answer = ap oldAnswer (f .answer); output = f .output; workspace = f .workspace }
-  old-damaged Count at f = record { answer = ap oldAnswer (f .answer); output = f .output; workspace = f .workspace }
-  old-damaged Length at f = record { answer = ap oldAnswer (f .answer); output = f .output; workspace = f .workspace }
+  unfolding workOf
+  old-damaged what at f =
+      let l = damage-leaves what new out n work in
+      record {
+        answer = ap oldAnswer (f .answer) ∙ ap (λ (m : ℕ). record { number = m; values = []; place = [] }) (old-damage what);
+        output = f .output ∙ sym (l .0);
+        workspace = f .workspace ∙ sym (l .1);
+      }
 
   -- of any answer behind what is found
   old-found : (k : ℕ) (f : Found) (q : ℕ) → isDamage k ≡ false → isDamage q ≡ false → Answers (behind k (unlessFound f (answerOf q values))) new n out work a out′ work′

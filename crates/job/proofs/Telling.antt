@@ -13,6 +13,7 @@ use Rattle.lists.specs.Answers.{refusing, answerOf}
 use Rattle.lists.specs.Refusals.{orElse}
 use Rattle.lists.specs.Totals.{total}
 use Rattle.lists.proofs.Answers.{same}
+use Rattle.lists.proofs.Refusals.{or-below}
 use Rattle.floats.specs.Numbers.{one}
 use Rattle.duration.specs.Estimate.{naturals}
 use Rattle.duration.specs.Fit.{startOf, refusalTo}
@@ -48,10 +49,6 @@ below-none k h = rw (ne-eqb k 9 (λ e. omega arith), ne-eqb k 12 (λ e. omega ar
 cond-below : (b : Bool) (k l m : ℕ) → k ≤ m → l ≤ m → cond b k l ≤ m
 cond-below true k l m h g = h
 cond-below false k l m h g = g
-
-or-below : (k l m : ℕ) → k ≤ m → l ≤ m → orElse k l ≤ m
-or-below zero l m h g = g
-or-below (suc k) l m h g = h
 
 lists-below : (n v o w : ℕ) → refusalOfLists n v o w ≤ 8
 unfolding refusalOfLists

@@ -65,6 +65,11 @@ pub wrong-letter : JobSays (set bytes 2 75) sevens nines (Damaged Mark 2) sevens
 unfolding damageOf alike little workOf
 wrong-letter = record { answer = refl; output = refl; workspace = refl }
 
+-- RULES, Refusals: a damage goes before all others, here before 6: there is no room
+pub wrong-letter-no-room : JobSays (set bytes 2 75) [] nines (Damaged Mark 2) [] nines
+unfolding damageOf alike little workOf
+wrong-letter-no-room = record { answer = refl; output = refl; workspace = refl }
+
 -- RULES, Job file: of two wrong letters the first is told, and a wrong letter before a wrong version, that before a wrong count, that before a wrong length
 pub first-by-place :
     (damageOf (set (set bytes 2 75) 0 88) ≡ Wrong Mark 0) × (damageOf (set (set bytes 3 2) 1 81) ≡ Wrong Mark 1) × (damageOf (set (set bytes 6 9) 4 1) ≡ Wrong Version 3) × (damageOf (set (take 46 bytes) 6 9) ≡ Wrong Count 5)

@@ -84,6 +84,11 @@ pub numbers-under-way : (hasEnded (numbered 0) ≡ true) × (hasEnded (numbered 
 unfolding underWay hasEnded cameIn beginRefusal linkRefusal little bytesOf
 numbers-under-way = (refl, refl, refl, refl)
 
+-- RULES, Refusals: 6 for a link's memory goes before a damage, here of a job of no bytes
+pub end-in-short-memory : LinkEndSays (take 16407 (numbered 1)) sevens nines (Refused 6) (take 16407 (numbered 1)) sevens nines
+unfolding underWay hasEnded cameIn beginRefusal linkRefusal little bytesOf workOf
+end-in-short-memory = record { job = record { answer = refl; output = refl; workspace = refl }; memory = refl }
+
 -- RULES, Serial link: 16,407 bytes are too short, and 11 comes before 6
 pub one-byte-short : (linkBytes ≡ 16408) × (beginRefusal (take 16407 memory) ≡ 6) × (linkRefusal (take 16407 (numbered 1)) ≡ 6) × (linkRefusal (take 16407 (numbered 0)) ≡ 11) × (linkRefusal (numbered 1) ≡ 0)
 unfolding underWay hasEnded cameIn beginRefusal linkRefusal little bytesOf

@@ -3,6 +3,7 @@ use mathlib.Core.Path.{_≡_, refl, sym, subst}
 use mathlib.Core.Bool.{true, false}
 use mathlib.Core.Logic.{_⊎_, inl, inr, ⊎-elim, _≢_}
 use Prim.Native.Nat.{ℕ, _<_, _≤_}
+use native.Mathlib.Omega.{arith}
 use borrow.Author.Tests.{leb-true, leb-false, eqb-true, eqb-false}
 use lib.Dec.{leb, eqb}
 
@@ -11,6 +12,9 @@ le-or-lt a b = (elim (leb a b) as (λ s. leb a b ≡ s → (a ≤ b) ⊎ (b < a)
 
 pub same-or-not : (a b : ℕ) → (a ≡ b) ⊎ (a ≢ b)
 same-or-not a b = (elim (eqb a b) as (λ s. eqb a b ≡ s → (a ≡ b) ⊎ (a ≢ b)) [ true ↦ λ e. inl (eqb-true a b e) | false ↦ λ e. inr (eqb-false a b e) ]) refl
+
+pub less-or-more : (a b : ℕ) → a ≢ b → (a < b) ⊎ (b < a)
+less-or-more a b d = ⊎-elim (λ (h : b ≤ a). inr (omega arith)) (λ (h : a < b). inl h) (le-or-lt b a)
 
 -- a number itself, or another
 pub by-place : (j : ℕ) (P : ℕ → Type 0) (i : ℕ) → (i ≢ j → P i) → P j → P i
