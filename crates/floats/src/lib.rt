@@ -204,5 +204,5 @@ pub fn of_bytes(bytes: &[u8], at: usize) -> f64
 pub fn to_bytes(x: f64, bytes: &mut [u8], at: usize)
     ensures { λ _. ⌜ now (bytes .exit) ≡ sets (now (bytes .entry)) at (bytesOf 8 (toBits binary64 x)) ⌝ }
 {
-    lists::put_little_endian(bytes, at, bits_of(x));
+    lists::put_little_endian(bytes, at, 8, bits_of(x));
 }

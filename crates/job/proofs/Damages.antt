@@ -9,14 +9,14 @@ use lib.Dec.{ltb}
 use lib.ListN.{length, take}
 use borrow.Author.Tests.{eq-eqb, ne-eqb, lt-ltb, le-ltb, ltb-false}
 use Rattle.lists.specs.Sizes.{mostJobStates}
-use Rattle.lists.specs.Bytes.{alike}
+use Rattle.lists.specs.Bytes.{alike, wordAt}
 use Rattle.lists.proofs.Numbers.{le-or-lt, same-or-not, less-or-more}
 use Rattle.lists.proofs.Fronts.{alike-is, is-alike}
 use Rattle.job.specs.declared.Damage.{Damage}
 use Rattle.job.specs.declared.Damage.the-variants.{Mark, Version, Count, Length}
 use Rattle.job.specs.declared.finding.Found.{Found}
 use Rattle.job.specs.declared.finding.Found.the-variants.{Sound, Wrong}
-use Rattle.job.specs.Format.{wordAt, mark, versionOf, version, countOf, lengthOf, IsJob}
+use Rattle.job.specs.Format.{mark, versionOf, version, countOf, lengthOf, IsJob}
 use Rattle.job.specs.Damage.{elseFound, foundTo, markFound, wordFound, lengthFound, damageOf}
 use Rattle.job.proofs.Frames.{neither}
 

@@ -7,7 +7,7 @@ use Prim.Native.Nat.{ℕ, zero, suc, _≤_, _<_, min}
 use native.Mathlib.Omega.{arith}
 use lib.ListN.{length, take, drop, length-take, take-append-drop}
 use lib.Seq.{take-all, length-take-le}
-use Rattle.lists.specs.Bytes.{little, alike}
+use Rattle.lists.specs.Bytes.{little, alike, wordAt}
 use Rattle.lists.proofs.Numbers.{le-or-lt}
 use Rattle.lists.proofs.Fronts.{alike-same, part-same}
 use Rattle.lists.proofs.Answers.{same, written-long}
@@ -21,7 +21,7 @@ use Rattle.job.specs.declared.Answered.{Answered}
 use Rattle.job.specs.declared.Answered.the-variants.{Damaged as Answered·Damaged, Refused as Answered·Refused}
 use Rattle.job.specs.declared.link.Linked.{Linked}
 use Rattle.job.specs.declared.link.Linked.the-variants.{Taken, Refused}
-use Rattle.job.specs.Format.{wordAt, mark, countOf, lengthOf}
+use Rattle.job.specs.Format.{mark, countOf, lengthOf}
 use Rattle.job.specs.Damage.{damageOf}
 use Rattle.job.specs.Places.{PlaceRight}
 use Rattle.job.specs.Promise.{JobSays}

@@ -9,16 +9,17 @@ use lib.ListN.{length, take, drop, replicate, length-append, length-replicate, t
 use lib.Seq.{length-take-le, drop-at, getD-drop}
 use borrow.Author.Tests.{ne-eqb}
 use Rattle.lists.specs.Sizes.{mostJobStates}
-use Rattle.lists.specs.Bytes.{little, alike}
+use Rattle.lists.specs.Bytes.{little, alike, Bytes, wordAt}
 use Rattle.lists.proofs.Numbers.{by-place}
 use Rattle.lists.proofs.Fronts.{alike-is, is-alike, alike-still, part-same}
 use Rattle.job.specs.declared.Damage.{Damage}
 use Rattle.job.specs.declared.finding.Found.{Found}
 use Rattle.job.specs.declared.finding.Found.the-variants.{Sound, Wrong}
-use Rattle.job.specs.Format.{Bytes, wordAt, mark, versionOf, version, countOf, lengthOf, IsJob}
+use Rattle.job.specs.Format.{mark, versionOf, version, countOf, lengthOf, IsJob}
 use Rattle.job.specs.Damage.{damageOf}
 use Rattle.job.specs.Places.{Begins, lookedTo, PlaceRight}
-use Rattle.job.proofs.Written.{bytes-append, bytes-mark}
+use Rattle.lists.proofs.Spelled.{bytes-append}
+use Rattle.job.proofs.Written.{bytes-mark}
 use Rattle.job.proofs.Damages.{Way, wrong-mark, ends-early, wrong-version, ends-in-count, wrong-count, wrong-length, nowhere, way}
 
 -- ---- what a front says of every file that begins so

@@ -10,14 +10,14 @@ use lib.Seq.{drop-drop}
 use lib.Ieee.{Float, nan, binary64, fits, toBits}
 use lib.Ieee.Bits.{toBits-lt, ofBits-fits}
 use Rattle.lists.specs.Build.{build}
-use Rattle.lists.specs.Bytes.{little, bytesOf}
+use Rattle.lists.specs.Bytes.{little, bytesOf, wordAt, patternAt}
 use Rattle.lists.proofs.Builds.{build-first, build-at}
 use Rattle.lists.proofs.Bytes.{little-bytes}
 use Rattle.lists.proofs.Numbers.{le-or-lt}
 use Rattle.lists.proofs.Spelled.{part-spelled, part-below}
 use Rattle.floats.proofs.Patterns.{bits-back, bits-only}
 use Rattle.job.specs.declared.finding.Found.the-variants.{Sound}
-use Rattle.job.specs.Format.{wordAt, patternAt, floatAt, floatsAt, mark, version, countOf, IsJob, jobOf}
+use Rattle.job.specs.Format.{floatAt, floatsAt, mark, version, countOf, IsJob, jobOf}
 use Rattle.job.specs.Damage.{damageOf}
 use Rattle.job.specs.Written.{bytesOfFloat, bytesOfPairs, bytesOfHeading, bytesOfJob, Writable, OneNan, Plain}
 use Rattle.job.proofs.Damages.{sound-job}

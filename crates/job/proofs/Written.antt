@@ -1,17 +1,18 @@
 -- What is written is a job, and is read back as the same.
 use mathlib.Core.Path.{_≡_, refl, sym, ap, _∙_}
 use mathlib.Core.List.{List, [], _∷_, _++_, append-assoc}
-use Prim.Native.Nat.{ℕ, zero, suc, _+_, _*_, _/_, _<_}
+use Prim.Native.Nat.{ℕ, zero, suc, _+_, _*_, _<_}
 use native.Mathlib.Omega.{arith}
 use lib.ListN.{length, take, drop, getD, length-append}
 use lib.Seq.{take-at, drop-at, drop-append-add, drop-drop}
 use lib.Ieee.{Float, nan, binary64, ofBits}
-use Rattle.lists.specs.Bytes.{little, bytesOf}
+use Rattle.lists.specs.Bytes.{little, bytesOf, Bytes}
 use Rattle.lists.proofs.Bytes.{bytes-length, little-bytes}
+use Rattle.lists.proofs.Spelled.{bytes-append, bytes-of}
 use Rattle.lists.proofs.Builds.{build-is}
 use Rattle.floats.proofs.Fields.{bytes-back}
 use Rattle.job.specs.declared.finding.Found.the-variants.{Sound}
-use Rattle.job.specs.Format.{Bytes, floatAt, floatsAt, mark, version, countOf, IsJob, Job, jobOf}
+use Rattle.job.specs.Format.{floatAt, floatsAt, mark, version, countOf, IsJob, Job, jobOf}
 use Rattle.job.specs.Damage.{damageOf}
 use Rattle.job.specs.Written.{bytesOfFloat, bytesOfPairs, bytesOfHeading, bytesOfJob, Writable}
 use Rattle.job.proofs.Damages.{job-sound}
@@ -119,17 +120,6 @@ module _ (j : Job) (w : Writable j) where
   written-accepted = job-sound (bytesOfJob j) written-job
 
 -- ---- each number that is written is a byte
-
-pub bytes-append : (xs ys : List ℕ) → Bytes xs → Bytes ys → Bytes (xs ++ ys)
-bytes-append [] ys p q i = q i
-bytes-append (x ∷ xs) ys p q zero = p 0
-bytes-append (x ∷ xs) ys p q (suc i) = bytes-append xs ys (λ k. p (suc k)) q i
-
-bytes-of : (k n : ℕ) → Bytes (bytesOf k n)
-unfolding bytesOf
-bytes-of zero n i = omega arith
-bytes-of (suc k) n zero = omega arith
-bytes-of (suc k) n (suc i) = bytes-of k (n / 256) i
 
 pub bytes-mark : Bytes mark
 bytes-mark zero = omega arith

@@ -5,12 +5,12 @@ use Prim.Native.Nat.{ℕ, _+_, min}
 use lib.Dec.{ltb, eqb}
 use lib.ListN.{length}
 use Rattle.lists.specs.Sizes.{mostJobStates}
-use Rattle.lists.specs.Bytes.{alike}
+use Rattle.lists.specs.Bytes.{alike, wordAt}
 use Rattle.job.specs.declared.Damage.{Damage}
 use Rattle.job.specs.declared.Damage.the-variants.{Mark, Version, Count, Length}
 use Rattle.job.specs.declared.finding.Found.{Found}
 use Rattle.job.specs.declared.finding.Found.the-variants.{Sound, Wrong}
-use Rattle.job.specs.Format.{wordAt, mark, version, countOf, lengthOf}
+use Rattle.job.specs.Format.{mark, version, countOf, lengthOf}
 
 -- the first that is found, or where that is nothing the next
 abbrev pub elseFound : Found → Found → Found

@@ -1,24 +1,14 @@
 -- The job file.
 use mathlib.Core.Path.{_≡_}
 use mathlib.Core.List.{List, [], _∷_}
-use Prim.Native.Nat.{ℕ, _+_, _*_, _≤_, _<_}
-use lib.ListN.{length, take, drop, getD}
+use Prim.Native.Nat.{ℕ, _+_, _*_, _≤_}
+use lib.ListN.{length, take}
 use lib.Ieee.{Float, binary64, ofBits}
 use Rattle.lists.specs.Sizes.{mostJobStates}
 use Rattle.lists.specs.Build.{build}
-use Rattle.lists.specs.Bytes.{little}
+use Rattle.lists.specs.Bytes.{wordAt, patternAt}
 
--- each number is a byte
-abbrev pub Bytes : List ℕ → Type 0
-Bytes xs = (i : ℕ) → getD xs i 0 < 256
-
--- RULES, Job file: every number stands with its least byte first; the 16 bits, the pattern of 64 and the float at a place
-abbrev pub wordAt : List ℕ → ℕ → ℕ
-wordAt bytes at = little (take 2 (drop at bytes))
-
-abbrev pub patternAt : List ℕ → ℕ → ℕ
-patternAt bytes at = little (take 8 (drop at bytes))
-
+-- RULES, Job file: every number stands with its least byte first; the float at a place
 abbrev pub floatAt : List ℕ → ℕ → Float
 floatAt bytes at = ofBits binary64 (patternAt bytes at)
 

@@ -5,10 +5,11 @@ use mathlib.Core.List.{List, _++_}
 use Prim.Native.Nat.{ℕ, _+_, _≤_, _<_}
 use lib.Dec.{eqb}
 use lib.ListN.{length, take}
+use Rattle.lists.specs.Bytes.{Bytes}
 use Rattle.job.specs.declared.Damage.{Damage}
 use Rattle.job.specs.declared.Damage.the-variants.{Mark, Version, Count, Length}
 use Rattle.job.specs.declared.finding.Found.the-variants.{Wrong}
-use Rattle.job.specs.Format.{Bytes, IsJob}
+use Rattle.job.specs.Format.{IsJob}
 use Rattle.job.specs.Damage.{damageOf, damageNumber, isDamage}
 
 -- some job begins with these bytes

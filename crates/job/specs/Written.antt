@@ -6,8 +6,8 @@ use lib.Dec.{T}
 use lib.ListN.{length, getD}
 use lib.Ieee.{Float, nan, binary64, fits, toBits}
 use Rattle.lists.specs.Sizes.{mostJobStates}
-use Rattle.lists.specs.Bytes.{bytesOf}
-use Rattle.job.specs.Format.{Bytes, patternAt, mark, version, countOf, Job}
+use Rattle.lists.specs.Bytes.{bytesOf, Bytes, patternAt}
+use Rattle.job.specs.Format.{mark, version, countOf, Job}
 
 -- RULES, Job file: a float stands as its pattern
 abbrev pub bytesOfFloat : Float → List ℕ

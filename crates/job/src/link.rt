@@ -86,7 +86,7 @@ fn keep(link: &mut [u8], bytes: &[u8])
     let came = came_in(link);
     let more = lists::least(bytes.len(), ROOM - came);
     lists::copy_u8(bytes, more, &mut link[8 + came..]);
-    lists::put_little_endian(link, 0, stage(true, came + more));
+    lists::put_little_endian(link, 0, 8, stage(true, came + more));
 }
 
 // Answers the job that has come, after which none is under way.
@@ -96,7 +96,7 @@ fn finish(link: &mut [u8], out: &mut [u32], work: &mut [u32]) -> Answered
 {
     let to = 8 + came_in(link);
     let answer = crate::answer(&link[8..to], out, work);
-    lists::put_little_endian(link, 0, stage(false, 0));
+    lists::put_little_endian(link, 0, 8, stage(false, 0));
     answer
 }
 
@@ -108,7 +108,7 @@ pub fn begin(link: &mut [u8]) -> Linked
     if number != 0 {
         return Linked::Refused(number);
     }
-    lists::put_little_endian(link, 0, stage(true, 0));
+    lists::put_little_endian(link, 0, 8, stage(true, 0));
     Linked::Taken
 }
 

@@ -3,7 +3,7 @@ use mathlib.Core.Path.{_≡_, refl, sym, ap, _∙_}
 use mathlib.Core.List.{List, [], _∷_, _++_}
 use Prim.Native.Nat.{ℕ, zero, suc, _≤_}
 use native.Mathlib.Omega.{arith}
-use lib.ListN.{length, drop, length-append, length-drop}
+use lib.ListN.{length, take, drop, length-append, length-drop, take-append-drop}
 use Rattle.lists.specs.Answers.{Answer, accepting, refusing, given, answerOf, written}
 
 -- equal numbers, values and places
@@ -38,6 +38,10 @@ accepted q xs values z e = rw (z, e)
 -- and has written its lists
 pub in-front : {A : Type 0} (q n : ℕ) (new w old : List A) → q ≡ 0 → w ≡ new → length new ≡ n → w ++ drop n old ≡ written q new old
 in-front q n new w old z e l = rw (z, e, l)
+
+-- the same of a list by its front and what lies behind it
+pub front-written : {A : Type 0} (q n : ℕ) (new l l′ : List A) → q ≡ 0 → length new ≡ n → take n l′ ≡ new → drop n l′ ≡ drop n l → l′ ≡ written q new l
+front-written q n new l l′ z e f d = sym (take-append-drop n l′) ∙ rw (d) (in-front q n new (take n l′) l z f e)
 
 -- a list that a call was lent is as long as it was, where there was room
 pub written-long : {A : Type 0} (q : ℕ) (new old : List A) → length new ≤ length old → length (written q new old) ≡ length old

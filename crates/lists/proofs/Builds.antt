@@ -6,7 +6,7 @@ use Prim.Native.Nat.{ℕ, zero, suc, _+_, _-_, _<_, _≤_}
 use native.Mathlib.Omega.{arith}
 use lib.ListN.{length, getD, drop, length-append, length-drop, List·getD-append}
 use lib.Seq.{ext-getD, getD-at, getD-append-add, getD-drop}
-use Rattle.lists.specs.Build.{build}
+use Rattle.lists.specs.Build.{build, foldFrom}
 use Rattle.lists.proofs.Fills.{build-length}
 use Rattle.lists.proofs.Numbers.{le-or-lt}
 
@@ -46,3 +46,9 @@ module _ {A : Type 0} where
   unfolding build
   build-first f zero = refl
   build-first f (suc n) = ap (λ (l : List A). l ++ (f (suc n) ∷ [])) (build-first f n)
+
+-- a fold along two lists, one behind the other
+pub fold-append : {A B : Type 0} (f : A → B → A) (a : A) (xs ys : List B) → foldFrom f a (xs ++ ys) ≡ foldFrom f (foldFrom f a xs) ys
+unfolding foldFrom
+fold-append f a [] ys = refl
+fold-append f a (x ∷ xs) ys = fold-append f (f a x) xs ys

@@ -92,21 +92,21 @@ reading-done bytes at end i number w e h k =
 
 -- ---- a number written from its first byte to its last: what is stored, with the rest, is the whole
 
-pub record Writing (whole s : List ℕ) (at end i rest : ℕ) : Type 0 where
+pub record Writing (whole s : List ℕ) (at width end i rest : ℕ) : Type 0 where
   pub begun : at ≤ i
   pub within : i ≤ end
-  pub left : sets s i (bytesOf (at + 8 - i) rest) ≡ whole
+  pub left : sets s i (bytesOf (at + width - i) rest) ≡ whole
 
-module _ (whole s : List ℕ) (at end i rest : ℕ) (k : Writing whole s at end i rest) where
-  pub writing-next : i < end → end ≤ at + 8 → Writing whole (set s i (rest % 256)) at end (i + 1) (rest / 256)
+module _ (whole s : List ℕ) (at width end i rest : ℕ) (k : Writing whole s at width end i rest) where
+  pub writing-next : i < end → end ≤ at + width → Writing whole (set s i (rest % 256)) at width end (i + 1) (rest / 256)
   unfolding bytesOf
   writing-next h m =
-      let q : at + 8 - i ≡ suc (at + 8 - suc i) = omega arith in
+      let q : at + width - i ≡ suc (at + width - suc i) = omega arith in
       record { begun = omega (arith, k .begun); within = omega arith; left = rw (add-one i) (rw q at (k .left)) }
 
-  pub writing-done : end ≡ at + min 8 (length s - at) → at ≤ length s → end ≤ i → s ≡ whole
+  pub writing-done : end ≡ at + min width (length s - at) → at ≤ length s → end ≤ i → s ≡ whole
   unfolding bytesOf
   writing-done e h l = ⊎-elim
-      (λ (g : length s ≤ i). sym (sets-past (bytesOf (at + 8 - i) rest) s i g) ∙ k .left)
-      (λ (g : i < length s). let z : at + 8 - i ≡ 0 = omega arith in rw z at (k .left))
+      (λ (g : length s ≤ i). sym (sets-past (bytesOf (at + width - i) rest) s i g) ∙ k .left)
+      (λ (g : i < length s). let z : at + width - i ≡ 0 = omega arith in rw z at (k .left))
       (le-or-lt (length s) i)

@@ -1,12 +1,12 @@
 -- Laws of lists that are joined from parts, and of the parts of such a list.
 use mathlib.Core.Path.{_≡_, refl, sym, ap, _∙_}
 use mathlib.Core.Logic.{⊎-elim}
-use mathlib.Core.List.{List, _++_, append-assoc}
+use mathlib.Core.List.{List, [], _∷_, _++_, map, flatten, append-assoc, append-nil}
 use Prim.Native.Nat.{ℕ, zero, suc, _+_, _*_, _<_, _≤_}
 use native.Mathlib.Nat.{zero-mul, suc-mul}
 use native.Mathlib.Omega.{arith}
-use lib.ListN.{length, take, drop, length-append, length-drop, take-append-drop}
-use lib.Seq.{take-at, take-all, drop-append-add, drop-drop}
+use lib.ListN.{length, take, drop, getD, length-append, length-drop, take-append-drop}
+use lib.Seq.{take-at, take-all, take-take, drop-append-add, drop-drop}
 use Rattle.lists.specs.Build.{rows}
 use Rattle.lists.specs.Parts.{part}
 use Rattle.lists.proofs.Numbers.{le-or-lt}
@@ -60,3 +60,25 @@ module _ {A : Type 0} where
       append-assoc (rows (λ t. part (t * w) w l) n) (part (n * w) w l) (drop (suc n * w) l)
       ∙ ap (λ (x : List A). rows (λ t. part (t * w) w l) n ++ x) (part-joined (n * w) w (suc n * w) l (omega (arith, suc-mul n w)))
       ∙ rows-cut w n l
+
+  -- a part of a part
+  front-part : (o k w : ℕ) (l : List A) → o + k ≤ w → part o k (take w l) ≡ part o k l
+  front-part zero k w l h = take-take k w l (omega arith)
+  front-part (suc o) k zero l h = absurd (omega arith)
+  front-part (suc o) k (suc w) [] h = refl
+  front-part (suc o) k (suc w) (x ∷ l) h = front-part o k w l (omega arith)
+
+  pub part-part : (a w o k : ℕ) (l : List A) → o + k ≤ w → part o k (part a w l) ≡ part (a + o) k l
+  part-part a w o k l h = front-part o k w (drop a l) h ∙ ap (take k) (drop-drop o a l)
+
+  -- the first row, and the others behind it
+  rows-first : (r : ℕ → List A) (n : ℕ) → rows r (suc n) ≡ r 0 ++ rows (λ i. r (suc i)) n
+  unfolding rows
+  rows-first r zero = sym (append-nil (r 0))
+  rows-first r (suc n) = ap (λ (l : List A). l ++ r (suc n)) (rows-first r n) ∙ append-assoc (r 0) (rows (λ i. r (suc i)) n) (r (suc n))
+
+-- a row for each item of a list
+pub flatten-rows : {A B : Type 0} (f : B → List A) (z : B) (xs : List B) → flatten (map f xs) ≡ rows (λ i. f (getD xs i z)) (length xs)
+unfolding flatten
+flatten-rows f z [] = unfold rows in refl
+flatten-rows {A} f z (x ∷ xs) = ap (λ (l : List A). f x ++ l) (flatten-rows f z xs) ∙ sym (rows-first (λ i. f (getD (x ∷ xs) i z)) (length xs))

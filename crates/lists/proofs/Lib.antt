@@ -10,11 +10,13 @@ pub mod Rows
 pub mod Bytes
 pub mod Spelled
 pub mod Fronts
+pub mod Firsts
 pub mod Answers
 pub mod Refusals
 pub mod Orders
 pub mod Flags
 pub mod Counts
+pub mod Chosen
 pub mod Expansions
 pub mod Ends
 pub mod Joins

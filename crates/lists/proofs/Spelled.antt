@@ -1,12 +1,13 @@
--- Bytes are those of the number that they say.
+-- Bytes are those of the number that they say, and numbers that are bytes.
 use mathlib.Core.Path.{_≡_, refl}
-use mathlib.Core.List.{List, [], _∷_}
+use mathlib.Core.List.{List, [], _∷_, _++_}
 use Prim.Native.Nat.{ℕ, zero, suc, _+_, _*_, _/_, _%_, _^_, _<_, _≤_}
+use native.Mathlib.Nat.{lt-of-lt-of-le}
 use native.Mathlib.Omega.{arith}
-use lib.Pow.{pow-add}
-use lib.ListN.{length, take, drop, getD, length-drop}
+use lib.Pow.{pow-add, pow-mono}
+use lib.ListN.{length, take, drop, getD, length-take, length-drop}
 use lib.Seq.{getD-drop, length-take-le}
-use Rattle.lists.specs.Bytes.{little, bytesOf}
+use Rattle.lists.specs.Bytes.{little, bytesOf, Bytes, wordAt}
 
 pub bytes-little : (bs : List ℕ) → ((i : ℕ) → getD bs i 0 < 256) → bytesOf (length bs) (little bs) ≡ bs
 unfolding little bytesOf
@@ -46,3 +47,24 @@ module _ (bs : List ℕ) (p : (i : ℕ) → getD bs i 0 < 256) (at k : ℕ) (h :
 
   pub part-below : little (take k (drop at bs)) < 2 ^ (8 * k)
   part-below = rw part-long at (little-below (take k (drop at bs)) part-bytes)
+
+-- ---- each number is a byte
+
+pub bytes-append : (xs ys : List ℕ) → Bytes xs → Bytes ys → Bytes (xs ++ ys)
+bytes-append [] ys p q i = q i
+bytes-append (x ∷ xs) ys p q zero = p 0
+bytes-append (x ∷ xs) ys p q (suc i) = bytes-append xs ys (λ k. p (suc k)) q i
+
+pub bytes-of : (k n : ℕ) → Bytes (bytesOf k n)
+unfolding bytesOf
+bytes-of zero n i = omega arith
+bytes-of (suc k) n zero = omega arith
+bytes-of (suc k) n (suc i) = bytes-of k (n / 256) i
+
+-- two bytes, or fewer, say a number of 16 bits
+pub word-below : (bs : List ℕ) → Bytes bs → (at : ℕ) → wordAt bs at < 65536
+word-below bs p at =
+    let part : List ℕ = take 2 (drop at bs) in
+    let l : length part ≤ 2 = simp length-take (omega arith) in
+    let q : 8 * length part ≤ 16 = omega arith in
+    lt-of-lt-of-le (little-below part (take-bytes 2 (drop at bs) (λ i. rw (getD-drop at bs i 0) (p (at + i))))) (pow-mono q)

@@ -15,6 +15,15 @@ module _ {A : Type 0} where
   sets-append [] ys l i = ap (λ (k : ℕ). sets l k ys) (sym (add-zero i))
   sets-append (x ∷ xs) ys l i = sets-append xs ys (set l i x) (suc i) ∙ ap (λ (k : ℕ). sets (sets (set l i x) (suc i) xs) k ys) (suc-add i (length xs) ∙ sym (add-suc i (length xs)))
 
+  -- a run is stored behind another
+  pub sets-behind : (xs ys l s : List A) (i k : ℕ) → s ≡ sets l i xs → i + length xs ≡ k → sets s k ys ≡ sets l i (xs ++ ys)
+  sets-behind xs ys l s i k e q = ap (λ (x : List A). sets x k ys) e ∙ ap (λ (j : ℕ). sets (sets l i xs) j ys) (sym q) ∙ sym (sets-append xs ys l i)
+
+  -- a run is stored behind the first item
+  pub sets-past-first : (vs l : List A) (x : A) (i : ℕ) → sets (x ∷ l) (suc i) vs ≡ x ∷ sets l i vs
+  sets-past-first [] l x i = refl
+  sets-past-first (v ∷ vs) l x i = sets-past-first vs (set l i v) x (suc i)
+
   -- past the end nothing is stored
   pub sets-past : (xs l : List A) (i : ℕ) → length l ≤ i → sets l i xs ≡ l
   sets-past [] l i h = refl

@@ -9,3 +9,4 @@ pub mod Build  -- lists by a rule, folds, steps in order
 pub mod Parts  -- parts of a list
 pub mod Frames  -- states' items at their frames, selected and filled back
 pub mod Bytes  -- numbers and their bytes
+pub mod Firsts  -- the first of a list's numbers that is a given one

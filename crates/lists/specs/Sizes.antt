@@ -29,6 +29,13 @@ mostFrames = 65536
 abbrev pub mostJobStates : ℕ
 mostJobStates = 1024
 
+-- voices of a store, and the number of a voice
+abbrev pub mostVoices : ℕ
+mostVoices = 256
+
+abbrev pub mostVoice : ℕ
+mostVoice = 65535
+
 -- RULES, Sizes: a frame has 1 to 64 components; v is out of that range
 abbrev pub outside : ℕ → Bool
 outside v = ltb v 1 || ltb mostComponents v

@@ -8,6 +8,7 @@ ghost use Rattle.lists.specs.Totals.{total};
 ghost use Rattle.lists.specs.Parts.{PartSays};
 ghost use Rattle.lists.specs.Ends.{filled};
 ghost use Rattle.lists.specs.Bytes.{little, bytesOf, alike, startsWith};
+ghost use Rattle.lists.specs.Firsts.{firstAt, instead, replaced};
 
 // How many frames lists were filled for, or the number of why none was.
 pub enum Filled {
@@ -51,6 +52,18 @@ pub fn fill_f64(s: &mut [f64], n: usize, v: f64)
     }
 }
 
+// The first n patterns of 64 bits become v.
+pub fn fill_u64(s: &mut [u64], n: usize, v: u64)
+    ensures { λ _. ⌜ now (s .exit) ≡ sets (now (s .entry)) 0 (replicate n v) ⌝ }
+{
+    let end = least(n, s.len());
+    let mut i = 0;
+    while i < end {
+        s[i] = v;
+        i += 1;
+    }
+}
+
 // The first n numbers of src, over those of dst.
 pub fn copy_u32(src: &[u32], n: usize, dst: &mut [u32])
     ensures { λ _. ⌜ now (dst .exit) ≡ sets (now (dst .entry)) 0 (take n (now (src .entry))) ⌝ }
@@ -65,6 +78,18 @@ pub fn copy_u32(src: &[u32], n: usize, dst: &mut [u32])
 
 // The first n bytes of src, over those of dst.
 pub fn copy_u8(src: &[u8], n: usize, dst: &mut [u8])
+    ensures { λ _. ⌜ now (dst .exit) ≡ sets (now (dst .entry)) 0 (take n (now (src .entry))) ⌝ }
+{
+    let end = least(least(n, src.len()), dst.len());
+    let mut i = 0;
+    while i < end {
+        dst[i] = src[i];
+        i += 1;
+    }
+}
+
+// The first n patterns of src, over those of dst.
+pub fn copy_u64(src: &[u64], n: usize, dst: &mut [u64])
     ensures { λ _. ⌜ now (dst .exit) ≡ sets (now (dst .entry)) 0 (take n (now (src .entry))) ⌝ }
 {
     let end = least(least(n, src.len()), dst.len());
@@ -190,15 +215,15 @@ fn wide_u8(b: u8) -> u64
     b as u64
 }
 
-// A number as eight bytes from a place on, the least byte first, as far as there is room.
-pub fn put_little_endian(bytes: &mut [u8], at: usize, number: u64)
-    ensures { λ _. ⌜ now (bytes .exit) ≡ sets (now (bytes .entry)) at (bytesOf 8 number) ⌝ }
+// A number as width bytes from a place on, eight at most, the least byte first, as far as there is room.
+pub fn put_little_endian(bytes: &mut [u8], at: usize, width: usize, number: u64)
+    ensures { λ _. ⌜ now (bytes .exit) ≡ sets (now (bytes .entry)) at (bytesOf (min width 8) number) ⌝ }
 {
     let n = bytes.len();
     if n <= at {
         return;
     }
-    let end = at + least(8, n - at);
+    let end = at + least(least(width, 8), n - at);
     let mut rest = number;
     let mut i = at;
     while i < end {
@@ -206,6 +231,42 @@ pub fn put_little_endian(bytes: &mut [u8], at: usize, number: u64)
         rest = rest / 256;
         i += 1;
     }
+}
+
+// The place of the first of these numbers that is v, or their length where none is.
+pub fn first_u32(s: &[u32], v: u32) -> usize
+    ensures { λ r. ⌜ r ≡ firstAt v (now (s .entry)) ⌝ }
+{
+    let n = s.len();
+    let mut i = 0;
+    while i < n {
+        if s[i] == v {
+            return i;
+        }
+        i += 1;
+    }
+    n
+}
+
+// Each of these numbers that is old becomes new.
+pub fn replace_u32(s: &mut [u32], old: u32, new: u32)
+    ensures { λ _. ⌜ now (s .exit) ≡ replaced old new (now (s .entry)) ⌝ }
+{
+    let mut i = 0;
+    while i < s.len() {
+        s[i] = instead(s[i], old, new);
+        i += 1;
+    }
+}
+
+// A number, or where it is old the new one.
+fn instead(number: u32, old: u32, new: u32) -> u32
+    ensures { λ r. ⌜ r ≡ instead old new number ⌝ }
+{
+    if number == old {
+        return new;
+    }
+    number
 }
 
 // How many bytes at the front of both are the same.

@@ -29,7 +29,7 @@ fn computed(kind: u8, a: u64, b: u64) -> Answer {
 // The bits of the float that a's eight bytes say from a place on.
 fn read_at(a: u64, place: u64) -> u64 {
     let mut bytes = [0u8; 8];
-    lists::put_little_endian(&mut bytes, 0, a);
+    lists::put_little_endian(&mut bytes, 0, 8, a);
     floats::bits_of(floats::of_bytes(&bytes, place as usize))
 }
 
