@@ -24,7 +24,8 @@
  * linked with -ffast-math, or that flushes subnormal numbers to zero, may get others.
  *
  * "Refused with" lists the numbers in the order in which they are looked for, but for two groups:
- * between 7 and 8 the work's order decides, and of 9, 12, 13 and 14 the first by place is given.
+ * between 7 and 8 the work's order decides, and of 9, 12, 13 and 14 the first by place is given. A
+ * settings file's 18 stands there twice: it is looked for before 16, and again behind it.
  */
 #ifndef HEJMIROV_H
 #define HEJMIROV_H
@@ -46,35 +47,48 @@ extern "C" {
 #define HEJMIROV_MAX_NSTATE 16       /* states in a label, at least 1 */
 #define HEJMIROV_MAX_FRAMES 65536    /* frames in an utterance */
 #define HEJMIROV_MAX_JOB_STATES 1024 /* states in a job file */
+#define HEJMIROV_MAX_VOICES 256      /* voices in a store, which has so many places */
+#define HEJMIROV_MAX_VOICE 65535     /* the number of a voice */
 
 /* Sizes. */
-#define HEJMIROV_WORK_FLOATS_A_FRAME 48 /* doubles of a trajectory's work space for each frame */
-#define HEJMIROV_WORK_MARKS_A_FRAME 4   /* whole numbers of its marks for each frame */
-#define HEJMIROV_BYTES_A_NUMBER 8       /* bytes of one number in the spool */
-#define HEJMIROV_JOB_HEAD_BYTES 15      /* bytes of a job file before its first state */
-#define HEJMIROV_JOB_STATE_BYTES 16     /* bytes of each of its states */
-#define HEJMIROV_LINK_BYTES 16408       /* bytes of a link's memory: a job that comes in parts */
+#define HEJMIROV_WORK_FLOATS_A_FRAME 48   /* doubles of a trajectory's work space for each frame */
+#define HEJMIROV_WORK_MARKS_A_FRAME 4     /* whole numbers of its marks for each frame */
+#define HEJMIROV_BYTES_A_NUMBER 8         /* bytes of one number in the spool */
+#define HEJMIROV_JOB_HEAD_BYTES 15        /* bytes of a job file before its first state */
+#define HEJMIROV_JOB_STATE_BYTES 16       /* bytes of each of its states */
+#define HEJMIROV_LINK_BYTES 16408         /* bytes of a link's memory: a job that comes in parts */
+#define HEJMIROV_STORE_SETTINGS 768       /* settings in a store, three for each place */
+#define HEJMIROV_SETTINGS_HEAD_BYTES 7    /* bytes of a settings file before its first record */
+#define HEJMIROV_SETTINGS_RECORD_BYTES 26 /* bytes of each of its records, in version 2 */
+#define HEJMIROV_SETTINGS_FILE_BYTES 6663 /* bytes of the longest file that is written */
 
 /* An end that is open, for hejmirov_align: any number below 0, and NaN, says the same. */
 #define HEJMIROV_OPEN_END (-1.0)
 
+/* The number of a place of a store that is free: any number above 65,535 says the same. */
+#define HEJMIROV_FREE_PLACE 4294967295u
+
 /* Why a call refused. A program should take a number that it doesn't know as a refusal, too. */
 enum hejmirov_refusal {
     HEJMIROV_ACCEPTED = 0,
-    HEJMIROV_BAD_WINDOWS = 1,       /* window count or a window's length out of range */
-    HEJMIROV_BAD_COEFFICIENT = 2,   /* a coefficient is infinite or NaN */
-    HEJMIROV_BAD_SIZE = 3,          /* too many states, or states a label or v out of range */
-    HEJMIROV_LISTS_DISAGREE = 4,    /* list lengths disagree */
-    HEJMIROV_TOO_MANY_FRAMES = 5,   /* given durations total above 65,536 */
-    HEJMIROV_TOO_LITTLE_ROOM = 6,   /* output, work space or a link's memory too short */
-    HEJMIROV_TARGET_TOO_LONG = 7,   /* a rounded target length above 65,536 */
-    HEJMIROV_ESTIMATE_TOO_LONG = 8, /* an estimate's or an alignment's total above 65,536 */
-    HEJMIROV_JOB_LENGTH = 9,        /* job file too short or too long */
-    HEJMIROV_NO_SUCH_PLACE = 10,    /* no such frame, component or state */
-    HEJMIROV_JOB_ENDED = 11,        /* a part or an end of a job that has ended */
-    HEJMIROV_JOB_MARK = 12,         /* job file's mark is wrong */
-    HEJMIROV_JOB_VERSION = 13,      /* job file's version is wrong */
-    HEJMIROV_JOB_COUNT = 14,        /* job file says too many states */
+    HEJMIROV_BAD_WINDOWS = 1,         /* window count or a window's length out of range */
+    HEJMIROV_BAD_COEFFICIENT = 2,     /* a coefficient is infinite or NaN */
+    HEJMIROV_BAD_SIZE = 3,            /* states, states a label, v or a voice out of range */
+    HEJMIROV_LISTS_DISAGREE = 4,      /* list lengths disagree */
+    HEJMIROV_TOO_MANY_FRAMES = 5,     /* given durations total above 65,536 */
+    HEJMIROV_TOO_LITTLE_ROOM = 6,     /* output, work space, link's memory or store too short */
+    HEJMIROV_TARGET_TOO_LONG = 7,     /* a rounded target length above 65,536 */
+    HEJMIROV_ESTIMATE_TOO_LONG = 8,   /* an estimate's or an alignment's total above 65,536 */
+    HEJMIROV_JOB_LENGTH = 9,          /* job file too short or too long */
+    HEJMIROV_NO_SUCH_PLACE = 10,      /* no such frame, component or state */
+    HEJMIROV_JOB_ENDED = 11,          /* a part or an end of a job that has ended */
+    HEJMIROV_JOB_MARK = 12,           /* job file's mark is wrong */
+    HEJMIROV_JOB_VERSION = 13,        /* job file's version is wrong */
+    HEJMIROV_JOB_COUNT = 14,          /* job file says too many states */
+    HEJMIROV_SETTINGS_VERSION = 16,   /* settings file's version is neither 1 nor 2 */
+    HEJMIROV_STORE_FULL = 17,         /* a store with no place for one more voice */
+    HEJMIROV_SETTINGS_MALFORMED = 18, /* settings file's mark or length is wrong */
+    HEJMIROV_VOICE_NOT_HELD = 19,     /* a voice that the store doesn't hold */
 
     /* The old number of 9, 12, 13 and 14: see hejmirov_job_old_number. */
     HEJMIROV_JOB_DAMAGED = 9
@@ -86,10 +100,10 @@ static inline const char *hejmirov_refusal_text(uint32_t refusal) {
     case HEJMIROV_ACCEPTED: return "accepted";
     case HEJMIROV_BAD_WINDOWS: return "window count or a window's length out of range";
     case HEJMIROV_BAD_COEFFICIENT: return "a coefficient is infinite or NaN";
-    case HEJMIROV_BAD_SIZE: return "too many states, or states a label or v out of range";
+    case HEJMIROV_BAD_SIZE: return "states, states a label, v or a voice out of range";
     case HEJMIROV_LISTS_DISAGREE: return "list lengths disagree";
     case HEJMIROV_TOO_MANY_FRAMES: return "given durations total above 65,536";
-    case HEJMIROV_TOO_LITTLE_ROOM: return "output, work space or a link's memory too short";
+    case HEJMIROV_TOO_LITTLE_ROOM: return "output, work space, link's memory or store too short";
     case HEJMIROV_TARGET_TOO_LONG: return "a rounded target length above 65,536";
     case HEJMIROV_ESTIMATE_TOO_LONG: return "an estimate's or an alignment's total above 65,536";
     case HEJMIROV_JOB_LENGTH: return "job file too short or too long";
@@ -98,6 +112,10 @@ static inline const char *hejmirov_refusal_text(uint32_t refusal) {
     case HEJMIROV_JOB_MARK: return "job file's mark is wrong";
     case HEJMIROV_JOB_VERSION: return "job file's version is wrong";
     case HEJMIROV_JOB_COUNT: return "job file says too many states";
+    case HEJMIROV_SETTINGS_VERSION: return "settings file's version is neither 1 nor 2";
+    case HEJMIROV_STORE_FULL: return "a store with no place for one more voice";
+    case HEJMIROV_SETTINGS_MALFORMED: return "settings file's mark or length is wrong";
+    case HEJMIROV_VOICE_NOT_HELD: return "a voice that the store doesn't hold";
     default: return "a refusal that this header doesn't know";
     }
 }
@@ -419,6 +437,139 @@ uint32_t hejmirov_link_end(uint8_t *link, size_t n_link,
                            uint32_t *frames,
                            uint32_t *changes,
                            uint64_t *place);
+
+/* Settings: a store of voices' settings, and its file. A voice is a number, 0 to 65,535, and has
+ * three settings: the speed, the GV weight and the voicing threshold.
+ *
+ * A store is two lists, lent to each call and in between left as they are. They may be kept
+ * anywhere, copied and moved, and need no giving back. Calls that write one store follow each
+ * other; calls that only read it, and calls on others, may run at once.
+ *
+ *   voices         HEJMIROV_MAX_VOICES numbers, one for each place
+ *   settings       HEJMIROV_STORE_SETTINGS settings as doubles' bits; place p has numbers 3 x p,
+ *                  3 x p + 1 and 3 x p + 2: speed, GV weight, threshold
+ *
+ * Longer lists may be lent: what lies behind these is not looked at and not touched.
+ *
+ * A place is free where its number is above 65,535, and where an earlier place has the same number;
+ * any other place holds the voice of its number. So every content of the lists has a meaning, and
+ * no voice is held twice. A store that was never cleared holds what its lists say: of all zeros,
+ * for instance, the voice 0.
+ *
+ * To go through a store that was cleared or read, take each place whose number is at most
+ * HEJMIROV_MAX_VOICE, and hejmirov_settings_get for it: the calls themselves repeat no number.
+ *
+ * A refused call leaves both lists as they were.
+ */
+
+/* Clears a store: afterwards every place is free.
+ *
+ *   voices         any numbers; afterwards HEJMIROV_FREE_PLACE in each place
+ *   settings       any settings; afterwards zeros
+ *
+ * Refused with 6: n_voices below HEJMIROV_MAX_VOICES, or n_settings below HEJMIROV_STORE_SETTINGS.
+ */
+uint32_t hejmirov_settings_clear(uint32_t *voices, size_t n_voices,
+                                 uint64_t *settings, size_t n_settings);
+
+/* Sets a voice's settings. A voice that is held keeps its place; any other takes the first that is
+ * free, which may be one that a removed voice has left.
+ *
+ *   voices         a store's numbers; afterwards the voice's stands in its place
+ *   settings       a store's settings; afterwards the three stand in that place
+ *   voice          the number of the voice
+ *   speed, gv_weight, threshold
+ *                  any doubles, kept bit for bit; every NaN is kept as 0x7FF8000000000000
+ *
+ * Refused with 3: voice above 65,535. 6: as hejmirov_settings_clear. 17: no place is free, as 256
+ * other voices are held.
+ */
+uint32_t hejmirov_settings_set(uint32_t *voices, size_t n_voices,
+                               uint64_t *settings, size_t n_settings,
+                               uint32_t voice,
+                               double speed,
+                               double gv_weight,
+                               double threshold);
+
+/* A voice's settings.
+ *
+ *   voices, settings
+ *                  a store
+ *   voice          the number of the voice
+ *   speed, gv_weight, threshold
+ *                  afterwards the voice's
+ *
+ * Refused with 3: voice above 65,535. 6: as hejmirov_settings_clear. 19: the voice is not held.
+ */
+uint32_t hejmirov_settings_get(const uint32_t *voices, size_t n_voices,
+                               const uint64_t *settings, size_t n_settings,
+                               uint32_t voice,
+                               double *speed,
+                               double *gv_weight,
+                               double *threshold);
+
+/* Removes a voice: its place is free then, and all others stay where they are.
+ *
+ *   voices         a store's numbers; afterwards HEJMIROV_FREE_PLACE in the voice's place, and in
+ *                  every later place with its number, where it would else be held
+ *   settings       a store's settings; afterwards zeros for the three of the voice's place
+ *   voice          the number of the voice
+ *
+ * Refused with 3: voice above 65,535. 6: as hejmirov_settings_clear. 19: the voice is not held.
+ */
+uint32_t hejmirov_settings_remove(uint32_t *voices, size_t n_voices,
+                                  uint64_t *settings, size_t n_settings,
+                                  uint32_t voice);
+
+/* How many voices a store holds.
+ *
+ *   voices         the store's numbers
+ *   held           afterwards how many places hold a voice, 0 to 256
+ *
+ * Refused with 6: n_voices below HEJMIROV_MAX_VOICES.
+ */
+uint32_t hejmirov_settings_count(const uint32_t *voices, size_t n_voices,
+                                 uint32_t *held);
+
+/* Reads a settings file into a store. What the store held is gone.
+ *
+ *   voices         any numbers; afterwards the file's voices in the first places, and
+ *                  HEJMIROV_FREE_PLACE in all others
+ *   settings       any settings; afterwards the file's, bit for bit, a NaN's too, and zeros in the
+ *                  free places
+ *   bytes          the whole file, little-endian: the three bytes VST, version 1 or 2 (16 bits),
+ *                  the number of records n (16 bits), then the records: a voice's number (16
+ *                  bits), its speed, its GV weight and, in version 2, its threshold (doubles'
+ *                  bits); 7 + 18 x n bytes in version 1, 7 + 26 x n in version 2
+ *
+ * In version 1 every threshold is 0.5. The later record of a voice replaces the earlier in its
+ * place, so that a file may have more records than a store has places.
+ *
+ * Refused with 6: as hejmirov_settings_clear. 18: the file doesn't begin with VST, or ends before
+ * the version's last byte. 16: the version is neither 1 nor 2. 18: the file has another length. 17:
+ * there are more than 256 different voices. So VST and the version 3 is 16, though the file ends
+ * there, and VST and one byte is 18, whatever that byte is.
+ */
+uint32_t hejmirov_settings_read(uint32_t *voices, size_t n_voices,
+                                uint64_t *settings, size_t n_settings,
+                                const uint8_t *bytes, size_t n_bytes);
+
+/* Writes a store's settings file, version 2: a record for each place that holds a voice, in the
+ * order of the places. Reading it gives the same voices in the same order, with the same settings
+ * bit for bit; the free places between them are not in the file.
+ *
+ *   voices, settings
+ *                  a store
+ *   out            afterwards the file's bytes, 7 + 26 x n, where n is how many voices are held;
+ *                  HEJMIROV_SETTINGS_FILE_BYTES are enough for any store
+ *   written        afterwards how many bytes these are
+ *
+ * Refused with 6: as hejmirov_settings_clear, or n_out below 7 + 26 x n.
+ */
+uint32_t hejmirov_settings_write(const uint32_t *voices, size_t n_voices,
+                                 const uint64_t *settings, size_t n_settings,
+                                 uint8_t *out, size_t n_out,
+                                 uint64_t *written);
 
 #ifdef __cplusplus
 }

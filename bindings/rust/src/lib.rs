@@ -9,28 +9,31 @@
 //! | [`band_rows`] | the equations of one component, before they are solved |
 //! | [`Stream::trajectory`] | a stream's numbers, frame after frame |
 //! | [`place`], [`excerpt`] | where a number stands in the spool, and a state's part of a trajectory |
+//! | [`Store`] | voices' settings by the voice's number, and the file of them |
 //!
 //! Each call that writes lists has two forms: one that owns what it allocates, output and work
 //! space, and one ending in `_into` that takes the caller's and allocates nothing. Both answer the
 //! same. So do a [`Link`], which owns its memory, and [`link_begin`], [`link_part`] and
-//! [`link_end_into`], which take the caller's.
+//! [`link_end_into`], which take the caller's; and a [`Store`], which owns its two lists, and
+//! [`settings_clear`] and the other calls that begin so, which take the caller's.
 //!
 //! No call panics, whatever its numbers and lengths; what the library doesn't take is a
 //! [`Refusal`], which says of a damaged job what is wrong with it, and at which byte. After a
 //! refusal every output is as it was. Any `f64` is taken; a NaN that is handed out has the bits
-//! 0x7FF8000000000000. The calls keep nothing between them but what a link's memory holds, and
-//! threads may make them at once. The answers are exact, to the bit, as long as nothing in the
-//! program makes the processor flush subnormal numbers to zero.
+//! 0x7FF8000000000000. The calls keep nothing between them but what a link's memory or a store
+//! holds, and threads may make them at once. The answers are exact, to the bit, as long as nothing in
+//! the program makes the processor flush subnormal numbers to zero.
 //!
 //! # Linking
 //!
 //! The archive is found in the folder that the environment variable `HEJMIROV_LIB_DIR` names, else
 //! in this repository's `target/staticlib`, where `rt staticlib hejmirov` writes it. It is for
-//! x86-64 Linux and needs nothing but the C library's `memset`.
+//! x86-64 Linux and needs nothing but the C library's `memset` and `memcpy`.
 
 mod durations;
 mod link;
 mod refusal;
+mod settings;
 mod spool;
 mod sys;
 mod trajectory;
@@ -40,6 +43,10 @@ pub use durations::{
 };
 pub use link::{Link, link_begin, link_end_into, link_part};
 pub use refusal::{Damage, Refusal};
+pub use settings::{
+    Settings, Store, settings_clear, settings_count, settings_get, settings_read, settings_remove,
+    settings_set, settings_write_into,
+};
 pub use spool::{excerpt, excerpt_range, place};
 pub use trajectory::{
     BandRows, GlobalVariance, Mask, Stream, Trajectory, Windows, band_rows, band_rows_into, mask,
@@ -60,6 +67,10 @@ pub const MAX_NSTATE: usize = 16;
 pub const MAX_FRAMES: usize = 65536;
 /// Most states in a job file.
 pub const MAX_JOB_STATES: usize = 1024;
+/// Most voices in a store, which has so many places.
+pub const MAX_VOICES: usize = 256;
+/// The largest number of a voice.
+pub const MAX_VOICE: u32 = 65535;
 
 /// Floats of a trajectory's work space for each frame.
 pub const WORK_FLOATS_A_FRAME: usize = 48;
@@ -73,9 +84,20 @@ pub const JOB_HEAD_BYTES: usize = 15;
 pub const JOB_STATE_BYTES: usize = 16;
 /// Bytes of a link's memory: a job that comes in parts.
 pub const LINK_BYTES: usize = 16408;
+/// Settings in a store, three for each place.
+pub const STORE_SETTINGS: usize = 768;
+/// Bytes of a settings file before its first record.
+pub const SETTINGS_HEAD_BYTES: usize = 7;
+/// Bytes of each record of a settings file, in version 2.
+pub const SETTINGS_RECORD_BYTES: usize = 26;
+/// Bytes of the longest settings file that is written.
+pub const SETTINGS_FILE_BYTES: usize = 6663;
 
 /// An end that is open, for [`align`]; any number below 0, and NaN, says the same.
 pub const OPEN_END: f64 = -1.0;
+
+/// The number of a place of a store that is free; any number above 65,535 says the same.
+pub const FREE_PLACE: u32 = 4_294_967_295;
 
 /// The durations' total, as far as a call can take it: more is refused before room is looked at.
 fn frames_at_most(durations: &[u32]) -> usize {

@@ -8,9 +8,10 @@ use crate::sys;
 /// Why a call refused: the first of these that applies, in the order of their numbers
 /// ([`JobDamaged`](Refusal::JobDamaged) before all others, and before that, over a link,
 /// [`JobEnded`](Refusal::JobEnded) and a memory that is too short; between the two that are too
-/// long the work's order decides).
+/// long the work's order decides; of a settings file a wrong mark is first, then the version, then
+/// the length, and then a store that is full).
 ///
-/// Every call's outputs are then as they were.
+/// Every call's outputs are then as they were, and so is a store.
 ///
 /// # Examples
 ///
@@ -33,13 +34,13 @@ pub enum Refusal {
     BadWindows,
     /// 2: a coefficient is infinite or NaN.
     BadCoefficient,
-    /// 3: too many states, or states a label or v out of range.
+    /// 3: states, states a label or v out of range; of a voice never here, as its number is a `u16`.
     BadSize,
     /// 4: list lengths disagree.
     ListsDisagree,
     /// 5: given durations total above 65,536.
     TooManyFrames,
-    /// 6: output, work space or a link's memory too short; only where the caller lends them.
+    /// 6: output, work space, link's memory or store too short; only where the caller lends them.
     TooLittleRoom,
     /// 7: a rounded target length above 65,536.
     TargetTooLong,
@@ -56,6 +57,14 @@ pub enum Refusal {
     NoSuchPlace,
     /// 11: a part or an end of a job that has ended.
     JobEnded,
+    /// 16: settings file's version is neither 1 nor 2.
+    SettingsVersion,
+    /// 17: a store with no place for one more voice.
+    StoreFull,
+    /// 18: settings file's mark or length is wrong.
+    SettingsMalformed,
+    /// 19: a voice that the store doesn't hold.
+    VoiceNotHeld,
     /// A number that these bindings don't know, of a newer library.
     Unknown(u32),
 }
@@ -76,6 +85,10 @@ impl Refusal {
             Refusal::JobDamaged { damage, .. } => damage.number(),
             Refusal::NoSuchPlace => 10,
             Refusal::JobEnded => 11,
+            Refusal::SettingsVersion => 16,
+            Refusal::StoreFull => 17,
+            Refusal::SettingsMalformed => 18,
+            Refusal::VoiceNotHeld => 19,
             Refusal::Unknown(number) => number,
         }
     }
@@ -110,6 +123,10 @@ impl Refusal {
             8 => Refusal::EstimateTooLong,
             10 => Refusal::NoSuchPlace,
             11 => Refusal::JobEnded,
+            16 => Refusal::SettingsVersion,
+            17 => Refusal::StoreFull,
+            18 => Refusal::SettingsMalformed,
+            19 => Refusal::VoiceNotHeld,
             other => Refusal::Unknown(other),
         }
     }
@@ -118,15 +135,19 @@ impl Refusal {
         match self {
             Refusal::BadWindows => "window count or a window's length out of range",
             Refusal::BadCoefficient => "a coefficient is infinite or NaN",
-            Refusal::BadSize => "too many states, or states a label or v out of range",
+            Refusal::BadSize => "states, states a label, v or a voice out of range",
             Refusal::ListsDisagree => "list lengths disagree",
             Refusal::TooManyFrames => "given durations total above 65,536",
-            Refusal::TooLittleRoom => "output, work space or a link's memory too short",
+            Refusal::TooLittleRoom => "output, work space, link's memory or store too short",
             Refusal::TargetTooLong => "a rounded target length above 65,536",
             Refusal::EstimateTooLong => "an estimate's or an alignment's total above 65,536",
             Refusal::JobDamaged { damage, .. } => damage.text(),
             Refusal::NoSuchPlace => "no such frame, component or state",
             Refusal::JobEnded => "a part or an end of a job that has ended",
+            Refusal::SettingsVersion => "settings file's version is neither 1 nor 2",
+            Refusal::StoreFull => "a store with no place for one more voice",
+            Refusal::SettingsMalformed => "settings file's mark or length is wrong",
+            Refusal::VoiceNotHeld => "a voice that the store doesn't hold",
             Refusal::Unknown(_) => "a refusal that these bindings don't know",
         }
     }
@@ -237,6 +258,15 @@ mod tests {
         assert_eq!(Refusal::or(0, "values"), Ok("values"));
         assert_eq!(Refusal::or(11, ()), Err(Refusal::JobEnded));
         assert_eq!(Refusal::or(15, ()), Err(Refusal::Unknown(15)));
+        for (number, refusal) in [
+            (16, Refusal::SettingsVersion),
+            (17, Refusal::StoreFull),
+            (18, Refusal::SettingsMalformed),
+            (19, Refusal::VoiceNotHeld),
+            (20, Refusal::Unknown(20)),
+        ] {
+            assert_eq!(Refusal::or(number, ()), Err(refusal));
+        }
     }
 
     #[test]

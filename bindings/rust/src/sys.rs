@@ -144,6 +144,64 @@ unsafe extern "C" {
         changes: *mut u32,
         place: *mut u64,
     ) -> u32;
+
+    pub fn hejmirov_settings_clear(
+        voices: *mut u32,
+        n_voices: usize,
+        settings: *mut u64,
+        n_settings: usize,
+    ) -> u32;
+
+    pub fn hejmirov_settings_set(
+        voices: *mut u32,
+        n_voices: usize,
+        settings: *mut u64,
+        n_settings: usize,
+        voice: u32,
+        speed: f64,
+        gv_weight: f64,
+        threshold: f64,
+    ) -> u32;
+
+    pub fn hejmirov_settings_get(
+        voices: *const u32,
+        n_voices: usize,
+        settings: *const u64,
+        n_settings: usize,
+        voice: u32,
+        speed: *mut f64,
+        gv_weight: *mut f64,
+        threshold: *mut f64,
+    ) -> u32;
+
+    pub fn hejmirov_settings_remove(
+        voices: *mut u32,
+        n_voices: usize,
+        settings: *mut u64,
+        n_settings: usize,
+        voice: u32,
+    ) -> u32;
+
+    pub fn hejmirov_settings_count(voices: *const u32, n_voices: usize, held: *mut u32) -> u32;
+
+    pub fn hejmirov_settings_read(
+        voices: *mut u32,
+        n_voices: usize,
+        settings: *mut u64,
+        n_settings: usize,
+        bytes: *const u8,
+        n_bytes: usize,
+    ) -> u32;
+
+    pub fn hejmirov_settings_write(
+        voices: *const u32,
+        n_voices: usize,
+        settings: *const u64,
+        n_settings: usize,
+        out: *mut u8,
+        n_out: usize,
+        written: *mut u64,
+    ) -> u32;
 }
 
 #[cfg(test)]

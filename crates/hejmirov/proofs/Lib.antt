@@ -3,3 +3,4 @@ pub mod One
 pub mod Rendering
 pub mod Telling
 pub mod Old
+pub mod Keeping

@@ -18,6 +18,11 @@ use Rattle.job.specs.LinkPromise.{linkedNumber}
 use Rattle.job.proofs.LinkOutcomes.{link-begin-one, link-part-one, link-end-one}
 use Rattle.spool.specs.Promise.{placed, spanned}
 use Rattle.spool.proofs.One.{place-one, span-one}
+use Rattle.settings.specs.Promise.{changedNumber, counted}
+use Rattle.settings.proofs.Changing.{clear-one, set-one, get-one, remove-one, read-one}
+use Rattle.settings.proofs.Holding.{count-one}
+use Rattle.settings.proofs.Writing.{write-one}
+use Rattle.hejmirov.specs.Settings.{bitsOf, gotNumber, handedFloat, SettingsClearCallSays, SettingsSetCallSays, SettingsGetCallSays, SettingsRemoveCallSays, SettingsCountCallSays, SettingsReadCallSays, SettingsWriteCallSays}
 use Rattle.hejmirov.specs.Promise.{handed, HandsOne, HandsTwo, HandsThree, HandsJob, streamOf, FitCallSays, SpeedCallSays, AlignCallSays, MaskCallSays, BandCallSays, TrajectoryCallSays, PlaceCallSays, ExcerptCallSays, JobCallSays, LinkBeginCallSays, LinkPartCallSays, LinkEndCallSays}
 
 -- one answer gives one number and one value
@@ -115,3 +120,42 @@ link-end-call-one link out work states frames changes place r s l₁ o₁ w₁ l
     let t = link-end-one link out work (f .answer) (g .answer) l₁ o₁ w₁ l₂ o₂ w₂ (f .says) (g .says) in
     let h = hands-job (answered (f .answer)) (answered (g .answer)) states frames changes place r s x₀ x₁ x₂ p y₀ y₁ y₂ q (ap answered (t .0)) (f .gives) (g .gives) in
     (h .0, t .1, t .2, t .3, h .1, h .2, h .3, h .4)
+
+-- the calls of a store
+pub settings-clear-call-one : (voices settings : List ℕ) (r s : ℕ) (v₁ s₁ v₂ s₂ : List ℕ) → SettingsClearCallSays voices settings r v₁ s₁ → SettingsClearCallSays voices settings s v₂ s₂ → (r ≡ s) × (v₁ ≡ v₂) × (s₁ ≡ s₂)
+settings-clear-call-one voices settings r s v₁ s₁ v₂ s₂ f g =
+    let t = clear-one voices settings (f .answer) (g .answer) v₁ s₁ v₂ s₂ (f .says) (g .says) in
+    (f .gives ∙ ap changedNumber (t .0) ∙ sym (g .gives), t .1, t .2)
+
+pub settings-set-call-one : (voices settings : List ℕ) (voice : ℕ) (speed weight threshold : Float) (r s : ℕ) (v₁ s₁ v₂ s₂ : List ℕ)
+    → SettingsSetCallSays voices settings voice speed weight threshold r v₁ s₁ → SettingsSetCallSays voices settings voice speed weight threshold s v₂ s₂ → (r ≡ s) × (v₁ ≡ v₂) × (s₁ ≡ s₂)
+settings-set-call-one voices settings voice speed weight threshold r s v₁ s₁ v₂ s₂ f g =
+    let t = set-one voices settings (f .answer) (g .answer) v₁ s₁ v₂ s₂ voice (bitsOf speed weight threshold) (f .says) (g .says) in
+    (f .gives ∙ ap changedNumber (t .0) ∙ sym (g .gives), t .1, t .2)
+
+pub settings-get-call-one : (voices settings : List ℕ) (voice : ℕ) (speed weight threshold : Float) (r s : ℕ) (x₀ x₁ x₂ y₀ y₁ y₂ : Float)
+    → SettingsGetCallSays voices settings voice speed weight threshold r x₀ x₁ x₂ → SettingsGetCallSays voices settings voice speed weight threshold s y₀ y₁ y₂ → (r ≡ s) × (x₀ ≡ y₀) × (x₁ ≡ y₁) × (x₂ ≡ y₂)
+settings-get-call-one voices settings voice speed weight threshold r s x₀ x₁ x₂ y₀ y₁ y₂ f g =
+    let e : f .answer ≡ g .answer = get-one voices settings voice (f .answer) (g .answer) (f .says) (g .says) in
+    let p = f .gives in
+    let q = g .gives in
+    (p .answers ∙ ap gotNumber e ∙ sym (q .answers), p .first ∙ ap (λ a. handedFloat a (λ s. s .speed) speed) e ∙ sym (q .first), p .second ∙ ap (λ a. handedFloat a (λ s. s .weight) weight) e ∙ sym (q .second), p .third ∙ ap (λ a. handedFloat a (λ s. s .threshold) threshold) e ∙ sym (q .third))
+
+pub settings-remove-call-one : (voices settings : List ℕ) (voice r s : ℕ) (v₁ s₁ v₂ s₂ : List ℕ) → SettingsRemoveCallSays voices settings voice r v₁ s₁ → SettingsRemoveCallSays voices settings voice s v₂ s₂ → (r ≡ s) × (v₁ ≡ v₂) × (s₁ ≡ s₂)
+settings-remove-call-one voices settings voice r s v₁ s₁ v₂ s₂ f g =
+    let t = remove-one voices settings (f .answer) (g .answer) v₁ s₁ v₂ s₂ voice (f .says) (g .says) in
+    (f .gives ∙ ap changedNumber (t .0) ∙ sym (g .gives), t .1, t .2)
+
+pub settings-count-call-one : (voices : List ℕ) (held r s x y : ℕ) → SettingsCountCallSays voices held r x → SettingsCountCallSays voices held s y → (r ≡ s) × (x ≡ y)
+settings-count-call-one voices held r s x y f g = hands-one (counted (f .answer)) (counted (g .answer)) held r s x y (ap counted (count-one voices (f .answer) (g .answer) (f .says) (g .says))) (f .gives) (g .gives)
+
+pub settings-read-call-one : (voices settings bytes : List ℕ) (r s : ℕ) (v₁ s₁ v₂ s₂ : List ℕ) → SettingsReadCallSays voices settings bytes r v₁ s₁ → SettingsReadCallSays voices settings bytes s v₂ s₂ → (r ≡ s) × (v₁ ≡ v₂) × (s₁ ≡ s₂)
+settings-read-call-one voices settings bytes r s v₁ s₁ v₂ s₂ f g =
+    let t = read-one voices settings (f .answer) (g .answer) v₁ s₁ v₂ s₂ bytes (f .says) (g .says) in
+    (f .gives ∙ ap changedNumber (t .0) ∙ sym (g .gives), t .1, t .2)
+
+pub settings-write-call-one : (voices settings out : List ℕ) (written r s : ℕ) (o₁ o₂ : List ℕ) (x y : ℕ) → SettingsWriteCallSays voices settings out written r o₁ x → SettingsWriteCallSays voices settings out written s o₂ y → (r ≡ s) × (o₁ ≡ o₂) × (x ≡ y)
+settings-write-call-one voices settings out written r s o₁ o₂ x y f g =
+    let t = write-one voices settings out (f .answer) (g .answer) o₁ o₂ (f .says) (g .says) in
+    let h = hands-one (counted (f .answer)) (counted (g .answer)) written r s x y (ap counted (t .0)) (f .gives) (g .gives) in
+    (h .0, t .1, h .1)

@@ -5,8 +5,10 @@ ghost use mathlib.Core.Path.{_≡_};
 ghost use Rattle.duration.specs.Promise.{fitted, aligned};
 ghost use Rattle.lists.specs.Ends.{filled};
 ghost use Rattle.spool.specs.Promise.{placed, spanned};
+ghost use Rattle.settings.specs.Promise.{counted};
 ghost use Rattle.job.specs.Damage.{oldNumber};
 ghost use Rattle.job.specs.Promise.{answered};
+ghost use Rattle.hejmirov.specs.Settings.{HandsSettings, SettingsClearCallSays, SettingsSetCallSays, SettingsGetCallSays, SettingsRemoveCallSays, SettingsCountCallSays, SettingsReadCallSays, SettingsWriteCallSays};
 ghost use Rattle.hejmirov.specs.Promise.{HandsOne, HandsTwo, HandsJob, varianceOf, FitCallSays, SpeedCallSays, AlignCallSays, MaskCallSays, BandCallSays, TrajectoryCallSays, PlaceCallSays, ExcerptCallSays, JobCallSays, LinkBeginCallSays, LinkPartCallSays, LinkEndCallSays};
 use duration::Aligned;
 use duration::Fitted;
@@ -14,6 +16,9 @@ use job::Answered;
 use lists::Filled;
 use mlpg_adjust::GlobalVariance;
 use mlpg_adjust::Stream;
+use settings::Counted;
+use settings::Got;
+use settings::Settings;
 use spool::Placed;
 use spool::Span;
 
@@ -339,4 +344,136 @@ pub extern "C" fn hejmirov_link_end(
 {
     let answer = job::link::end(link, out, work);
     hand_out_job(answer, states, frames, changes, place)
+}
+
+// Makes every place of a store of settings free, whatever stood there.
+#[no_mangle]
+pub extern "C" fn hejmirov_settings_clear(voices: &mut [u32], settings: &mut [u64]) -> u32
+    ensures { λ r. ⌜ SettingsClearCallSays (now (voices .entry)) (now (settings .entry)) r (now (voices .exit)) (now (settings .exit)) ⌝ }
+{
+    let answer = settings::clear(voices, settings);
+    answer.number() as u32
+}
+
+// A voice's settings become these: in its place, or where it isn't held in the first that is free.
+#[no_mangle]
+pub extern "C" fn hejmirov_settings_set(
+    voices: &mut [u32],
+    settings: &mut [u64],
+    voice: u32,
+    speed: f64,
+    gv_weight: f64,
+    threshold: f64,
+) -> u32
+    ensures { λ r. ⌜ SettingsSetCallSays (now (voices .entry)) (now (settings .entry)) voice speed «gv_weight» threshold r (now (voices .exit)) (now (settings .exit)) ⌝ }
+{
+    let given = Settings {
+        speed: floats::bits_of(speed),
+        weight: floats::bits_of(gv_weight),
+        threshold: floats::bits_of(threshold),
+    };
+    let answer = settings::set(voices, settings, voice, given);
+    answer.number() as u32
+}
+
+// A voice's settings.
+#[no_mangle]
+pub extern "C" fn hejmirov_settings_get(
+    voices: &[u32],
+    settings: &[u64],
+    voice: u32,
+    speed: &mut f64,
+    gv_weight: &mut f64,
+    threshold: &mut f64,
+) -> u32
+    ensures { λ r. ⌜ SettingsGetCallSays (now (voices .entry)) (now (settings .entry)) voice (now (speed .entry)) (now («gv_weight» .entry)) (now (threshold .entry)) r (now (speed .exit)) (now («gv_weight» .exit)) (now (threshold .exit)) ⌝ }
+{
+    let answer = settings::get(voices, settings, voice);
+    hand_out_settings(answer, speed, gv_weight, threshold)
+}
+
+fn hand_out_settings(answer: Got, speed: &mut f64, weight: &mut f64, threshold: &mut f64) -> u32
+    ensures { λ r. ⌜ HandsSettings answer (now (speed .entry)) (now (weight .entry)) (now (threshold .entry)) r (now (speed .exit)) (now (weight .exit)) (now (threshold .exit)) ⌝ }
+{
+    match answer {
+        Got::Held(held) => {
+            *speed = floats::of_bits(held.speed);
+            *weight = floats::of_bits(held.weight);
+            *threshold = floats::of_bits(held.threshold);
+            0
+        }
+        Got::Refused(number) => number as u32,
+    }
+}
+
+// Frees the place of a voice.
+#[no_mangle]
+pub extern "C" fn hejmirov_settings_remove(
+    voices: &mut [u32],
+    settings: &mut [u64],
+    voice: u32,
+) -> u32
+    ensures { λ r. ⌜ SettingsRemoveCallSays (now (voices .entry)) (now (settings .entry)) voice r (now (voices .exit)) (now (settings .exit)) ⌝ }
+{
+    let answer = settings::remove(voices, settings, voice);
+    answer.number() as u32
+}
+
+// How many voices a store holds.
+#[no_mangle]
+pub extern "C" fn hejmirov_settings_count(voices: &[u32], held: &mut u32) -> u32
+    ensures { λ r. ⌜ SettingsCountCallSays (now (voices .entry)) (now (held .entry)) r (now (held .exit)) ⌝ }
+{
+    hand_out_count(settings::count(voices), held)
+}
+
+fn hand_out_count(answer: Counted, held: &mut u32) -> u32
+    ensures { λ r. ⌜ HandsOne (counted answer) (now (held .entry)) r (now (held .exit)) ⌝ }
+{
+    match answer {
+        Counted::Number(voices) => {
+            *held = voices;
+            0
+        }
+        Counted::Refused(number) => number as u32,
+    }
+}
+
+// The store becomes what a settings file says.
+#[no_mangle]
+pub extern "C" fn hejmirov_settings_read(
+    voices: &mut [u32],
+    settings: &mut [u64],
+    bytes: &[u8],
+) -> u32
+    ensures { λ r. ⌜ SettingsReadCallSays (now (voices .entry)) (now (settings .entry)) (now (bytes .entry)) r (now (voices .exit)) (now (settings .exit)) ⌝ }
+{
+    let answer = settings::file::read(voices, settings, bytes);
+    answer.number() as u32
+}
+
+// The settings file of a store.
+#[no_mangle]
+pub extern "C" fn hejmirov_settings_write(
+    voices: &[u32],
+    settings: &[u64],
+    out: &mut [u8],
+    written: &mut u64,
+) -> u32
+    ensures { λ r. ⌜ SettingsWriteCallSays (now (voices .entry)) (now (settings .entry)) (now (out .entry)) (now (written .entry)) r (now (out .exit)) (now (written .exit)) ⌝ }
+{
+    let answer = settings::file::write(voices, settings, out);
+    hand_out_length(answer, written)
+}
+
+fn hand_out_length(answer: Counted, written: &mut u64) -> u32
+    ensures { λ r. ⌜ HandsOne (counted answer) (now (written .entry)) r (now (written .exit)) ⌝ }
+{
+    match answer {
+        Counted::Number(bytes) => {
+            *written = bytes as u64;
+            0
+        }
+        Counted::Refused(number) => number as u32,
+    }
 }
