@@ -12,9 +12,11 @@
 #define DOUBLES(name) const double *name, size_t n_##name
 #define WHOLES(name) const uint32_t *name, size_t n_##name
 #define BYTES(name) const uint8_t *name, size_t n_##name
+#define LONGS(name) const uint64_t *name, size_t n_##name
 #define OUT_DOUBLES(name) double *name, size_t n_##name
 #define OUT_WHOLES(name) uint32_t *name, size_t n_##name
 #define OUT_BYTES(name) uint8_t *name, size_t n_##name
+#define OUT_LONGS(name) uint64_t *name, size_t n_##name
 
 #pragma weak hejmirov_fit
 uint32_t hejmirov_fit(DOUBLES(means), DOUBLES(varis), double frame_length, OUT_WHOLES(out),
@@ -56,11 +58,57 @@ uint32_t hejmirov_link_part(OUT_BYTES(link), BYTES(part));
 uint32_t hejmirov_link_end(OUT_BYTES(link), OUT_WHOLES(out), OUT_WHOLES(work), uint32_t *states,
                            uint32_t *frames, uint32_t *changes, uint64_t *place);
 
-enum { FIT = 3, SPEED, ALIGN, MASK, BAND, TRAJECTORY, PLACE, EXCERPT, JOB, LINK, OLD_NUMBER };
-enum { ANSWERED = 0, NO_SUCH_CALL = 3, STRAYED = 4, PARTED = 5 };
+#pragma weak hejmirov_settings_clear
+uint32_t hejmirov_settings_clear(OUT_WHOLES(voices), OUT_LONGS(settings));
+#pragma weak hejmirov_settings_set
+uint32_t hejmirov_settings_set(OUT_WHOLES(voices), OUT_LONGS(settings), uint32_t voice,
+                               double speed, double gv_weight, double threshold);
+#pragma weak hejmirov_settings_get
+uint32_t hejmirov_settings_get(WHOLES(voices), LONGS(settings), uint32_t voice, double *speed,
+                               double *gv_weight, double *threshold);
+#pragma weak hejmirov_settings_remove
+uint32_t hejmirov_settings_remove(OUT_WHOLES(voices), OUT_LONGS(settings), uint32_t voice);
+#pragma weak hejmirov_settings_count
+uint32_t hejmirov_settings_count(WHOLES(voices), uint32_t *held);
+#pragma weak hejmirov_settings_read
+uint32_t hejmirov_settings_read(OUT_WHOLES(voices), OUT_LONGS(settings), BYTES(bytes));
+#pragma weak hejmirov_settings_write
+uint32_t hejmirov_settings_write(WHOLES(voices), LONGS(settings), OUT_BYTES(out),
+                                 uint64_t *written);
+
+enum {
+    FIT = 3,
+    SPEED,
+    ALIGN,
+    MASK,
+    BAND,
+    TRAJECTORY,
+    PLACE,
+    EXCERPT,
+    JOB,
+    LINK,
+    OLD_NUMBER,
+    STORE,
+    SETTINGS_FILE
+};
+enum { ANSWERED = 0, NO_SUCH_CALL = 3, STRAYED = 4, PARTED = 5, LOST = 6 };
 
 /* The calls on a link's memory, as a case names them. */
 enum { LINK_BEGIN, LINK_PART, LINK_END };
+
+/* The calls on a store. */
+enum {
+    SETTINGS_CLEAR,
+    SETTINGS_SET,
+    SETTINGS_GET,
+    SETTINGS_REMOVE,
+    SETTINGS_COUNT,
+    SETTINGS_READ,
+    SETTINGS_WRITE
+};
+
+/* What a store has: places, with three settings each. */
+enum { PLACES = 256, EACH = 3, LARGEST_VOICE = 65535 };
 
 /* Numbers on both sides of each lent list that must stay as they are. */
 enum { GUARD = 8 };
@@ -219,6 +267,8 @@ static void put_list(const List *list) {
 #define OUT_D(list) (double *)pointer(list), list->count
 #define OUT_W(list) (uint32_t *)pointer(list), list->count
 #define OUT_B(list) (uint8_t *)pointer(list), list->count
+#define IN_L(list) (const uint64_t *)pointer(list), list->count
+#define OUT_L(list) (uint64_t *)pointer(list), list->count
 
 static const uint32_t untouched = 0xA5A5A5A5u;
 static const uint64_t untouched_long = 0xA5A5A5A5A5A5A5A5u;
@@ -428,6 +478,198 @@ static void run_link(void) {
     free(given.joined.bytes);
 }
 
+/* A store's two lists, and what stood there before a call. */
+typedef struct {
+    List *voices, *settings;
+    Buffer before;
+} Store;
+
+/* What a store's calls handed out: the values through pointers, and the written lists joined. */
+typedef struct {
+    Buffer refusals, got, held, written, out;
+} HandedOut;
+
+static List *lent_with(size_t element, View numbers) {
+    List *list = lent_of(element, numbers.count);
+    memcpy(list->numbers, numbers.items, list->size);
+    return list;
+}
+
+static bool holds_voice(const uint32_t *voices, size_t place) {
+    for (size_t earlier = 0; earlier < place; earlier++)
+        if (voices[earlier] == voices[place]) return false;
+    return voices[place] <= LARGEST_VOICE;
+}
+
+/* The first place from the given one on that holds a voice, or PLACES. */
+static size_t next_held(const uint32_t *voices, size_t place) {
+    while (place < PLACES && !holds_voice(voices, place)) place++;
+    return place;
+}
+
+/* Whether two stores hold the same voices in the same order, with the same settings. */
+static bool same_voices(const Store *one, const Store *other) {
+    const uint32_t *voices = (uint32_t *)one->voices->numbers;
+    const uint32_t *others = (uint32_t *)other->voices->numbers;
+    const uint64_t *settings = (uint64_t *)one->settings->numbers;
+    const uint64_t *their = (uint64_t *)other->settings->numbers;
+    size_t a = next_held(voices, 0), b = next_held(others, 0);
+    while (a < PLACES && b < PLACES) {
+        if (voices[a] != others[b]) return false;
+        if (memcmp(settings + EACH * a, their + EACH * b, EACH * sizeof *settings)) return false;
+        a = next_held(voices, a + 1);
+        b = next_held(others, b + 1);
+    }
+    return a == b;
+}
+
+/* Whether written bytes, read into a store with other voices, give the store that was written. */
+static bool reads_back(const Store *store, const List *out, uint64_t written) {
+    Store other = {lent_of(4, PLACES), lent_of(8, EACH * PLACES), {0}};
+    for (uint32_t place = 0; place < PLACES; place += 2)
+        memcpy(other.voices->numbers + place * sizeof place, &place, sizeof place);
+    return store->voices->count >= PLACES && store->settings->count >= EACH * PLACES &&
+           written <= out->count &&
+           hejmirov_settings_read(OUT_W(other.voices), OUT_L(other.settings), out->numbers,
+                                  written) == 0 &&
+           same_voices(store, &other);
+}
+
+static void remember(Store *store) {
+    store->before.size = 0;
+    append(&store->before, store->voices->numbers, store->voices->size);
+    append(&store->before, store->settings->numbers, store->settings->size);
+}
+
+static bool as_before(const Store *store) {
+    const uint8_t *before = store->before.bytes;
+    size_t size = store->voices->size;
+    if (store->before.size == 0) return true;
+    return memcmp(before, store->voices->numbers, size) == 0 &&
+           memcmp(before + size, store->settings->numbers, store->settings->size) == 0;
+}
+
+static uint32_t get_settings(const Store *store, uint32_t voice, HandedOut *left) {
+    double got[EACH];
+    for (size_t i = 0; i < EACH; i++) memcpy(&got[i], &untouched_long, sizeof got[i]);
+    uint32_t refusal = hejmirov_settings_get(IN_W(store->voices), IN_L(store->settings), voice,
+                                             &got[0], &got[1], &got[2]);
+    append(&left->got, got, sizeof got);
+    return refusal;
+}
+
+static uint32_t count_settings(const Store *store, HandedOut *left) {
+    uint32_t held = untouched;
+    uint32_t refusal = hejmirov_settings_count(IN_W(store->voices), &held);
+    append(&left->held, &held, sizeof held);
+    return refusal;
+}
+
+static uint32_t read_settings(const Store *store, size_t length) {
+    List *bytes = input_of(1, length);
+    return hejmirov_settings_read(OUT_W(store->voices), OUT_L(store->settings), IN_B(bytes));
+}
+
+static uint32_t write_settings(const Store *store, size_t room, HandedOut *left) {
+    List *out = lent_of(1, room);
+    uint64_t written = untouched_long;
+    uint32_t refusal = hejmirov_settings_write(IN_W(store->voices), IN_L(store->settings),
+                                               OUT_B(out), &written);
+    append(&left->written, &written, sizeof written);
+    append(&left->out, out->numbers, out->size);
+    if (refusal == 0 && !reads_back(store, out, written)) status = LOST;
+    return refusal;
+}
+
+/* Looks at what a call left, and gives its own lists back. */
+static void after_call(Store *store, size_t own, uint32_t refusal, bool may_change,
+                       HandedOut *left) {
+    append(&left->refusals, &refusal, sizeof refusal);
+    if ((refusal || !may_change) && !as_before(store)) status = STRAYED;
+    close_lists(own);
+}
+
+static void put_handed_out(const Store *store, HandedOut *left) {
+    put_items(&left->refusals, sizeof(uint32_t));
+    put_items(&left->got, sizeof(uint64_t));
+    put_items(&left->held, sizeof(uint32_t));
+    put_items(&left->written, sizeof(uint64_t));
+    put_items(&left->out, 1);
+    put_list(store->voices);
+    put_list(store->settings);
+    Buffer *own[] = {&left->refusals, &left->got, &left->held, &left->written, &left->out};
+    for (size_t i = 0; i < sizeof own / sizeof *own; i++) free(own[i]->bytes);
+    free(store->before.bytes);
+}
+
+static double next_f64(View *list) {
+    double number;
+    memcpy(&number, list->items, sizeof number);
+    list->items += sizeof number;
+    return number;
+}
+
+static uint32_t set_settings(const Store *store, uint32_t voice, View *given) {
+    double speed = next_f64(given), gv_weight = next_f64(given), threshold = next_f64(given);
+    return hejmirov_settings_set(OUT_W(store->voices), OUT_L(store->settings), voice, speed,
+                                 gv_weight, threshold);
+}
+
+static void run_store(void) {
+    View voices = view(4), settings = view(8), calls = view(1), numbers = view(4), given = view(8),
+         lengths = view(4), bytes = view(1), outs = view(4);
+    Store store = {lent_with(4, voices), lent_with(8, settings), {0}};
+    cursor = bytes.items; /* the files are taken from here */
+    HandedOut left = {0};
+    for (uint32_t i = 0; i < calls.count; i++) {
+        size_t own = n_lists;
+        uint32_t refusal = 0;
+        bool may_change = true;
+        remember(&store);
+        switch (calls.items[i]) {
+        case SETTINGS_CLEAR:
+            refusal = hejmirov_settings_clear(OUT_W(store.voices), OUT_L(store.settings));
+            break;
+        case SETTINGS_SET: refusal = set_settings(&store, next_u32(&numbers), &given); break;
+        case SETTINGS_GET:
+            refusal = get_settings(&store, next_u32(&numbers), &left);
+            may_change = false;
+            break;
+        case SETTINGS_REMOVE:
+            refusal = hejmirov_settings_remove(OUT_W(store.voices), OUT_L(store.settings),
+                                               next_u32(&numbers));
+            break;
+        case SETTINGS_COUNT:
+            refusal = count_settings(&store, &left);
+            may_change = false;
+            break;
+        case SETTINGS_READ: refusal = read_settings(&store, next_u32(&lengths)); break;
+        case SETTINGS_WRITE:
+            refusal = write_settings(&store, next_u32(&outs), &left);
+            may_change = false;
+            break;
+        }
+        after_call(&store, own, refusal, may_change, &left);
+    }
+    put_handed_out(&store, &left);
+}
+
+/* A file is read into a marked store, the voices are counted, and the store is written. */
+static void run_settings_file(void) {
+    View bytes = view(1);
+    Store store = {lent(4), lent(8), {0}};
+    uint32_t room = take_u32();
+    HandedOut left = {0};
+    size_t own = n_lists;
+    cursor = bytes.items;
+    remember(&store);
+    after_call(&store, own, read_settings(&store, bytes.count), true, &left);
+    remember(&store);
+    after_call(&store, own, count_settings(&store, &left), false, &left);
+    after_call(&store, own, write_settings(&store, room, &left), false, &left);
+    put_handed_out(&store, &left);
+}
+
 static bool there(uint8_t kind) {
     switch (kind) {
     case FIT: return hejmirov_fit;
@@ -442,6 +684,11 @@ static bool there(uint8_t kind) {
     /* An archive without that one has an older hejmirov_job, which tells no place. */
     case JOB: return hejmirov_job && there(OLD_NUMBER);
     case LINK: return hejmirov_link_begin && hejmirov_link_part && hejmirov_link_end && there(JOB);
+    case STORE:
+    case SETTINGS_FILE:
+        return hejmirov_settings_clear && hejmirov_settings_set && hejmirov_settings_get &&
+               hejmirov_settings_remove && hejmirov_settings_count && hejmirov_settings_read &&
+               hejmirov_settings_write;
     default: return false;
     }
 }
@@ -459,6 +706,8 @@ static void run(uint8_t kind) {
     case JOB: run_job(); break;
     case LINK: run_link(); break;
     case OLD_NUMBER: run_old_number(); break;
+    case STORE: run_store(); break;
+    case SETTINGS_FILE: run_settings_file(); break;
     }
 }
 
@@ -484,8 +733,9 @@ static void print_kinds(void) {
                                   [BAND] = "band",   [TRAJECTORY] = "trajectory",
                                   [PLACE] = "place", [EXCERPT] = "excerpt",
                                   [JOB] = "job",     [LINK] = "link",
-                                  [OLD_NUMBER] = "old_number"};
-    for (uint8_t kind = FIT; kind <= OLD_NUMBER; kind++)
+                                  [OLD_NUMBER] = "old_number",
+                                  [STORE] = "store", [SETTINGS_FILE] = "settings_file"};
+    for (uint8_t kind = FIT; kind <= SETTINGS_FILE; kind++)
         if (there(kind)) puts(names[kind]);
 }
 

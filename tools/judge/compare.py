@@ -2,23 +2,25 @@
 
 import struct
 from collections import Counter
+from collections.abc import Iterable, Iterator
 from dataclasses import dataclass, field
 from itertools import groupby
 
 from . import reading
 from .domain import Judge, answered, judge_of, oracle_answers, tail_of
-from .formats import KINDS, Case, Fields, decode, encode, encode_case
-from .programs import ANSWERED, PANICKED, PARTED, STRAYED, Program
+from .formats import KINDS, READ, Case, Fields, decode, encode, encode_case, store_calls
+from .programs import ANSWERED, LOST, PANICKED, PARTED, STRAYED, Program
 from .reading import jobs, links
 from .reading.durations import TooLong
 
-# As many equal bytes are told one by one.
+# As many equal bytes, or numbers of a list, are told one by one.
 LONG_RUN = 8
 
 FAILURES = {
     PANICKED: "panicked",
-    STRAYED: "wrote outside the lent lists, or into an input",
+    STRAYED: "wrote outside the lent lists, into an input, or into the store of a refused call",
     PARTED: "an end is not hejmirov_job's answer on the joined bytes",
+    LOST: "what was written is not read back as it was",
 }
 
 
@@ -55,14 +57,15 @@ def shown(value: object) -> str:
     if isinstance(value, float):
         return repr(value) if value == value else f"NaN {struct.pack('>d', value).hex()}"
     if isinstance(value, list):
-        return f"[{', '.join(map(shown, value))}]"
-    return shown_bytes(value) if isinstance(value, bytes) else str(value)
+        return f"[{', '.join(in_runs(map(shown, value)))}]"
+    return " ".join(in_runs(f"{byte:02x}" for byte in value)) if isinstance(value, bytes) else str(value)
 
 
-def shown_bytes(data: bytes) -> str:
-    """In hexadecimal, a long run of the same byte as its length."""
-    runs = [(f"{byte:02x}", len(list(run))) for byte, run in groupby(data)]
-    return " ".join(f"{byte}*{count}" if count > LONG_RUN else " ".join([byte] * count) for byte, count in runs)
+def in_runs(items: Iterable[str]) -> Iterator[str]:
+    """A long run of the same as its length."""
+    for item, run in groupby(items):
+        count = len(list(run))
+        yield from [f"{item}*{count}"] if count > LONG_RUN else [item] * count
 
 
 @dataclass
@@ -79,6 +82,11 @@ class Tally:
     jobs: int = 0
     accepted: int = 0
     link_refusals: Counter = field(default_factory=Counter)
+    # On stores: calls other than reads, and settings files that were read, with those that were refused.
+    on_stores: int = 0
+    store_refusals: Counter = field(default_factory=Counter)
+    files: int = 0
+    file_refusals: Counter = field(default_factory=Counter)
 
     def __str__(self) -> str:
         judged = ", ".join(f"{count} by {judge}" for judge, count in self.judged.items())
@@ -89,6 +97,10 @@ class Tally:
             line += f"; damaged jobs {', '.join(placed(number, at) for number, at in self.damaged.items() if at)}"
         if self.jobs:
             line += f"; over links {self.jobs} jobs, {self.accepted} accepted, calls refused {numbered(self.link_refusals)}"
+        if self.on_stores:
+            line += f"; on stores {self.on_stores} calls, refused {numbered(self.store_refusals)}"
+        if self.files:
+            line += f"; {self.files} settings files, refused {numbered(self.file_refusals)}"
         return line
 
 
@@ -127,7 +139,7 @@ class Comparison:
 
     def count(self, cases: list[Case], answers: Answers) -> None:
         """What no oracle judges; the others are counted where they are compared."""
-        for case, (refusal, _) in zip(cases, answers):
+        for case, (refusal, values) in zip(cases, answers):
             if refusal:
                 self.tally.refusals[refusal] += 1
             elif judge_of(case) == Judge.READING:
@@ -143,6 +155,16 @@ class Comparison:
                 self.tally.link_refusals.update(number for number in followed.refusals if number)
                 for end in followed.ends:
                     self.count_damage(end.job, end.refusal)
+            if case.kind in ("store", "settings_file"):
+                self.count_store(case, values["refusals"])
+
+    def count_store(self, case: Case, refusals: list[int]) -> None:
+        reads = [one.call == READ for one in store_calls(case)]
+        self.tally.files += sum(reads)
+        self.tally.on_stores += len(reads) - sum(reads)
+        for read, number in zip(reads, refusals):
+            if number:
+                (self.tally.file_refusals if read else self.tally.store_refusals)[number] += 1
 
     def count_damage(self, job: Case, refusal: int) -> None:
         if refusal in jobs.DAMAGES:

@@ -4,8 +4,10 @@ from collections.abc import Callable
 from itertools import groupby
 from random import Random
 
+from . import broken_settings
 from .broken_jobs import broken
-from .formats import KINDS, PART, ROOM, Case, LinkCall, link_calls, link_case
+from .formats import KINDS, PART, READ, ROOM, Case, LinkCall, StoreCall
+from .formats import link_calls, link_case, store_calls, store_case
 from .reading.ieee import MAX_FRAMES, NAN
 from .reading.refusals import MAX_STATES, MAX_V, MAX_WIDTH
 
@@ -105,9 +107,13 @@ def too_many_band_frames(rng: Random, case: Case) -> Case:
 
 
 def changed_bytes(rng: Random, case: Case) -> Case:
-    """A job's bytes damaged, or those of one that comes over a link."""
+    """A job's bytes damaged, or those of one that comes over a link; a settings file's, or those of one that a store reads."""
     if case.kind == "job":
         return case.with_fields(bytes=broken(rng, case["bytes"]))
+    if case.kind == "settings_file":
+        return case.with_fields(bytes=broken_settings.broken(rng, case["bytes"]))
+    if case.kind == "store":
+        return changed_file(rng, case)
     return changed_parts(rng, case) if case.kind == "link" else case
 
 
@@ -124,6 +130,38 @@ def changed_parts(rng: Random, case: Case) -> Case:
         calls[at], data = LinkCall(PART, part=data[:size]), data[size:]
     calls[last] = LinkCall(PART, part=data)
     return link_case(case["memory"], calls)
+
+
+def changed_file(rng: Random, case: Case) -> Case:
+    """One of the files that a store reads damaged."""
+    calls = store_calls(case)
+    reads = [at for at, one in enumerate(calls) if one.call == READ]
+    if not reads:
+        return case
+    at = rng.choice(reads)
+    calls[at] = StoreCall(READ, file=broken_settings.broken(rng, calls[at].file))
+    return store_case(case["voices"], case["settings"], calls)
+
+
+def other_store(rng: Random, case: Case) -> Case:
+    """One of a store's lists cut, longer, or with a number that stands elsewhere."""
+    name = rng.choice(["voices", "settings"])
+    numbers, how = list(case[name]), rng.randrange(3)
+    if how == 0:
+        del numbers[rng.choice([0, 1, len(numbers) - 1, len(numbers) // 2]) :]
+    elif how == 1 or not numbers:
+        numbers += [0] * rng.choice([1, 3, 100])
+    else:
+        numbers[rng.randrange(len(numbers))] = rng.choice(numbers)
+    return case.with_fields(**{name: numbers})
+
+
+def other_store_calls(rng: Random, case: Case) -> Case:
+    """A store's call left out, made twice or moved."""
+    calls = store_calls(case)
+    if calls:
+        rearrange(rng, calls, rng.randrange(len(calls)), rng.randrange(3))
+    return store_case(case["voices"], case["settings"], calls)
 
 
 def other_memory(rng: Random, case: Case) -> Case:
@@ -145,16 +183,22 @@ def other_calls(rng: Random, case: Case) -> Case:
     if not calls:
         return case
     place, how = rng.randrange(len(calls)), rng.randrange(4)
+    if how < 3:
+        rearrange(rng, calls, place, how)
+    else:
+        calls[place] = changed_call(rng, calls[place])
+    return link_case(case["memory"], calls)
+
+
+def rearrange(rng: Random, calls: list, place: int, how: int) -> None:
+    """A call left out, made twice or moved."""
     if how == 0:
         del calls[place]
     elif how == 1:
         calls.insert(place, calls[place])
-    elif how == 2:
+    else:
         moved = calls.pop(place)
         calls.insert(rng.randint(0, len(calls)), moved)
-    else:
-        calls[place] = changed_call(rng, calls[place])
-    return link_case(case["memory"], calls)
 
 
 def changed_call(rng: Random, call: LinkCall) -> LinkCall:
@@ -177,6 +221,8 @@ BY_KIND: dict[str, list[Damage]] = {
     "excerpt": [*GENERAL, too_many_states, too_many_frames, longer_trajectory],
     "job": [short_room, changed_bytes],
     "link": [other_memory, other_calls, other_calls, changed_bytes],
+    "store": [other_store, other_store_calls, changed_bytes],
+    "settings_file": [short_room, changed_bytes],
 }
 
 

@@ -4,7 +4,7 @@ from dataclasses import dataclass
 
 IEEE, PAIRS, DURATIONS = "ieee.py", "pairs.py", "durations.py"
 TRAJECTORY, PLACES, JOBS, LINKS = "trajectory.py", "places.py", "jobs.py", "links.py"
-REFUSALS, EXITS = "refusals.py", "exits.py"
+SETTINGS, REFUSALS, EXITS = "settings.py", "refusals.py", "exits.py"
 
 
 @dataclass(frozen=True)
@@ -24,6 +24,34 @@ WRONG = "            return Damage(number, place)"
 WHOLE = "        return Damage(WRONG_LENGTH, min(len(data), whole))  # where it ends, or the first byte too many"
 OLD = "    return WRONG_LENGTH if number in DAMAGES else number"
 PLACES_OF_ENDS = '        "places": [end["place"] for end in ends],'
+NAN_AS_ONE = "    return NAN_BITS if bits & SIZE_BITS > INFINITY else bits"
+FILE_MARK = "    if data[: len(MARK)] != MARK:"
+FILE_VERSION = '    return int.from_bytes(data[3:5], "little")'
+KNOWN_VERSION = "    if version not in RECORD:"
+FILE_LENGTH = "    if len(data) < HEAD or len(data) != HEAD + RECORD[version] * count_of(data):"
+RECORDS = "    return [(voice, [*settings, *missing]) for voice, *settings in read]"
+SHORT_STORE = "        return len(self.voices) < PLACES or len(self.settings) < EACH * PLACES"
+FREE_PLACE = "        return number > MAX_VOICE or self.voices.index(number) < place"
+HELD_PLACES = "        return [place for place in range(PLACES) if not self.is_free(place)]"
+FIRST_FREE = "        return next(filter(self.is_free, range(PLACES)), None)"
+OF_A_VOICE = "        return self.refusal(voice) or (0 if self.holds(voice) else NOT_HELD)"
+FULL_STORE = "        if place is None:"
+KEPT = "        self.put(place, voice, settings)"
+SET = "        return self.refusal(voice) or self.keep(voice, [with_one_nan(bits) for bits in floats])"
+GOT = "        return 0, [with_one_nan(bits) for bits in self.settings_of(self.place_of(voice))]"
+REMOVED = "            self.put(self.place_of(voice), FREE, [0] * EACH)"
+REMOVED_LATER = "            self.voices[:PLACES] = [FREE if other == voice else other for other in self.voices[:PLACES]]"
+COUNTED = "        return (TOO_SHORT, 0) if len(self.voices) < PLACES else (0, len(self.held()))"
+READ = "        number = TOO_SHORT if self.is_short() else damage(data)"
+NEW_STORE = "        new = Store(list(self.voices), list(self.settings))"
+RECORDS_KEPT = "        if any(new.keep(voice, settings) for voice, settings in records(data)):"
+REPLACED_BY_READ = "        self.voices, self.settings = new.voices, new.settings"
+WRITTEN_PLACES = "        held = self.held()"
+WRITTEN_RECORDS = (
+    '        kept = [struct.pack(f"<H{EACH}Q", self.voices[place], *self.settings_of(place)) for place in held]'
+)
+WRITTEN_HEAD = '        return MARK + struct.pack("<HH", WRITTEN_VERSION, len(held)) + b"".join(kept)'
+WRITTEN = '        return (TOO_SHORT, b"") if room < len(data) else (0, data)'
 
 FAULTS = [
     Fault("rounding to even", IEEE, HALF,
@@ -243,6 +271,163 @@ FAULTS = [
           "        return number == 0 or number > KEPT + 1", "        return number == 0 or number > KEPT"),
     Fault("a memory of a byte too few taken", LINKS,
           "        return len(self.memory) < SIZE", "        return len(self.memory) < SIZE - 1"),
+    Fault("a replaced voice moves to the end", SETTINGS, KEPT,
+          "        place = max(self.held() + [place]) if self.holds(voice) and self.remove(voice) == 0 else place;"
+          " self.put(place, voice, settings)"),
+    Fault("a voice set anew in the first free place", SETTINGS, "        if self.holds(voice):",
+          "        if self.holds(voice) and not any(map(self.is_free, range(self.place_of(voice)))):"),
+    Fault("the last free place", SETTINGS, FIRST_FREE,
+          "        return next(filter(self.is_free, reversed(range(PLACES))), None)"),
+    Fault("a new voice behind all others", SETTINGS, FIRST_FREE,
+          "        return next((place for place in range(max(self.held(), default=-1) + 1, PLACES)), None)"),
+    Fault("17 though the voice is held", SETTINGS, FULL_STORE, "        if len(self.held()) == PLACES:"),
+    Fault("17 with a repeated place in a full store", SETTINGS, FIRST_FREE,
+          "        return next((place for place in range(PLACES) if self.voices[place] > MAX_VOICE), None)"),
+    Fault("17 at 255 voices", SETTINGS, FULL_STORE,
+          "        if place is None or not self.holds(voice) and len(self.held()) == PLACES - 1:"),
+    Fault("a full store takes a voice in its last place", SETTINGS, FIRST_FREE,
+          "        return next(filter(self.is_free, range(PLACES)), PLACES - 1)"),
+    Fault("a repeated number counted twice", SETTINGS, COUNTED,
+          "        return (TOO_SHORT, 0) if len(self.voices) < PLACES else"
+          " (0, sum(number <= MAX_VOICE for number in self.voices[:PLACES]))"),
+    Fault("a repeated number held at both places", SETTINGS, FREE_PLACE, "        return number > MAX_VOICE"),
+    Fault("the last of two places with one number counts", SETTINGS, "        return self.voices.index(voice)",
+          "        return PLACES - 1 - self.voices[:PLACES][::-1].index(voice)"),
+    Fault("free by 4,294,967,295 alone", SETTINGS, FREE_PLACE,
+          "        return number == FREE or self.voices.index(number) < place"),
+    Fault("the voice 65,535 free", SETTINGS, FREE_PLACE,
+          "        return number >= MAX_VOICE or self.voices.index(number) < place"),
+    Fault("the voice 0 free", SETTINGS, FREE_PLACE,
+          "        return number > MAX_VOICE or number == 0 or self.voices.index(number) < place"),
+    Fault("the voice 65,535 refused", SETTINGS, "        if voice > MAX_VOICE:", "        if voice >= MAX_VOICE:"),
+    Fault("a voice above 65,535 not held", SETTINGS, OF_A_VOICE,
+          "        return 19 if voice > MAX_VOICE else self.refusal(voice) or (0 if self.holds(voice) else NOT_HELD)"),
+    Fault("6 before 3", SETTINGS, "        if voice > MAX_VOICE:",
+          "        if voice > MAX_VOICE and not self.is_short():"),
+    Fault("19 before 6", SETTINGS, OF_A_VOICE,
+          "        return self.refusal(voice) if voice > MAX_VOICE or self.holds(voice) else NOT_HELD"),
+    Fault("a store of 255 numbers taken", SETTINGS, COUNTED,
+          "        return (TOO_SHORT, 0) if len(self.voices) < PLACES - 1 else"
+          " (0, len({number for number in self.voices[:PLACES] if number <= MAX_VOICE}))"),
+    Fault("a store of 767 settings taken", SETTINGS, SHORT_STORE,
+          "        return len(self.voices) < PLACES or len(self.settings) < EACH * PLACES - 1"),
+    Fault("the numbers alone looked at for a short store", SETTINGS, SHORT_STORE,
+          "        return len(self.voices) < PLACES"),
+    Fault("a longer store refused", SETTINGS, SHORT_STORE,
+          "        return len(self.voices) != PLACES or len(self.settings) != EACH * PLACES"),
+    Fault("a voice found behind the store", SETTINGS, "        return voice in self.voices[:PLACES]",
+          "        return voice in self.voices"),
+    Fault("behind the store cleared", SETTINGS,
+          "        self.settings[: EACH * PLACES] = [0] * (EACH * PLACES)",
+          "        self.settings[:] = [0] * len(self.settings)"),
+    Fault("clear leaves the settings", SETTINGS,
+          "        self.settings[: EACH * PLACES] = [0] * (EACH * PLACES)", "        pass"),
+    Fault("NaN payload kept by set", SETTINGS, SET,
+          "        return self.refusal(voice) or self.keep(voice, list(floats))"),
+    Fault("NaN payload kept by get", SETTINGS, GOT, "        return 0, self.settings_of(self.place_of(voice))"),
+    Fault("an infinity as NaN", SETTINGS, NAN_AS_ONE,
+          "    return NAN_BITS if bits & SIZE_BITS >= INFINITY else bits"),
+    Fault("a NaN's sign kept", SETTINGS, NAN_AS_ONE,
+          "    return NAN_BITS | bits & ~SIZE_BITS if bits & SIZE_BITS > INFINITY else bits"),
+    Fault("settings in the wrong order", SETTINGS, KEPT,
+          "        self.put(place, voice, [settings[1], settings[0], settings[2]])"),
+    Fault("get's settings in the wrong order", SETTINGS, GOT,
+          "        return 0, [with_one_nan(bits) for bits in self.settings_of(self.place_of(voice))][::-1]"),
+    Fault("remove leaves the later place", SETTINGS, REMOVED_LATER, "            pass"),
+    Fault("remove passes over all but the next place with the number", SETTINGS, REMOVED_LATER,
+          "            if self.holds(voice): self.voices[self.place_of(voice)] = FREE"),
+    Fault("a removed place's settings not zeroed", SETTINGS, REMOVED,
+          "            self.voices[self.place_of(voice)] = FREE"),
+    Fault("a later place's settings zeroed by remove", SETTINGS, REMOVED,
+          "            [self.put(place, FREE, [0] * EACH) for place in range(PLACES) if self.voices[place] == voice]"),
+    Fault("the places behind a removed one close up", SETTINGS, REMOVED,
+          "            place = self.place_of(voice); self.voices[place:PLACES] = [*self.voices[place + 1 : PLACES], FREE];"
+          " self.settings[EACH * place : EACH * PLACES] ="
+          " [*self.settings[EACH * (place + 1) : EACH * PLACES], 0, 0, 0]"),
+    Fault("a removed voice's number made 65,536", SETTINGS, REMOVED,
+          "            self.put(self.place_of(voice), MAX_VOICE + 1, [0] * EACH)"),
+    Fault("version 1's threshold 0", SETTINGS,
+          "MISSING = {1: [0x3FE0000000000000], 2: []}  # a threshold of 0.5", "MISSING = {1: [0], 2: []}"),
+    Fault("a later version read as 2", SETTINGS, FILE_VERSION,
+          '    return min(int.from_bytes(data[3:5], "little"), 2)'),
+    Fault("a settings file's version in 8 bits", SETTINGS, FILE_VERSION, "    return data[3]"),
+    Fault("a settings file's count in 8 bits", SETTINGS,
+          '    return int.from_bytes(data[5:7], "little")', "    return data[5]"),
+    Fault("a settings file's mark in any letters", SETTINGS, FILE_MARK,
+          "    if data[: len(MARK)].upper() != MARK:"),
+    Fault("two bytes of the mark looked at", SETTINGS, FILE_MARK, "    if data[:2] != MARK[:2] or len(data) < 3:"),
+    Fault("16 before a wrong mark's 18", SETTINGS, FILE_MARK,
+          "    if len(data) >= VERSION_END and version_of(data) not in RECORD: return UNKNOWN_VERSION\n"
+          "    if data[: len(MARK)] != MARK:"),
+    Fault("16 for a version that is cut", SETTINGS, "    if len(data) < VERSION_END:",
+          "    if len(data) == VERSION_END - 1: return UNKNOWN_VERSION\n    if len(data) < VERSION_END:"),
+    Fault("16 for half a version other than 1 and 2", SETTINGS, "    if len(data) < VERSION_END:",
+          "    if len(data) == 4 and data[3] not in RECORD: return UNKNOWN_VERSION\n    if len(data) < VERSION_END:"),
+    Fault("18 for a file that ends in its head before 16", SETTINGS, KNOWN_VERSION,
+          "    if len(data) < HEAD: return MALFORMED\n    if version not in RECORD:"),
+    Fault("18 for a length of neither version before 16", SETTINGS, KNOWN_VERSION,
+          "    if all(len(data) != HEAD + size * count_of(data) for size in RECORD.values()): return MALFORMED\n"
+          "    if version not in RECORD:"),
+    Fault("17 before 18 for the length", SETTINGS, FILE_LENGTH,
+          '    if len({*struct.iter_unpack(f"<H{RECORD[version] - 2}x", data[HEAD : len(data) - (len(data) - HEAD)'
+          " % RECORD[version]])}) > PLACES: return FULL\n" + FILE_LENGTH),
+    Fault("17 before 16", SETTINGS, KNOWN_VERSION,
+          '    if len({*struct.iter_unpack("<H24x", data[HEAD : len(data) - (len(data) - HEAD) % 26])}) > PLACES:'
+          " return FULL\n    if version not in RECORD:"),
+    Fault("17 by the count of records", SETTINGS, RECORDS_KEPT,
+          "        if count_of(data) > PLACES or any(new.keep(voice, settings) for voice, settings in records(data)):"),
+    Fault("17 by the count before 18", SETTINGS, FILE_LENGTH,
+          "    if len(data) >= HEAD and count_of(data) > PLACES: return FULL\n" + FILE_LENGTH),
+    Fault("the voices beyond 256 passed over", SETTINGS, RECORDS_KEPT,
+          "        if [new.keep(voice, settings) for voice, settings in records(data)] is None:"),
+    Fault("surplus bytes of a settings file passed over", SETTINGS, FILE_LENGTH,
+          "    if len(data) < HEAD or len(data) < HEAD + RECORD[version] * count_of(data):"),
+    Fault("a settings file's records by its length", SETTINGS, FILE_LENGTH,
+          "    if len(data) < HEAD or (len(data) - HEAD) % RECORD[version]:"),
+    Fault("a short record at the end passed over", SETTINGS, FILE_LENGTH,
+          "    if len(data) < HEAD or (len(data) - HEAD) // RECORD[version] != count_of(data):"),
+    Fault("6 after 18", SETTINGS, READ,
+          "        number = damage(data) if damage(data) == 18 or not self.is_short() else TOO_SHORT"),
+    Fault("6 after 16", SETTINGS, READ,
+          "        number = damage(data) if damage(data) == 16 or not self.is_short() else TOO_SHORT"),
+    Fault("a refused read that leaves half of the records", SETTINGS, NEW_STORE, "        new = self"),
+    Fault("a refused read clears", SETTINGS, READ,
+          "        number = TOO_SHORT if self.is_short() else damage(data); number and self.clear()"),
+    Fault("read without clearing", SETTINGS, "        new.clear()", "        pass"),
+    Fault("read leaves the settings of free places", SETTINGS, "        new.clear()",
+          "        new.voices[:PLACES] = [FREE] * PLACES"),
+    Fault("read drops what is behind the store", SETTINGS, REPLACED_BY_READ,
+          "        self.voices, self.settings = new.voices[:PLACES], new.settings[: EACH * PLACES]"),
+    Fault("the earlier record of a voice counts", SETTINGS, RECORDS_KEPT,
+          "        if any(new.keep(voice, settings) for voice, settings in records(data) if not new.holds(voice)):"),
+    Fault("NaN made one by read", SETTINGS, RECORDS,
+          "    return [(voice, [*map(with_one_nan, settings), *missing]) for voice, *settings in read]"),
+    Fault("NaN made one by write", SETTINGS, WRITTEN_RECORDS,
+          '        kept = [struct.pack(f"<H{EACH}Q", self.voices[place], *map(with_one_nan, self.settings_of(place)))'
+          " for place in held]"),
+    Fault("a written hole", SETTINGS, WRITTEN_PLACES,
+          "        held = [*range(max(self.held(), default=-1) + 1)]; self = Store([v % 2**16 for v in self.voices], self.settings)"),
+    Fault("written in the order of numbers", SETTINGS, WRITTEN_PLACES,
+          "        held = sorted(self.held(), key=lambda place: self.voices[place])"),
+    Fault("written from the last place to the first", SETTINGS, WRITTEN_PLACES, "        held = self.held()[::-1]"),
+    Fault("written threshold dropped", SETTINGS, WRITTEN_RECORDS,
+          '        kept = [struct.pack("<H2Q", self.voices[place], *self.settings_of(place)[:2]) for place in held]'),
+    Fault("version 1 written", SETTINGS, WRITTEN_HEAD,
+          '        return MARK + struct.pack("<HH", 1, len(held)) + b"".join(kept)'),
+    Fault("a written count in 8 bits", SETTINGS, WRITTEN_HEAD,
+          '        return MARK + struct.pack("<HH", WRITTEN_VERSION, len(held) % 256) + b"".join(kept)'),
+    Fault("an output too short by one taken", SETTINGS, WRITTEN,
+          '        return (TOO_SHORT, b"") if room < len(data) - 1 else (0, data)'),
+    Fault("an output of the exact length refused", SETTINGS, WRITTEN,
+          '        return (TOO_SHORT, b"") if room <= len(data) else (0, data)'),
+    Fault("the rest of the output zeroed", SETTINGS, "    left.out += data + marked_bytes(len(data), one.room)",
+          "    left.out += data.ljust(one.room, b'\\0') if data else marked_bytes(0, one.room)"),
+    Fault("the written length for a refused write", SETTINGS,
+          "    left.written.append(UNTOUCHED_U64 if number else len(data))", "    left.written.append(len(data))"),
+    Fault("the count handed out in a short store", SETTINGS,
+          "        left.held.append(UNTOUCHED_U32 if number else held)", "        left.held.append(held)"),
+    Fault("zeros handed out for a voice that is not held", SETTINGS,
+          "        left.got += got or [UNTOUCHED_U64] * EACH", "        left.got += got or [0] * EACH"),
     Fault("the largest refusal that applies", REFUSALS,
           "    return next((number for number in sorted(checks) if checks[number]()), 0)",
           "    return next((number for number in sorted(checks, reverse=True) if checks[number]()), 0)"),

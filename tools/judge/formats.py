@@ -26,6 +26,16 @@ def marked_f64(first: int, end: int) -> list[float]:
     return [-1e6 - place for place in range(first, end)]
 
 
+def marked_bits(end: int) -> list[int]:
+    """Those floats as 64-bit patterns."""
+    return list(struct.unpack(f"<{end}Q", struct.pack(f"<{end}d", *marked_f64(0, end))))
+
+
+def marked_bytes(first: int, end: int) -> bytes:
+    """What the driver puts into places first.. of a lent list of bytes."""
+    return bytes(place % 256 for place in range(first, end))
+
+
 @dataclass(frozen=True)
 class Kind:
     """One kind of case: what goes in, what it computes, and all that a C call leaves at exit."""
@@ -41,6 +51,9 @@ PAIRS = [("means", "f64s"), ("varis", "f64s")]
 FIT_ROOM = [("out", ROOM), ("work", ROOM)]
 FIT_EXIT = [("out", "u32s"), ("work", "u32s")]
 REFUSAL = ("refusal", "u32")
+STORE = [("voices", "u32s"), ("settings", "u64s")]
+# A refusal a call; of every get three patterns, count and write the values through pointers; the writes' lists joined.
+STORE_EXIT = [("refusals", "u32s"), ("got", "u64s"), ("held", "u32s"), ("written", "u64s"), ("out", "u8s"), *STORE]
 
 KINDS = {
     "float": Kind(0, [("operation", "u8"), ("a", "f64"), ("b", "f64")], [("answer", "f64")]),
@@ -123,6 +136,21 @@ KINDS = {
         + [("places", "u64s"), *FIT_EXIT, ("memory", "u8s")],
     ),
     "old_number": Kind(13, [("number", "u32")], [("old", "u32")], [("old", "u32")]),
+    "store": Kind(
+        14,
+        # One call a byte of `calls`; the voice of each that has one; three patterns a set; the files' lengths and
+        # joined bytes; each write's room.
+        [*STORE, ("calls", "u8s"), ("numbers", "u32s"), ("given", "u64s")]
+        + [("lengths", "u32s"), ("bytes", "u8s"), ("out", "u32s")],
+        STORE_EXIT,
+        STORE_EXIT,
+    ),
+    "settings_file": Kind(
+        15,
+        [("bytes", "u8s"), ("voices", ROOM), ("settings", ROOM), ("out", ROOM)],
+        STORE_EXIT,
+        STORE_EXIT,
+    ),
 }
 
 
@@ -176,6 +204,60 @@ def link_calls(case: Case) -> list[LinkCall]:
         else:
             calls.append(LinkCall(BEGIN))
     return calls
+
+
+# The calls on a store, as a case names them.
+CLEAR, SET, GET, REMOVE, COUNT, READ, WRITE = range(7)
+OF_A_VOICE = (SET, GET, REMOVE)
+
+
+@dataclass(frozen=True)
+class StoreCall:
+    call: int
+    voice: int = 0  # of a set, get or remove
+    given: tuple[int, ...] = (0, 0, 0)  # of a set
+    file: bytes = b""  # of a read
+    room: int = 0  # of a write
+
+
+def store_case(voices: list[int], settings: list[int], calls: list[StoreCall]) -> Case:
+    files = [one.file for one in calls if one.call == READ]
+    return Case("store", {
+        "voices": voices,
+        "settings": settings,
+        "calls": bytes(one.call for one in calls),
+        "numbers": [one.voice for one in calls if one.call in OF_A_VOICE],
+        "given": [bits for one in calls if one.call == SET for bits in one.given],
+        "lengths": [len(file) for file in files],
+        "bytes": b"".join(files),
+        "out": [one.room for one in calls if one.call == WRITE],
+    })
+
+
+def store_calls(case: Case) -> list[StoreCall]:
+    """A settings file is read, the voices are counted, and the store is written."""
+    if case.kind == "settings_file":
+        return [StoreCall(READ, file=case["bytes"]), StoreCall(COUNT), StoreCall(WRITE, room=case["out"])]
+    numbers, given, lengths, rooms = (iter(case[name]) for name in ("numbers", "given", "lengths", "out"))
+    calls, first = [], 0
+    for call in case["calls"]:
+        voice = next(numbers) if call in OF_A_VOICE else 0
+        if call == SET:
+            calls.append(StoreCall(SET, voice, given=(next(given), next(given), next(given))))
+        elif call == READ:
+            last = first + next(lengths)
+            calls.append(StoreCall(READ, file=case["bytes"][first:last]))
+            first = last
+        else:
+            calls.append(StoreCall(call, voice, room=next(rooms) if call == WRITE else 0))
+    return calls
+
+
+def store_at_entry(case: Case) -> tuple[list[int], list[int]]:
+    """The numbers of the voices and the settings; a settings file's store is marked."""
+    if case.kind == "settings_file":
+        return marked_u32(0, case["voices"]), marked_bits(case["settings"])
+    return list(case["voices"]), list(case["settings"])
 
 
 def encode(schema: Schema, fields: Fields) -> bytes:

@@ -1,14 +1,20 @@
 """Cuts a case down to the smallest that still shows a difference."""
 
 from collections.abc import Callable, Iterator
+from dataclasses import replace
+from functools import partial
 
 from .broken_jobs import COUNT_AT, SPEED_AT, count_of, put, put_number
-from .formats import END, KINDS, PART, ROOM, Case, LinkCall, link_calls, link_case
+from .formats import END, KINDS, PART, ROOM, Case, LinkCall, StoreCall, link_calls, link_case, store_calls, store_case
+from .reading import settings
 from .reading.jobs import HEAD, PAIR
 
 # Which lists hold one number a state, so that a state leaves them all at once.
 STATE_LISTS = ("means", "varis", "weights", "durations", "switches")
 SIMPLE = [0.0, 1.0, 2.0]
+
+# So many numbers of a store, or records of a settings file, are tried one by one.
+FEW = 8
 
 
 def without_states(case: Case) -> Iterator[Case]:
@@ -186,10 +192,86 @@ def plainer_memory(case: Case) -> Iterator[Case]:
         yield case.with_fields(memory=memory[:length])
 
 
+def fewer_store_calls(case: Case) -> Iterator[Case]:
+    """A store's calls without half of them, or without one."""
+    calls = store_calls(case)
+    for size in sorted({len(calls) // 2, 1} - {0}, reverse=True) if calls else ():
+        for first in range(0, len(calls), size):
+            yield store_case(case["voices"], case["settings"], without(calls, first, size))
+
+
+def zeroed_settings(data: bytes, record: int) -> bytes:
+    """A settings file's records with their voices alone."""
+    places = range(settings.HEAD, len(data), record)
+    return data[: settings.HEAD] + b"".join(data[place : place + 2].ljust(record, b"\0") for place in places)
+
+
+def smaller_file(data: bytes) -> Iterator[bytes]:
+    """A settings file that is cut, has fewer records, more zeros or a sound byte in front."""
+    yield from (data[:length] for length in smaller_wholes(len(data)))
+    record, old = settings.RECORD.get(settings.version_of(data), 1), settings.count_of(data)
+    for count in smaller_wholes(old):
+        fewer = put_number(data, COUNT_AT, count)
+        yield fewer
+        for first in range(count + 1) if count < FEW else (0, count // 2, count):
+            yield without(fewer, settings.HEAD + record * first, record * (old - count))
+    yield from (put(data, place, sound) for place, sound in enumerate([b"V", b"S", b"T", b"\x02", b"\0"]))
+    yield zeroed_settings(data, record)[: len(data)]
+    if len(data) <= 100:
+        yield from (put(data, place, b"\0") for place in range(settings.HEAD, len(data)))
+
+
+def smaller_store_call(one: StoreCall) -> Iterator[StoreCall]:
+    yield from (replace(one, voice=voice) for voice in smaller_wholes(one.voice))
+    yield from (replace(one, room=room) for room in smaller_wholes(one.room))
+    yield from (replace(one, file=file) for file in smaller_file(one.file))
+    for place in range(len(one.given)):
+        yield replace(one, given=(*one.given[:place], 0, *one.given[place + 1 :]))
+
+
+def smaller_store_calls(case: Case) -> Iterator[Case]:
+    """A store's calls with one that is smaller."""
+    calls = store_calls(case)
+    for place, one in enumerate(calls):
+        for less in smaller_store_call(one):
+            yield store_case(case["voices"], case["settings"], [*calls[:place], less, *calls[place + 1 :]])
+
+
+def plainer_store(size: int, case: Case) -> Iterator[Case]:
+    """A store with so many numbers free, or so many settings zeros."""
+    for name, plain in (("voices", settings.FREE), ("settings", 0)):
+        old = case[name]
+        for first in range(0, len(old), size):
+            plainer = [plain] * len(old[first : first + size])
+            if old[first : first + size] != plainer:
+                yield case.with_fields(**{name: [*old[:first], *plainer, *old[first + size :]]})
+
+
+def smaller_store(case: Case) -> Iterator[Case]:
+    """A store whose lists are shorter, or with a smaller number."""
+    for name in ("voices", "settings"):
+        yield from (case.with_fields(**{name: case[name][:length]}) for length in smaller_wholes(len(case[name])))
+    held = [place for place, number in enumerate(case["voices"]) if number != settings.FREE]
+    for place in held[:FEW]:
+        for less in smaller_wholes(case["voices"][place]):
+            yield case.with_fields(voices=[*case["voices"][:place], less, *case["voices"][place + 1 :]])
+
+
+def smaller_settings_file(case: Case) -> Iterator[Case]:
+    yield from (case.with_fields(bytes=file) for file in smaller_file(case["bytes"]))
+
+
 GENERAL = (without_states, narrower, shorter_lists, smaller_numbers)
 BY_KIND = {
     "job": (smaller_job, smaller_numbers),
     "link": (fewer_calls, smaller_calls, plainer_memory),
+    "store": (
+        fewer_store_calls,
+        *[partial(plainer_store, size) for size in (1024, 128, 16, 4, 1)],
+        smaller_store_calls,
+        smaller_store,
+    ),
+    "settings_file": (smaller_settings_file, smaller_numbers),
 }
 
 

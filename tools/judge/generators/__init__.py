@@ -5,7 +5,7 @@ from random import Random
 
 from .. import damage
 from ..formats import Case
-from . import durations, links, operations, spool, trajectories
+from . import durations, links, operations, settings, spool, trajectories
 from .common import with_odd_nan
 
 GENERATORS: dict[str, Callable[[Random, bool], Case]] = {
@@ -23,6 +23,8 @@ GENERATORS: dict[str, Callable[[Random, bool], Case]] = {
     "job": spool.job_case,
     "link": links.a_link,
     "old_number": spool.old_number_case,
+    "store": settings.store_case_of,
+    "settings_file": settings.settings_file_case,
 }
 
 # Fits with many steps to take and many ties.
@@ -48,7 +50,7 @@ def make(seed: int, kind: str, index: int) -> Case:
 
 
 def make_damaged(seed: int, kind: str, index: int) -> Case:
-    """A damaged case; of a job, or of one that comes over a link, the bytes are, whatever else is."""
+    """A damaged case; the bytes of a job, over a link too, and of a settings file are, whatever else is."""
     rng = Random(f"{seed} {kind} {index}")
     case = GENERATORS[kind](rng, False)
     return damage.damaged(rng, damage.changed_bytes(rng, case))

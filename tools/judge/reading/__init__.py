@@ -5,7 +5,7 @@
 """
 
 from ..formats import Case, Fields
-from . import durations, exits, ieee, jobs, links, pairs, places, refusals, trajectory
+from . import durations, exits, ieee, jobs, links, pairs, places, refusals, settings, trajectory
 from .durations import Refused
 
 at_exit = exits.at_exit
@@ -25,6 +25,8 @@ ANSWERS = {
     "job": jobs.job_values,
     "link": links.link_values,
     "old_number": jobs.old_number_values,
+    "store": settings.store_values,
+    "settings_file": settings.store_values,
 }
 
 

@@ -101,6 +101,8 @@ def at_exit(case: Case, refusal: int, values: Fields) -> Fields:
     """All that a C call leaves, from its refusal number or its values."""
     if case.kind == "link":
         return link_exit(case, values)
+    if case.kind in ("store", "settings_file"):
+        return values
     fields = untouched(case)
     if refusal == 0:
         fields |= EXITS[case.kind](case, values)

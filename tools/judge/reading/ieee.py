@@ -70,7 +70,7 @@ def one_nan(value: Any) -> Any:
     if isinstance(value, float):
         return value if value == value else NAN
     if isinstance(value, list):
-        return [one_nan(item) for item in value]
+        return [one_nan(item) for item in value] if value and isinstance(value[0], float) else value
     if isinstance(value, dict):
         return {name: one_nan(item) for name, item in value.items()}
     return value
