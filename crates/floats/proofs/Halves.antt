@@ -1,7 +1,7 @@
 -- Rounding to the nearest whole number, halves upward.
 use mathlib.Core.Path.{_≡_, refl, sym, ap, _∙_}
 use Prim.Native.Nat.{ℕ, zero, suc, _+_, _*_, _/_, _^_, _≤_, _<_}
-use native.Mathlib.Nat.{mul-assoc, mul-comm, mul-left-comm, add-mul, mul-pos, add-div-right, div-div-eq-div-mul, div-eq-of-lt, le-div-iff-mul-le, le-of-eq, lt-of-le-of-lt, lt-of-lt-of-le, pow-succ'}
+use native.Mathlib.Nat.{mul-assoc, mul-comm, mul-left-comm, add-mul, mul-pos, add-div-right, div-div-eq-div-mul, div-eq-of-lt, div-le-self, le-div-iff-mul-le, le-of-eq, lt-of-le-of-lt, lt-of-lt-of-le, pow-succ'}
 use native.Mathlib.Omega.{arith}
 use lib.Pow.{pow-mono, shl-lt}
 use lib.Ieee.Nearest.{div-same}
@@ -22,6 +22,10 @@ cross a b c d e =
 pub half-same : (a b c d : ℕ) → 0 < b → 0 < d → a * d ≡ c * b → nearestHalf a b ≡ nearestHalf c d
 unfolding nearestHalf
 half-same a b c d B D e = div-same (2 * a + b) (2 * b) (2 * c + d) (2 * d) (mul-pos two-pos B) (mul-pos two-pos D) (cross a b c d e)
+
+-- so many halves and one more fit 64 bits
+pub one-more-fits : (n k : ℕ) → n < 2 ^ 54 → n / k + 1 < 2 ^ 64
+one-more-fits n k h = omega (arith, div-le-self n k)
 
 -- below a half it is 0
 pub half-small : (a c : ℕ) → 2 * a < c → nearestHalf a c ≡ 0

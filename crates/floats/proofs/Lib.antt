@@ -10,3 +10,4 @@ pub mod Roots
 pub mod Claims
 pub mod Closest
 pub mod Ordered
+pub mod Casts

@@ -5,11 +5,9 @@ use mathlib.Core.List.{List, [], _∷_, map}
 use Prim.Native.Nat.{ℕ, suc, _+_, _<_, _≤_}
 use native.Mathlib.Numerals.{add-one}
 use native.Mathlib.Omega.{arith}
-use lib.Dec.{T, le→leb}
-use lib.IntN.{pos}
 use lib.ListN.{length, getD, drop, drop-of-length-le, length-map, List·getD-map}
 use lib.Seq.{drop-cons}
-use lib.Ieee.{Float, nan, binary64, add, inFloat}
+use lib.Ieee.{Float, nan, binary64, add}
 use Rattle.lists.specs.Build.{foldFrom}
 use Rattle.lists.specs.Frames.{select, count}
 use Rattle.lists.specs.Flags.{isOn}
@@ -19,11 +17,6 @@ use Rattle.region.specs.Rows.{elem}
 use Rattle.gv.specs.Gv.{sumFromFirst}
 use Rattle.gv.specs.Inner.Turns.{firstOn, joined, Sampled}
 use Rattle.gv.specs.declared.MlpgGlobalVariance.{MlpgGlobalVariance}
-
--- a whole number up to 2 ^ 53 is a float
-pub exact : (n : ℕ) → n ≤ 9007199254740992 → T (inFloat binary64 (pos n))
-unfolding inFloat
-exact n h = le→leb n 9007199254740992 h
 
 pub switch-off : (on : List ℕ) (t : ℕ) → getD on t 0 ≡ 0 → false ≡ getD (map isOn on) t false
 switch-off on t e = sym (List·getD-map isOn on t 0 ∙ rw e)

@@ -1,3 +1,2 @@
--- The laws that the proofs of reading and printing cite.
-pub mod Reading
+-- The laws that the proofs of printing cite.
 pub mod Printing

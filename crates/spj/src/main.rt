@@ -1,7 +1,9 @@
 // Answers the job file that its argument names, or standard input, as a file or as a serial link.
 ghost use lib.ListN.{length};
-ghost use Rattle.spj.specs.Reading.{Within, pieceBytes};
+ghost use Rattle.files.specs.Reading.{Within};
+ghost use Rattle.spj.specs.Reading.{pieceBytes};
 ghost use Rattle.spj.specs.Printing.{StatesWithin};
+use files::Input;
 use job::Answered;
 use job::Damage;
 use job::link::ROOM;
@@ -11,40 +13,6 @@ use libc::STDOUT_FILENO;
 
 // The most that is read of a link at once.
 const PIECE: usize = 512;
-
-// How many bytes were read, unless a read failed.
-enum Input {
-    Bytes(usize),
-    Failed,
-}
-
-// Reads once: no bytes where the input has ended.
-fn read_some(fd: i32, room: &mut [u8]) -> Input
-    ensures { λ r. ⌜ Within r (length (now (room .exit))) ⌝ }
-{
-    let got = libc::read(fd, room);
-    if got < 0 {
-        return Input::Failed;
-    }
-    Input::Bytes(io::count(got, room))
-}
-
-// Reads until the input ends or there is no room left.
-fn read_all(fd: i32, room: &mut [u8]) -> Input
-    ensures { λ r. ⌜ Within r (length (now (room .exit))) ⌝ }
-{
-    let mut n = 0;
-    while n < room.len() {
-        let Input::Bytes(more) = read_some(fd, &mut room[n..]) else {
-            return Input::Failed;
-        };
-        if more == 0 {
-            return Input::Bytes(n);
-        }
-        n += more;
-    }
-    Input::Bytes(n)
-}
 
 // Each print answers whether all of it could be written.
 fn print_number(number: u32) -> bool {
@@ -118,16 +86,14 @@ fn print_end(link: &mut [u8], old: bool) -> bool {
     print_answered(answer, &out, old)
 }
 
-// Says on standard error what failed, with errno's text: a write that goes through leaves errno as it was.
 fn fail(what: &[u8]) {
-    io::write_all(STDERR_FILENO, b"spj: ");
-    os::fail(what);
+    files::fail(b"spj", what);
 }
 
 // Answers the job that is read from a descriptor; name is what a message calls it. A file larger than any job fills the room, which has one byte more than the largest, and is answered as that front is.
 fn answer_from(fd: i32, name: &[u8], old: bool) {
     let mut room = [0u8; ROOM];
-    let Input::Bytes(n) = read_all(fd, &mut room) else {
+    let Input::Bytes(n) = files::read_all(fd, &mut room) else {
         fail(name);
         return;
     };
@@ -141,7 +107,7 @@ fn take_part(fd: i32, link: &mut [u8]) -> Input
     ensures { λ r. ⌜ Within r pieceBytes ⌝ }
 {
     let mut piece = [0u8; PIECE];
-    let Input::Bytes(n) = read_some(fd, &mut piece) else {
+    let Input::Bytes(n) = files::read_some(fd, &mut piece) else {
         return Input::Failed;
     };
     job::link::part(link, &piece[..n]);
@@ -200,33 +166,22 @@ fn print_help() {
     }
 }
 
-fn refuse_option(option: &[u8]) {
-    io::write_all(STDERR_FILENO, b"spj: no such option: ");
-    io::write_all(STDERR_FILENO, option);
-    io::write_all(STDERR_FILENO, b"; see spj --help\n");
-}
-
-// Whether a word is this text.
-fn is(word: &[u8], text: &[u8]) -> bool {
-    word.len() == text.len() && lists::starts_with(word, text)
-}
-
 // Does what a word asks: what begins with a dash names no file.
 fn answer_word(word: &[u8], old: bool) {
-    if is(word, b"--help") {
+    if files::is(word, b"--help") {
         print_help();
         return;
     }
-    if is(word, b"--link") {
+    if files::is(word, b"--link") {
         answer_link(old);
         return;
     }
-    if is(word, b"-") {
+    if files::is(word, b"-") {
         answer_input(old);
         return;
     }
     if lists::starts_with(word, b"-") {
-        refuse_option(word);
+        files::refuse_option(b"spj", word);
         return;
     }
     answer_file(word, old);
@@ -236,7 +191,7 @@ fn answer_word(word: &[u8], old: bool) {
 fn asks_old() -> bool {
     let mut word = io::buffer();
     let n = os::arg(1, &mut word);
-    os::errno() == 0 && is(&word[..n], b"--old")
+    os::errno() == 0 && files::is(&word[..n], b"--old")
 }
 
 // Answers the word at a place, which is the last, or standard input where there is none.

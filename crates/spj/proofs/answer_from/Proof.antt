@@ -1,7 +1,7 @@
 -- `spj::answer_from` is safe and ends.
 use mathlib.Core.Path.{sym}
 use lib.Seq.{length-take-le}
-use Rattle.spj.proofs.Reading.{within}
+use Rattle.files.proofs.Reading.{within}
 use borrow.Author.Needs.{needs}
 use Rattle.spj.proofs.answer_from.Statement.{statement}
 use Rattle.spj.proofs.answer_from.Tie as tie

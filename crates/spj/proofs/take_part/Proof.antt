@@ -3,7 +3,7 @@ use mathlib.Core.Path.{sym}
 use lib.Seq.{length-take-le}
 use native.Mathlib.Omega.{arith}
 use borrow.Author.Needs.{needs}
-use Rattle.spj.proofs.Reading.{within}
+use Rattle.files.proofs.Reading.{within}
 use Rattle.spj.proofs.take_part.Statement.{statement}
 use Rattle.spj.proofs.take_part.Tie as tie
 

@@ -6,7 +6,7 @@ use borrow.Author.Needs.{needs}
 use lib.ListN.{length}
 use Rattle.job.specs.Link.{linkRoom}
 use Rattle.spj.specs.Reading.{pieceBytes}
-use Rattle.spj.proofs.Reading.{within}
+use Rattle.files.proofs.Reading.{within}
 use Rattle.spj.proofs.take_parts.Statement.{statement}
 use Rattle.spj.proofs.take_parts.Tie as tie
 

@@ -4,14 +4,14 @@ use mathlib.Core.List.{List}
 use Prim.Native.Nat.{ℕ, _≤_, _<_}
 use native.Mathlib.Omega.{arith}
 use borrow.Author.Needs.{needs}
-use lib.Dec.{le→leb}
 use lib.ListN.{length}
-use lib.Ieee.{binary64, div, inFloat}
+use lib.Ieee.{binary64, div}
 use Rattle.lists.specs.Sizes.{mostFrames}
 use Rattle.lists.specs.Totals.{total}
 use Rattle.lists.proofs.Sums.{total-whole}
 use Rattle.floats.specs.Rounding.{roundedOf}
 use Rattle.floats.specs.Numbers.{number}
+use Rattle.floats.proofs.Casts.{exact}
 use Rattle.duration.specs.Estimate.{naturals}
 use Rattle.duration.specs.Speed.{targetAt}
 use Rattle.duration.proofs.Fits.{speed-long, speed-one, speed-other}
@@ -45,11 +45,7 @@ returns-2 : tie.Need-returns-2
 returns-2 c = speed-one _ _ _ _ (subst (λ (n : ℕ). n ≤ mostFrames) (sum (c .before .before)) (c .before .if1 .left)) (c .if2 .taken) (natural (c .before .before))
 
 int-to-float-rounded : tie.Need-int-to-float-rounded
-unfolding inFloat
-int-to-float-rounded c =
-    let n = c .before .before .before .total-u32 .result in
-    let h : n ≤ 9007199254740992 = omega (arith, c .before .before .if1 .left) in
-    le→leb n 9007199254740992 h
+int-to-float-rounded c = exact _ (omega (arith, c .before .before .if1 .left))
 
 returns-3 : tie.Need-returns-3
 unfolding targetAt

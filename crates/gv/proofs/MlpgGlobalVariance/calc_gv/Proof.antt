@@ -1,7 +1,8 @@
 -- `gv::MlpgGlobalVariance::calc_gv` meets its contract.
 use native.Mathlib.Omega.{arith}
+use Rattle.floats.proofs.Casts.{exact}
 use Rattle.gv.specs.Gv.{meanOf, variOf}
-use Rattle.gv.proofs.Switched.{exact, sampled}
+use Rattle.gv.proofs.Switched.{sampled}
 use Rattle.gv.proofs.MlpgGlobalVariance.calc_gv.Statement.{statement}
 use Rattle.gv.proofs.MlpgGlobalVariance.calc_gv.Tie as tie
 

@@ -1,7 +1,7 @@
 -- `gv::objective::weight_of` meets its contract.
 use native.Mathlib.Nat.{mul-le-mul-right}
 use native.Mathlib.Omega.{arith}
-use Rattle.gv.proofs.Switched.{exact}
+use Rattle.floats.proofs.Casts.{exact}
 use borrow.Author.Needs.{needs}
 use Rattle.gv.proofs.objective.weight_of.Statement.{statement}
 use Rattle.gv.proofs.objective.weight_of.Tie as tie

@@ -1,12 +1,12 @@
--- `spj::read_all` meets its contract.
+-- `files::read_all` meets its contract.
 use mathlib.Core.Path.{_≡_, _∙_}
 use Prim.Native.Nat.{_+_, _-_, _≤_}
 use borrow.Author.Needs.{needs}
 use lib.ListN.{length}
 use native.Mathlib.Omega.{arith}
-use Rattle.spj.proofs.Reading.{within, room-kept, read-within}
-use Rattle.spj.proofs.read_all.Statement.{statement}
-use Rattle.spj.proofs.read_all.Tie as tie
+use Rattle.files.proofs.Reading.{within, room-kept, read-within}
+use Rattle.files.proofs.read_all.Statement.{statement}
+use Rattle.files.proofs.read_all.Tie as tie
 
 abbrev Inv-loop : tie.InvT-loop
 Inv-loop fd room₀ n₀ room n = (n ≤ length room₀) × (length room ≡ length room₀)

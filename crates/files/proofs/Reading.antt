@@ -5,9 +5,9 @@ use Prim.Native.Nat.{ℕ, _+_, _-_, _≤_, _<_}
 use native.Mathlib.Omega.{arith}
 use borrow.Rule.Slice.PartMut.{midOf, putMid, same-len-mid, mid-len}
 use lib.ListN.{length}
-use Rattle.spj.specs.declared.Input.{Input}
-use Rattle.spj.specs.declared.Input.the-variants.{Bytes}
-use Rattle.spj.specs.Reading.{Within}
+use Rattle.files.specs.declared.Input.{Input}
+use Rattle.files.specs.declared.Input.the-variants.{Bytes}
+use Rattle.files.specs.Reading.{Within}
 
 pub within : (r : Input) (n room : ℕ) → r ≡ Bytes n → Within r room → n ≤ room
 within r n room e h = subst (λ (x : Input). Within x room) e h

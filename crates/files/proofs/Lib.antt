@@ -1,0 +1,2 @@
+-- The laws that the proofs of reading cite.
+pub mod Reading

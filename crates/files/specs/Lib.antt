@@ -1,0 +1,3 @@
+-- What the contracts of src/ cite.
+pub mod Reading  -- how much was read
+pub mod Words  -- whether a word is a text
