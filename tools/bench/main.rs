@@ -3,6 +3,7 @@
 
 mod durations;
 mod links;
+mod settings;
 mod trajectories;
 
 use std::time::{Duration, Instant};
@@ -74,13 +75,14 @@ pub fn shown(time: Duration) -> String {
 type Group = (&'static str, &'static str, fn());
 
 const BOTH: &str = "Rust | Hejmirov | times as fast";
-const GROUPS: [Group; 6] = [
+const GROUPS: [Group; 7] = [
     ("durations", BOTH, durations::run),
     ("alignments", BOTH, durations::alignments),
     ("trajectories", BOTH, trajectories::run),
     ("growth", BOTH, trajectories::growth),
     ("largest", BOTH, trajectories::largest),
     ("links", "as a file | over a link | of that a part", links::run),
+    ("settings", "plain Rust | Hejmirov | times as fast", settings::run),
 ];
 
 fn main() {
