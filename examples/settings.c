@@ -4,7 +4,7 @@
 
    It sets some voices in a store, removes one, writes FILE, reads FILE into another store and prints
    what that holds. FILE is then the worked settings file, voices.vst. Nothing is allocated: a store
-   has 7 KiB, and so has the largest file. */
+   has 7 KiB, and the largest file that is written a little less. */
 
 #include <inttypes.h>
 #include <stdio.h>
@@ -22,7 +22,7 @@ typedef struct {
     (store)->voices, HEJMIROV_MAX_VOICES, (store)->settings, HEJMIROV_STORE_SETTINGS
 
 static Store first, second;
-static uint8_t bytes[HEJMIROV_SETTINGS_FILE_BYTES];
+static uint8_t bytes[HEJMIROV_SETTINGS_WRITTEN_BYTES + 1]; /* the last shows a longer file */
 
 static _Noreturn void fail(const char *what, const char *why) {
     fprintf(stderr, "settings: %s: %s\n", what, why);
@@ -52,13 +52,14 @@ static void write_file(const Store *store, const char *name) {
     if (fclose(file) != 0 || done != written) fail(name, "can't be written");
 }
 
-/* A file from elsewhere may have more bytes, as it may have several records of a voice. */
+/* A file from elsewhere may be longer, as it may have several records of a voice. */
 static void read_file(Store *store, const char *name) {
     FILE *file = fopen(name, "rb");
     if (!file) fail(name, "can't be opened");
     size_t n_bytes = fread(bytes, 1, sizeof bytes, file);
     if (ferror(file)) fail(name, "can't be read");
     fclose(file);
+    if (n_bytes == sizeof bytes) fail(name, "is longer than any that is written");
     check("read", hejmirov_settings_read(LISTS(store), bytes, n_bytes));
 }
 

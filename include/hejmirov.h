@@ -51,16 +51,17 @@ extern "C" {
 #define HEJMIROV_MAX_VOICE 65535     /* the number of a voice */
 
 /* Sizes. */
-#define HEJMIROV_WORK_FLOATS_A_FRAME 48   /* doubles of a trajectory's work space for each frame */
-#define HEJMIROV_WORK_MARKS_A_FRAME 4     /* whole numbers of its marks for each frame */
-#define HEJMIROV_BYTES_A_NUMBER 8         /* bytes of one number in the spool */
-#define HEJMIROV_JOB_HEAD_BYTES 15        /* bytes of a job file before its first state */
-#define HEJMIROV_JOB_STATE_BYTES 16       /* bytes of each of its states */
-#define HEJMIROV_LINK_BYTES 16408         /* bytes of a link's memory: a job that comes in parts */
-#define HEJMIROV_STORE_SETTINGS 768       /* settings in a store, three for each place */
-#define HEJMIROV_SETTINGS_HEAD_BYTES 7    /* bytes of a settings file before its first record */
-#define HEJMIROV_SETTINGS_RECORD_BYTES 26 /* bytes of each of its records, in version 2 */
-#define HEJMIROV_SETTINGS_FILE_BYTES 6663 /* bytes of the longest file that is written */
+#define HEJMIROV_WORK_FLOATS_A_FRAME 48      /* doubles of a trajectory's work space for each frame */
+#define HEJMIROV_WORK_MARKS_A_FRAME 4        /* whole numbers of its marks for each frame */
+#define HEJMIROV_BYTES_A_NUMBER 8            /* bytes of one number in the spool */
+#define HEJMIROV_JOB_HEAD_BYTES 15           /* bytes of a job file before its first state */
+#define HEJMIROV_JOB_STATE_BYTES 16          /* bytes of each of its states */
+#define HEJMIROV_LINK_BYTES 16408            /* bytes of a link's memory: a job that comes in parts */
+#define HEJMIROV_STORE_SETTINGS 768          /* settings in a store, three for each place */
+#define HEJMIROV_SETTINGS_HEAD_BYTES 7       /* bytes of a settings file before its first record */
+#define HEJMIROV_SETTINGS_RECORD_BYTES 26    /* bytes of each of its records, in version 2 */
+#define HEJMIROV_SETTINGS_WRITTEN_BYTES 6663 /* bytes of the longest that is written */
+#define HEJMIROV_SETTINGS_MOST_BYTES 1703917 /* bytes of the longest that is read */
 
 /* An end that is open, for hejmirov_align: any number below 0, and NaN, says the same. */
 #define HEJMIROV_OPEN_END (-1.0)
@@ -497,7 +498,7 @@ uint32_t hejmirov_settings_set(uint32_t *voices, size_t n_voices,
  *                  a store
  *   voice          the number of the voice
  *   speed, gv_weight, threshold
- *                  afterwards the voice's
+ *                  afterwards the voice's; a NaN's payload stays in the store and is not handed out
  *
  * Refused with 3: voice above 65,535. 6: as hejmirov_settings_clear. 19: the voice is not held.
  */
@@ -549,6 +550,8 @@ uint32_t hejmirov_settings_count(const uint32_t *voices, size_t n_voices,
  * the version's last byte. 16: the version is neither 1 nor 2. 18: the file has another length. 17:
  * there are more than 256 different voices. So VST and the version 3 is 16, though the file ends
  * there, and VST and one byte is 18, whatever that byte is.
+ *
+ * It needs about 7 KiB of stack.
  */
 uint32_t hejmirov_settings_read(uint32_t *voices, size_t n_voices,
                                 uint64_t *settings, size_t n_settings,
@@ -561,7 +564,7 @@ uint32_t hejmirov_settings_read(uint32_t *voices, size_t n_voices,
  *   voices, settings
  *                  a store
  *   out            afterwards the file's bytes, 7 + 26 x n, where n is how many voices are held;
- *                  HEJMIROV_SETTINGS_FILE_BYTES are enough for any store
+ *                  HEJMIROV_SETTINGS_WRITTEN_BYTES are enough for any store
  *   written        afterwards how many bytes these are
  *
  * Refused with 6: as hejmirov_settings_clear, or n_out below 7 + 26 x n.

@@ -24,7 +24,8 @@ pub struct Settings {
 /// are never too short: [`BadSize`](Refusal::BadSize) and [`TooLittleRoom`](Refusal::TooLittleRoom)
 /// are never answered. A setting is kept bit for bit, but that [`set`](Store::set) keeps every NaN as
 /// 0x7FF8000000000000, and [`get`](Store::get) hands out those bits. Stores are equal where their
-/// lists are, bit for bit, NaNs too: they hold the same in the same places.
+/// lists are, bit for bit, NaNs too: they hold the same in the same places. Two that hold the same
+/// may differ in their free places.
 ///
 /// # Examples
 ///
@@ -568,7 +569,7 @@ pub fn settings_read(
 /// [`Store::write`] in the caller's memory; it answers how many bytes the file has.
 ///
 /// The file goes to the front of `out`, for which
-/// [`SETTINGS_FILE_BYTES`](crate::SETTINGS_FILE_BYTES) are always enough. What is beyond stays as it
+/// [`SETTINGS_WRITTEN_BYTES`](crate::SETTINGS_WRITTEN_BYTES) are always enough. What is beyond stays as it
 /// was.
 ///
 /// # Errors

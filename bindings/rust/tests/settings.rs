@@ -2,7 +2,7 @@
 //! hand. Random calls are held to a second store, which is written here and looks up places only.
 
 use hejmirov::{
-    FREE_PLACE, MAX_VOICE, MAX_VOICES, Refusal, SETTINGS_FILE_BYTES, SETTINGS_HEAD_BYTES,
+    FREE_PLACE, MAX_VOICE, MAX_VOICES, Refusal, SETTINGS_WRITTEN_BYTES, SETTINGS_HEAD_BYTES,
     SETTINGS_RECORD_BYTES, STORE_SETTINGS, Settings, Store,
 };
 
@@ -68,7 +68,7 @@ fn sizes() {
     assert_eq!(MAX_VOICE, u32::from(u16::MAX));
     assert_eq!(FREE_PLACE, u32::MAX);
     let longest = SETTINGS_HEAD_BYTES + SETTINGS_RECORD_BYTES * MAX_VOICES;
-    assert_eq!(SETTINGS_FILE_BYTES, longest);
+    assert_eq!(SETTINGS_WRITTEN_BYTES, longest);
     assert_eq!(store_of(0..256).write().len(), longest);
 }
 
@@ -387,13 +387,13 @@ fn what_lies_behind_longer_lists_is_not_looked_at() {
         hejmirov::settings_set(&mut voices, &mut raw, 256, settings(1)),
         Err(Refusal::StoreFull)
     );
-    let mut out = [7; SETTINGS_FILE_BYTES + 1];
+    let mut out = [7; SETTINGS_WRITTEN_BYTES + 1];
     assert_eq!(
         hejmirov::settings_write_into(&voices, &raw, &mut out),
-        Ok(SETTINGS_FILE_BYTES)
+        Ok(SETTINGS_WRITTEN_BYTES)
     );
-    assert_eq!(out[SETTINGS_FILE_BYTES], 7);
-    hejmirov::settings_read(&mut voices, &mut raw, &out[..SETTINGS_FILE_BYTES]).unwrap();
+    assert_eq!(out[SETTINGS_WRITTEN_BYTES], 7);
+    hejmirov::settings_read(&mut voices, &mut raw, &out[..SETTINGS_WRITTEN_BYTES]).unwrap();
     hejmirov::settings_remove(&mut voices, &mut raw, 7).unwrap();
     hejmirov::settings_clear(&mut voices, &mut raw).unwrap();
     assert_eq!((voices, raw), (behind, behind_raw));

@@ -11,7 +11,7 @@ module _ {A : Type 0} where
   expand (d ∷ ds) [] = []
   expand (d ∷ ds) (x ∷ xs) = replicate d x ++ expand ds xs
 
-  -- RULES, Mask: the voiced frames closed up: their items alone, in order (`filter_by` of `mod.rs`)
+  -- the items whose flag is on, in order; RULES, Mask: the voiced frames closed up (`filter_by` of `mod.rs`)
   unfoldable pub select : List Bool → List A → List A
   select [] xs = []
   select (b ∷ bs) [] = []
@@ -25,7 +25,7 @@ module _ {A : Type 0} where
   fill none (true ∷ bs) [] = none ∷ fill none bs []
   fill none (true ∷ bs) (x ∷ xs) = x ∷ fill none bs xs
 
--- how many frames are voiced
+-- how many are on: RULES, Mask: how many frames are voiced
 unfoldable pub count : List Bool → ℕ
 count [] = 0
 count (true ∷ bs) = suc (count bs)

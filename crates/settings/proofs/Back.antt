@@ -1,17 +1,17 @@
 -- What was written is read back: the same voices in the same order, with the same settings.
 use mathlib.Core.Path.{_≡_, refl, sym, ap, subst, _∙_}
-use mathlib.Core.Bool.{Bool, true, false, _&&_}
+use mathlib.Core.Bool.{Bool, true, false}
 use mathlib.Core.Logic.{⊎-elim}
 use mathlib.Core.List.{List, [], _∷_, _++_, flatten, append-nil}
 use Prim.Native.Nat.{ℕ, zero, suc, _+_, _-_, _*_, _^_, _≤_, _<_}
 use native.Mathlib.Omega.{arith}
-use borrow.Author.Tests.{le-ltb, leb-true, ltb-true, eqb-true}
-use lib.Dec.{leb, eqb}
+use borrow.Author.Tests.{le-ltb, ltb-true}
 use lib.ListN.{length, take, drop, getD, replicate, length-append, length-drop, length-take, length-replicate, getD-replicate, take-append-drop, List·getD-append, List·getD-eq-default}
 use lib.Seq.{take-at, length-take-le, getD-take, getD-append-add, ext-getD}
 use Rattle.lists.specs.Sizes.{mostVoices, mostVoice}
 use Rattle.lists.specs.Build.{build, foldFrom}
 use Rattle.lists.specs.Frames.{select, count}
+use Rattle.lists.specs.Bytes.{Bytes}
 use Rattle.lists.specs.Firsts.{firstAt}
 use Rattle.lists.specs.Refusals.{orElse}
 use Rattle.lists.proofs.Numbers.{le-or-lt}
@@ -34,11 +34,11 @@ use Rattle.settings.proofs.Places.{holding-long, holding-at}
 use Rattle.settings.proofs.Gathering.{names, names-more, put-behind, all, Closed, none-closed, names-long, voices-long, held-there, behind-free, first-there, not-there, three-more}
 use Rattle.settings.proofs.Writing.{entries-held}
 use Rattle.settings.proofs.Holding.{held-most}
-use Rattle.settings.proofs.Setting.{holds-first}
+use Rattle.settings.proofs.Setting.{holds-first, held-first}
 use Rattle.settings.proofs.Refusing.{has-places}
 use Rattle.settings.proofs.Files.{written-back, written-formed}
 use Rattle.settings.proofs.Laws.{Sized, gotIn, got-held, got-none, get-same, store-then, usable-then}
-use Rattle.settings.proofs.OneByOne.{Numbers, closed-fold, closed-sized}
+use Rattle.settings.proofs.OneByOne.{Numbers, closed-fold, closed-sized, read-closed}
 
 -- ---- what a closed store holds
 
@@ -119,24 +119,13 @@ module _ (s : Store) where
   unfolding some
   some-names i = select-map (λ (e : Entry). e .voice) (build (holdsAt vs) i) (build (entryIn s) i) ∙ ap (select (build (holdsAt vs) i)) (map-build (entryIn s) i)
 
-  -- a place that holds a voice is its first
-  held-first : (i : ℕ) → holdsAt vs i ≡ true → (getD vs i free ≤ mostVoice) × (firstAt (getD vs i free) vs ≡ i)
-  held-first i e =
-      let v : ℕ = getD vs i free in
-      (elim (leb v mostVoice) as (λ b. leb v mostVoice ≡ b → b && eqb (firstAt v vs) i ≡ true → (v ≤ mostVoice) × (firstAt v vs ≡ i)) [
-        | true ↦ λ q g. (leb-true v mostVoice q, eqb-true (firstAt v vs) i g)
-        | false ↦ λ q g. absurd (let z : _≡_ {A = ℕ} 0 1 = cc in omega arith)
-      ])
-      refl
-      e
-
   -- so its voice is none of those before
   new-name : (i : ℕ) → i < length vs → holdsAt vs i ≡ true → firstAt (getD vs i free) (names (some i)) ≡ length (names (some i))
   new-name i h e =
       let v : ℕ = getD vs i free in
       let f : firstAt v (build (λ j. getD vs j free) i) ≡ length (build (λ j. getD vs j free) i) = first-none v (build (λ j. getD vs j free) i) free (λ j g q.
       let l : j < i = rw (build-length (λ j. getD vs j free) i) at g in
-      first-before v vs j free (omega (arith, held-first i e .1)) (sym (build-at (λ j. getD vs j free) i j free l) ∙ q)) in
+      first-before v vs j free (omega (arith, held-first vs i e .1)) (sym (build-at (λ j. getD vs j free) i j free l) ∙ q)) in
       rw (some-names i) (select-none v (build (holdsAt vs) i) (build (λ j. getD vs j free) i) f)
 
   some-next : (i : ℕ) → some (suc i) ≡ some i ++ select (holdsAt vs i ∷ []) (entryIn s i ∷ [])
@@ -177,7 +166,7 @@ module _ (s : Store) where
       rw (build-at (entryIn s) (length vs) i nothing g) (k i g (sym (holding-at vs i false g) ∙ e)))
 
   entry-numbers : Numbers (entriesIn s)
-  entry-numbers = each-entry (λ e. e .voice ≤ mostVoice) (λ i h e. held-first i e .0)
+  entry-numbers = each-entry (λ e. e .voice ≤ mostVoice) (λ i h e. held-first vs i e .0)
 
   -- a file has room for them
   pub writable : ((i : ℕ) → getD (s .settings) i 0 < 2 ^ 64) → length vs ≤ mostVoices → Writable 2 (entriesIn s)
@@ -185,7 +174,7 @@ module _ (s : Store) where
       record {
         known = refl;
         few = omega (arith, entries-held s, held-most vs);
-        each = each-entry (Fits 2) (λ i h e. record { voice = omega (arith, held-first i e .0); speed = k (3 * i); weight = k (3 * i + 1); threshold = k (3 * i + 2); first = λ q. absurd (omega arith) });
+        each = each-entry (Fits 2) (λ i h e. record { voice = omega (arith, held-first vs i e .0); speed = k (3 * i); weight = k (3 * i + 1); threshold = k (3 * i + 2); first = λ q. absurd (omega arith) });
       }
 
   -- they are set in a clear store
@@ -252,6 +241,12 @@ module _ (s : Store) where
           (le-or-lt (length vs) (firstAt v vs))
 
 -- ---- over the calls
+
+-- RULES, Settings: a file that was read leaves its records, a later one in the place of an earlier of its voice
+pub read-holds : (voices settings bytes : List ℕ) → Bytes bytes → (voices′ settings′ : List ℕ) → ReadSays voices settings bytes Done voices′ settings′ → entriesIn (storeOf voices′ settings′) ≡ settled (entriesOf bytes)
+read-holds voices settings bytes b voices′ settings′ read =
+    let k : Closed (settled (entriesOf bytes)) (readIn bytes) = read-closed voices settings bytes b voices′ settings′ read in
+    ap entriesIn (store-then read (closed-sized (settled (entriesOf bytes)) (readIn bytes) k)) ∙ closed-entries (settled (entriesOf bytes)) (readIn bytes) k
 
 number-is : (k n m : ℕ) → Number m ≡ countedOf k n → (k ≡ 0) × (m ≡ n)
 number-is zero n m e = (refl, cc)

@@ -24,7 +24,7 @@ use Rattle.settings.specs.declared.Got.the-variants.{Held, Refused as Go
 use Rattle.settings.specs.Store.{Store, storeSettings, storeOf, free, isHeld, heldIn, inOrder, settingsAt}
 use Rattle.settings.specs.Changes.{empty, placeFor, setIn, removeIn}
 use Rattle.settings.specs.Format.{formatRefusal, readRefusal, entriesOf, settled, readIn}
-use Rattle.settings.specs.Promise.{changedOf, gotOf, storeRefusal, voiceRefusal, setRefusal, heldRefusal, Changes, ClearSays, SetSays, GetSays, RemoveSays, ReadSays}
+use Rattle.settings.specs.Promise.{changedOf, gotOf, storeRefusal, voiceRefusal, setRefusal, heldRefusal, ChangesTo, ClearSays, SetSays, GetSays, RemoveSays, ReadSays}
 use Rattle.settings.specs.Inner.Steps.{Gathered, fullRefusal, Replaced}
 use Rattle.settings.proofs.Refusing.{has-places, placed}
 use Rattle.settings.proofs.Places.{place-within, no-place, some-place}
@@ -36,7 +36,7 @@ refused-with j zero e z = absurd (z e)
 refused-with j (suc k) e z = rw e
 
 -- a refusal leaves both lists
-pub refused-change : (j k : ℕ) (new : Store) (voices settings : List ℕ) → j ≡ k → (j ≡ 0 → ⊥) → Changes k new voices settings (Changed·Refused j) voices settings
+pub refused-change : (j k : ℕ) (new : Store) (voices settings : List ℕ) → j ≡ k → (j ≡ 0 → ⊥) → ChangesTo k new voices settings (Changed·Refused j) voices settings
 refused-change j k new voices settings e z =
     let n : k ≡ 0 → ⊥ = λ (q : k ≡ 0). z (e ∙ q) in
     record { answer = refused-with j k e z; numbers = untouched k (new .voices) voices n; kept = untouched k (new .settings) settings n }
@@ -44,12 +44,12 @@ refused-change j k new voices settings e z =
 -- a store of 256 places stands at the front of both lists afterwards, and what lies behind it is as it was
 pub changed : (k : ℕ) (new : Store) (voices settings voices′ settings′ : List ℕ) → k ≡ 0 → length (new .voices) ≡ mostVoices → length (new .settings) ≡ storeSettings
     → take mostVoices voices′ ≡ new .voices → drop mostVoices voices′ ≡ drop mostVoices voices → take storeSettings settings′ ≡ new .settings → drop storeSettings settings′ ≡ drop storeSettings settings
-    → Changes k new voices settings Done voices′ settings′
+    → ChangesTo k new voices settings Done voices′ settings′
 changed k new voices settings voices′ settings′ z l m f d g h =
     record { answer = rw z; numbers = front-written k mostVoices (new .voices) voices voices′ z l f d; kept = front-written k storeSettings (new .settings) settings settings′ z m g h }
 
 -- two outcomes that a promise allows are equal
-changes-one : (k : ℕ) (new : Store) (voices settings : List ℕ) (r s : Changed) (v₁ s₁ v₂ s₂ : List ℕ) → Changes k new voices settings r v₁ s₁ → Changes k new voices settings s v₂ s₂ → (r ≡ s) × (v₁ ≡ v₂) × (s₁ ≡ s₂)
+changes-one : (k : ℕ) (new : Store) (voices settings : List ℕ) (r s : Changed) (v₁ s₁ v₂ s₂ : List ℕ) → ChangesTo k new voices settings r v₁ s₁ → ChangesTo k new voices settings s v₂ s₂ → (r ≡ s) × (v₁ ≡ v₂) × (s₁ ≡ s₂)
 changes-one k new voices settings r s v₁ s₁ v₂ s₂ f g = (f .answer ∙ sym (g .answer), f .numbers ∙ sym (g .numbers), f .kept ∙ sym (g .kept))
 
 module _ (voices settings : List ℕ) (r s : Changed) (v₁ s₁ v₂ s₂ : List ℕ) where

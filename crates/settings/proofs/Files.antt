@@ -141,10 +141,6 @@ none-then : (t : Bool) (k : ℕ) → cond t 0 (suc k) ≡ 0 → t ≡ true
 none-then true k e = refl
 none-then false k e = absurd (omega arith)
 
-none-else : (t : Bool) (k : ℕ) → cond t (suc k) 0 ≡ 0 → t ≡ false
-none-else true k e = absurd (omega arith)
-none-else false k e = refl
-
 module _ (bytes : List ℕ) (b : Bytes bytes) (z : formatRefusal bytes ≡ 0) where
   abbrev v : ℕ
   v = versionOf bytes

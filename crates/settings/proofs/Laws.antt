@@ -7,29 +7,31 @@ use Prim.Native.Nat.{ℕ, zero, suc, _+_, _*_, _≤_, _<_, min}
 use native.Mathlib.Omega.{arith}
 use borrow.Author.Tests.{lt-ltb, le-ltb, ltb-true, ltb-false}
 use lib.Dec.{ltb}
-use lib.ListN.{length, take, drop, getD, length-append, length-set, take-append-drop}
+use lib.ListN.{length, take, drop, getD, length-append, length-set, length-replicate, getD-replicate, take-append-drop}
 use lib.Seq.{length-sets, length-take-le, take-at}
 use Rattle.lists.specs.Sizes.{mostVoices, mostVoice}
+use Rattle.lists.specs.Build.{build}
+use Rattle.lists.specs.Frames.{count}
 use Rattle.lists.specs.Firsts.{firstAt}
 use Rattle.lists.proofs.Numbers.{le-or-lt, same-or-not}
 use Rattle.lists.proofs.Refusals.{or-none}
 use Rattle.lists.proofs.Counts.{count-most}
-use Rattle.lists.proofs.Firsts.{first-is, length-replaced}
+use Rattle.lists.proofs.Firsts.{first-is, first-none, length-replaced}
 use Rattle.settings.specs.declared.Settings.{Settings}
 use Rattle.settings.specs.declared.Changed.the-variants.{Done, Refused as Changed·Refused}
 use Rattle.settings.specs.declared.Got.{Got}
 use Rattle.settings.specs.declared.Got.the-variants.{Held, Refused as Got·Refused}
 use Rattle.settings.specs.Store.{Store, storeSettings, storeOf, free, isHeld, heldIn, holding, freePlace, inOrder, settingsAt}
-use Rattle.settings.specs.Changes.{placeFor, setIn, removeIn}
+use Rattle.settings.specs.Changes.{empty, placeFor, setIn, removeIn}
 use Rattle.settings.specs.Laws.{Full}
-use Rattle.settings.specs.Promise.{changedOf, gotOf, storeRefusal, voiceRefusal, setRefusal, heldRefusal, Changes, SetSays, GetSays, RemoveSays}
+use Rattle.settings.specs.Promise.{changedOf, gotOf, storeRefusal, voiceRefusal, setRefusal, heldRefusal, ChangesTo, ClearSays, SetSays, GetSays, RemoveSays}
 use Rattle.settings.proofs.Refusing.{placed}
 use Rattle.settings.proofs.Places.{place-within, no-place, holding-long, free-place}
 use Rattle.settings.proofs.Setting.{same-numbers, set-there, set-aside, put-there, put-aside, gone, left, free-next}
 
 -- ---- the store after a change
 
-done-none : (k : ℕ) → Done ≡ changedOf k → k ≡ 0
+pub done-none : (k : ℕ) → Done ≡ changedOf k → k ≡ 0
 done-none zero e = refl
 done-none (suc k) e = let z : _≡_ {A = ℕ} 0 1 = cc in absurd (omega arith)
 
@@ -41,7 +43,7 @@ pub record Sized (s : Store) : Type 0 where
 pub enough : (voices settings : List ℕ) → mostVoices ≤ length voices → storeSettings ≤ length settings → storeRefusal voices settings ≡ 0
 enough voices settings h g = rw (le-ltb (length voices) mostVoices h, le-ltb (length settings) storeSettings g)
 
-module _ {k : ℕ} {new : Store} {voices settings voices′ settings′ : List ℕ} (c : Changes k new voices settings Done voices′ settings′) (s : Sized new) where
+module _ {k : ℕ} {new : Store} {voices settings voices′ settings′ : List ℕ} (c : ChangesTo k new voices settings Done voices′ settings′) (s : Sized new) where
   none : k ≡ 0
   none = done-none k (c .answer)
 
@@ -132,7 +134,7 @@ module _ (s : Store) (z : Sized s) (v : ℕ) where
 -- ---- over the calls
 
 -- a refused call leaves both lists
-pub refused-same : (k j : ℕ) (new : Store) (voices settings voices′ settings′ : List ℕ) → Changes k new voices settings (Changed·Refused j) voices′ settings′ → (voices′ ≡ voices) × (settings′ ≡ settings)
+pub refused-same : (k j : ℕ) (new : Store) (voices settings voices′ settings′ : List ℕ) → ChangesTo k new voices settings (Changed·Refused j) voices′ settings′ → (voices′ ≡ voices) × (settings′ ≡ settings)
 refused-same zero j new voices settings voices′ settings′ c = absurd (let e : Changed·Refused j ≡ Done = c .answer in let z : _≡_ {A = ℕ} 0 1 = cc in omega arith)
 refused-same (suc k) j new voices settings voices′ settings′ c = (c .numbers, c .kept)
 
@@ -166,6 +168,23 @@ get-same voices settings voices′ settings′ w r r′ u u′ e g g′ = ⊎-el
     (λ (m : w ≤ mostVoice). get-is voices′ settings′ w r′ m u′ g′ ∙ e m ∙ sym (get-is voices settings w r m u g))
     (λ (m : mostVoice < w). get-large voices′ settings′ w r′ m g′ ∙ sym (get-large voices settings w r m g))
     (le-or-lt w mostVoice)
+
+-- ---- clear
+
+pub clear-sized : Sized empty
+clear-sized = record { numbers = length-replicate mostVoices free; settings = length-replicate {A = ℕ} storeSettings 0 }
+
+module _ (voices settings voices′ settings′ : List ℕ) (c : ClearSays voices settings Done voices′ settings′) where
+  -- get after clear
+  pub get-cleared : (w : ℕ) → w ≤ mostVoice → (r : Got) → GetSays voices′ settings′ w r → r ≡ Got·Refused 19
+  get-cleared w m r g =
+      let f : firstAt w (empty .voices) ≡ mostVoices = first-none w (empty .voices) free (λ j h q. let z : free ≡ w = sym (getD-replicate mostVoices j free free h) ∙ q in omega arith) in
+      get-is voices′ settings′ w r m (usable-then c clear-sized) g ∙ ap (gotIn w) (store-then c clear-sized) ∙ got-none w empty (omega (arith, f, clear-sized .numbers))
+
+  -- no voice is held
+  pub none-held : heldIn (take mostVoices voices′) ≡ 0
+  unfolding holding build count
+  none-held = ap (λ (s : Store). heldIn (s .voices)) (store-then c clear-sized)
 
 -- ---- set
 

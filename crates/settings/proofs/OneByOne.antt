@@ -3,11 +3,11 @@ use mathlib.Core.Path.{_≡_, refl, sym, ap, _∙_, subst}
 use mathlib.Core.Bool.{cond}
 use mathlib.Core.Logic.{⊎-elim}
 use mathlib.Core.List.{List, [], _∷_, map}
-use Prim.Native.Nat.{ℕ, zero, suc, _+_, _-_, _*_, _≤_, _<_}
+use Prim.Native.Nat.{ℕ, suc, _+_, _-_, _*_, _≤_, _<_}
 use native.Mathlib.Omega.{arith}
 use borrow.Author.Tests.{lt-ltb, le-ltb}
 use lib.Dec.{ltb}
-use lib.ListN.{length, take, drop, getD, length-replicate, take-append-drop}
+use lib.ListN.{length, take, drop, getD, take-append-drop}
 use lib.Seq.{drop-at}
 use Rattle.lists.specs.Sizes.{mostVoices, mostVoice}
 use Rattle.lists.specs.Build.{foldFrom}
@@ -20,7 +20,7 @@ use Rattle.lists.proofs.Fills.{build-length}
 use Rattle.lists.proofs.Builds.{build-at}
 use Rattle.settings.specs.declared.Changed.{Changed}
 use Rattle.settings.specs.declared.Changed.the-variants.{Done}
-use Rattle.settings.specs.Store.{Store, storeSettings, storeOf, free, Entry}
+use Rattle.settings.specs.Store.{Store, storeSettings, storeOf, Entry}
 use Rattle.settings.specs.Changes.{empty, placeFor}
 use Rattle.settings.specs.Format.{countOf, versionOf, entryBytes, entryAt, formatRefusal, entriesOf, putEntry, settled, setEntry, readRefusal, readIn}
 use Rattle.settings.specs.Written.{nothing}
@@ -28,7 +28,7 @@ use Rattle.settings.specs.Promise.{changedOf, storeRefusal, setRefusal, 
 use Rattle.settings.specs.Laws.{Sets, none, set-then}
 use Rattle.settings.proofs.Places.{some-place}
 use Rattle.settings.proofs.Gathering.{names, Closed, none-closed, put-closed, place-is, put-long, settled-grows, voices-long, settings-long}
-use Rattle.settings.proofs.Laws.{Sized, store-then, usable-then, numbers-then, settings-then, set-sized}
+use Rattle.settings.proofs.Laws.{done-none, Sized, clear-sized, store-then, usable-then, numbers-then, settings-then, set-sized}
 
 -- ---- records that are put one after the other leave a store closed up
 
@@ -104,12 +104,18 @@ file-numbers bytes b i h =
     let g : i < countOf bytes = rw (build-length (entryAt (versionOf bytes) bytes) (countOf bytes)) at h in
     rw (build-at (entryAt (versionOf bytes) bytes) (countOf bytes) i nothing g) (let l = word-below bytes b (7 + entryBytes (versionOf bytes) * i) in omega arith)
 
-done-0 : (k : ℕ) → Done ≡ changedOf k → k ≡ 0
-done-0 zero e = refl
-done-0 (suc k) e = let z : _≡_ {A = ℕ} 0 1 = cc in absurd (omega arith)
-
 few-0 : (n : ℕ) → _≡_ {A = ℕ} (cond (ltb mostVoices n) 17 0) 0 → n ≤ mostVoices
 few-0 n e = ⊎-elim (λ (h : n ≤ mostVoices). h) (λ (h : mostVoices < n). absurd (let z : _≡_ {A = ℕ} 17 0 = rw (lt-ltb mostVoices n h) at e in omega arith)) (le-or-lt n mostVoices)
+
+-- what a file that is read leaves is closed up: its records, a later one in the place of an earlier of its voice
+module _ (voices settings bytes : List ℕ) (b : Bytes bytes) (v₂ s₂ : List ℕ) (read : ReadSays voices settings bytes Done v₂ s₂) where
+  read-few : length (foldFrom putEntry [] (entriesOf bytes)) ≤ mostVoices
+  unfolding readRefusal settled
+  read-few = few-0 (length (foldFrom putEntry [] (entriesOf bytes))) (or-none (formatRefusal bytes) _ (or-none (storeRefusal voices settings) (readRefusal bytes) (done-none _ (read .answer)) .1) .1)
+
+  pub read-closed : Closed (settled (entriesOf bytes)) (readIn bytes)
+  unfolding readIn settled
+  read-closed = closed-fold (entriesOf bytes) [] empty none-closed (file-numbers bytes b) read-few
 
 -- a list is its front and what lies behind it
 front-back : (n : ℕ) (l m : List ℕ) → take n l ≡ take n m → drop n l ≡ drop n m → l ≡ m
@@ -118,19 +124,11 @@ front-back n l m e f = sym (take-append-drop n l) ∙ rw (e, f) (take-append-dro
 -- RULES, Settings: a file that is read leaves what clear and a set for each of its records leave, which are all done
 module _ (voices settings bytes : List ℕ) (b : Bytes bytes) (v₀ s₀ : List ℕ) (cleared : ClearSays voices settings Done v₀ s₀) (rs : List Changed) (v₁ s₁ : List ℕ) (sets : Sets v₀ s₀ (entriesOf bytes) rs v₁ s₁)
     (v₂ s₂ : List ℕ) (read : ReadSays voices settings bytes Done v₂ s₂) where
-  clear-sized : Sized empty
-  clear-sized = record { numbers = length-replicate mostVoices free; settings = length-replicate {A = ℕ} storeSettings 0 }
-
-  read-few : length (foldFrom putEntry [] (entriesOf bytes)) ≤ mostVoices
-  unfolding readRefusal settled
-  read-few = few-0 (length (foldFrom putEntry [] (entriesOf bytes))) (or-none (formatRefusal bytes) _ (or-none (storeRefusal voices settings) (readRefusal bytes) (done-0 _ (read .answer)) .1) .1)
-
   all-set : AllSet (entriesOf bytes) rs v₀ s₀ v₁ s₁
-  all-set = sets-fold (entriesOf bytes) [] rs v₀ s₀ v₁ s₁ (rw (store-then cleared clear-sized) none-closed) (usable-then cleared clear-sized) (file-numbers bytes b) read-few sets
+  all-set = sets-fold (entriesOf bytes) [] rs v₀ s₀ v₁ s₁ (rw (store-then cleared clear-sized) none-closed) (usable-then cleared clear-sized) (file-numbers bytes b) (read-few voices settings bytes b v₂ s₂ read) sets
 
   read-sized : Sized (readIn bytes)
-  unfolding readIn
-  read-sized = closed-sized (foldFrom putEntry [] (entriesOf bytes)) (readIn bytes) (closed-fold (entriesOf bytes) [] empty none-closed (file-numbers bytes b) read-few)
+  read-sized = closed-sized (settled (entriesOf bytes)) (readIn bytes) (read-closed voices settings bytes b v₂ s₂ read)
 
   same-store : storeOf v₁ s₁ ≡ readIn bytes
   unfolding readIn

@@ -1,12 +1,13 @@
 -- What set and remove do to the places of a store, whatever it holds.
 use mathlib.Core.Path.{_≡_, refl, sym, ap, _∙_}
-use mathlib.Core.Bool.{true, false}
+use mathlib.Core.Bool.{true, false, _&&_}
 use mathlib.Core.Logic.{⊎-elim, _≢_}
 use mathlib.Core.List.{List}
 use Prim.Native.Nat.{ℕ, suc, _+_, _*_, _≤_, _<_, min}
 use native.Mathlib.Numerals.{add-one, add-two}
 use native.Mathlib.Omega.{arith}
-use borrow.Author.Tests.{le-leb, lt-leb, eq-eqb, ne-eqb}
+use borrow.Author.Tests.{le-leb, lt-leb, eq-eqb, ne-eqb, leb-true, eqb-true}
+use lib.Dec.{leb, eqb}
 use lib.ListN.{length, getD, set, length-set}
 use lib.Seq.{sets, getD-set-same, getD-set-other, set-getD}
 use Rattle.lists.specs.Sizes.{mostVoice}
@@ -27,6 +28,21 @@ pub free-there : (voices : List ℕ) → freePlace voices < length voices → ho
 free-there voices h =
     let l : firstOff (holding voices) < length (holding voices) = rw (holding-long voices) h in
     sym (holding-at voices (freePlace voices) true h) ∙ off-there (holding voices) l
+
+-- a place that holds a voice is the first with its number
+pub held-first : (voices : List ℕ) (i : ℕ) → holdsAt voices i ≡ true → (getD voices i free ≤ mostVoice) × (firstAt (getD voices i free) voices ≡ i)
+held-first voices i e =
+    let v : ℕ = getD voices i free in
+    (elim (leb v mostVoice) as (λ b. leb v mostVoice ≡ b → b && eqb (firstAt v voices) i ≡ true → (v ≤ mostVoice) × (firstAt v voices ≡ i)) [
+      | true ↦ λ q g. (leb-true v mostVoice q, eqb-true (firstAt v voices) i g)
+      | false ↦ λ q g. absurd (let z : _≡_ {A = ℕ} 0 1 = cc in omega arith)
+    ])
+    refl
+    e
+
+-- RULES, Settings: so no voice is held twice
+pub held-once : (voices : List ℕ) (i j : ℕ) → holdsAt voices i ≡ true → holdsAt voices j ≡ true → getD voices i free ≡ getD voices j free → i ≡ j
+held-once voices i j e f g = sym (held-first voices i e .1) ∙ ap (λ (v : ℕ). firstAt v voices) g ∙ held-first voices j f .1
 
 -- ---- set
 

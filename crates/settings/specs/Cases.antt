@@ -83,7 +83,7 @@ pub sets-there : (setIn 9 (settings 90 91 92) (store foreign numbered) ≡ store
 unfolding setIn holding build firstAt firstOff
 sets-there = (refl, refl)
 
--- RULES, Settings: the place of a voice becomes free, and every later place with its number gets that of a free one; its settings stay
+-- RULES, Settings: the place of a voice becomes free, and every later place with its number gets that of a free one, and keeps its settings
 pub removes-there : removeIn 7 (store foreign numbered) ≡ store (free ∷ 300 ∷ free ∷ 65536 ∷ 65535 ∷ []) (0 ∷ 0 ∷ 0 ∷ 3 ∷ 4 ∷ 5 ∷ 6 ∷ 7 ∷ 8 ∷ 9 ∷ 10 ∷ 11 ∷ 12 ∷ 13 ∷ 14 ∷ [])
 unfolding removeIn firstAt replaced
 removes-there = refl

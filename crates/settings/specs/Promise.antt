@@ -69,23 +69,23 @@ heldRefusal voice voices settings = orElse (voiceRefusal voice voices settings) 
 -- ---- promises
 
 -- RULES, Refusals: a call that changes a store, with the number of its refusal and the store that it leaves where that is 0
-pub record Changes (k : ℕ) (new : Store) (voices settings : List ℕ) (r : Changed) (voices′ settings′ : List ℕ) : Type 0 where
+pub record ChangesTo (k : ℕ) (new : Store) (voices settings : List ℕ) (r : Changed) (voices′ settings′ : List ℕ) : Type 0 where
   pub answer : r ≡ changedOf k
   pub numbers : voices′ ≡ written k (new .voices) voices
   pub kept : settings′ ≡ written k (new .settings) settings
 
 abbrev pub ClearSays : List ℕ → List ℕ → Changed → List ℕ → List ℕ → Type 0
-ClearSays voices settings = Changes (storeRefusal voices settings) empty voices settings
+ClearSays voices settings = ChangesTo (storeRefusal voices settings) empty voices settings
 
 abbrev pub SetSays : List ℕ → List ℕ → ℕ → Settings → Changed → List ℕ → List ℕ → Type 0
-SetSays voices settings voice given = Changes (setRefusal voice voices settings) (setIn voice given (storeOf voices settings)) voices settings
+SetSays voices settings voice given = ChangesTo (setRefusal voice voices settings) (setIn voice given (storeOf voices settings)) voices settings
 
 abbrev pub RemoveSays : List ℕ → List ℕ → ℕ → Changed → List ℕ → List ℕ → Type 0
-RemoveSays voices settings voice = Changes (heldRefusal voice voices settings) (removeIn voice (storeOf voices settings)) voices settings
+RemoveSays voices settings voice = ChangesTo (heldRefusal voice voices settings) (removeIn voice (storeOf voices settings)) voices settings
 
 -- RULES, Settings: reading replaces the store
 abbrev pub ReadSays : List ℕ → List ℕ → List ℕ → Changed → List ℕ → List ℕ → Type 0
-ReadSays voices settings bytes = Changes (orElse (storeRefusal voices settings) (readRefusal bytes)) (readIn bytes) voices settings
+ReadSays voices settings bytes = ChangesTo (orElse (storeRefusal voices settings) (readRefusal bytes)) (readIn bytes) voices settings
 
 -- RULES, Settings: the settings of the place that holds the voice
 abbrev pub GetSays : List ℕ → List ℕ → ℕ → Got → Type 0

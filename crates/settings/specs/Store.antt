@@ -42,7 +42,7 @@ holding voices = build (holdsAt voices) (length voices)
 abbrev pub heldIn : List ℕ → ℕ
 heldIn voices = count (holding voices)
 
--- whether a voice is held; it is at the first place with its number
+-- whether a voice is held, of a number that one can have: it is at the first place with that number
 abbrev pub isHeld : ℕ → List ℕ → Bool
 isHeld voice voices = ltb (firstAt voice voices) (length voices)
 
