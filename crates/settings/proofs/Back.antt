@@ -24,9 +24,9 @@ use Rattle.settings.specs.declared.Changed.{Changed}
 use Rattle.settings.specs.declared.Changed.the-variants.{Done}
 use Rattle.settings.specs.declared.Counted.the-variants.{Number}
 use Rattle.settings.specs.declared.Got.the-variants.{Held}
-use Rattle.settings.specs.Store.{Store, storeSettings, storeOf, free, holdsAt, holding, isHeld, firstOff, freePlace, settingsAt, Entry, entryIn, entriesIn}
+use Rattle.settings.specs.Store.{Store, storeSettings, storeOf, free, holdsAt, holding, isHeld, firstOff, freePlace, settingsAt, Entry, entryIn, entriesIn, heldIn}
 use Rattle.settings.specs.Changes.{empty}
-use Rattle.settings.specs.Format.{putEntry, settled, setEntry, entriesOf, readRefusal, readIn}
+use Rattle.settings.specs.Format.{putEntry, settled, setEntry, entriesOf, readRefusal, readIn, voicesOf}
 use Rattle.settings.specs.Promise.{changedOf, countedOf, storeRefusal, fileIn, writeRefusal, ReadSays, WriteSays}
 use Rattle.settings.specs.Laws.{SameSettings}
 use Rattle.settings.specs.Written.{Fits, nothing, Writable}
@@ -38,7 +38,8 @@ use Rattle.settings.proofs.Setting.{holds-first, held-first}
 use Rattle.settings.proofs.Refusing.{has-places}
 use Rattle.settings.proofs.Files.{written-back, written-formed}
 use Rattle.settings.proofs.Laws.{Sized, gotIn, got-held, got-none, get-same, store-then, usable-then}
-use Rattle.settings.proofs.OneByOne.{Numbers, closed-fold, closed-sized, read-closed}
+use Rattle.settings.proofs.Different.{Numbers, different-voices}
+use Rattle.settings.proofs.OneByOne.{closed-fold, closed-sized, read-closed}
 
 -- ---- what a closed store holds
 
@@ -290,8 +291,9 @@ module _ (voices settings out out′ : List ℕ) (m : ℕ) (wrote : WriteSays vo
   accepted : orElse (storeRefusal ws ts) (readRefusal (take m out′)) ≡ 0
   unfolding readRefusal
   accepted =
-      let l : length (settled (entriesOf bytes)) ≤ mostVoices = rw (says, settled-entries x) (few x long) in
-      rw (u, file-is, written-formed 2 (entriesIn x) room, le-ltb mostVoices (length (settled (entriesOf bytes))) l)
+      let n : heldIn (voicesOf (entriesIn x)) ≡ length (entriesIn x) = sym (different-voices (entriesIn x) (entry-numbers x)) ∙ ap length (settled-entries x) in
+      let l : heldIn (voicesOf (entriesOf bytes)) ≤ mostVoices = rw (says, n) (few x long) in
+      rw (u, file-is, written-formed 2 (entriesIn x) room, le-ltb mostVoices (heldIn (voicesOf (entriesOf bytes))) l)
 
   done : r ≡ Done
   done = reads .answer ∙ ap changedOf accepted

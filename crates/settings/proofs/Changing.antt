@@ -10,6 +10,7 @@ use lib.ListN.{length, take, drop, getD, set, replicate, length-set, length-repl
 use lib.Seq.{sets, length-sets, length-take-le, take-all, take-set-lt, drop-set-lt, getD-take}
 use Rattle.lists.specs.Sizes.{mostVoices}
 use Rattle.lists.specs.Refusals.{orElse}
+use Rattle.lists.specs.Bytes.{Bytes}
 use Rattle.lists.specs.Firsts.{firstAt, replaced as exchanged}
 use Rattle.lists.proofs.Answers.{untouched, in-front, front-written}
 use Rattle.lists.proofs.Refusals.{or-first}
@@ -27,6 +28,7 @@ use Rattle.settings.specs.Format.{formatRefusal, readRefusal, entriesOf,
 use Rattle.settings.specs.Promise.{changedOf, gotOf, storeRefusal, voiceRefusal, setRefusal, heldRefusal, ChangesTo, ClearSays, SetSays, GetSays, RemoveSays, ReadSays}
 use Rattle.settings.specs.Inner.Steps.{Gathered, fullRefusal, Replaced}
 use Rattle.settings.proofs.Refusing.{has-places, placed}
+use Rattle.settings.proofs.Different.{file-numbers, different-voices}
 use Rattle.settings.proofs.Places.{place-within, no-place, some-place}
 
 -- ---- any of them
@@ -219,10 +221,10 @@ module _ (voices settings bytes : List ℕ) where
             kept = w ∙ copied storeSettings new-settings settings (omega arith) (p .1) ∙ in-front (fullRefusal bytes) storeSettings (readIn bytes .settings) _ settings k (take-all storeSettings new-settings (omega arith) ∙ g .kept y) (ap length (sym (g .kept y)) ∙ b);
           }
 
-    module _ (f : formatRefusal bytes ≡ 0) (all : Bool) (voices′ settings′ : List ℕ) (r : Replaced voices settings bytes all voices′ settings′) where
+    module _ (b : Bytes bytes) (f : formatRefusal bytes ≡ 0) (all : Bool) (voices′ settings′ : List ℕ) (r : Replaced voices settings bytes all voices′ settings′) where
       after : number ≡ fullRefusal bytes
       unfolding readRefusal
-      after = rw (s, f)
+      after = rw (s, f, different-voices (entriesOf bytes) (file-numbers bytes b))
 
       pub read-full : all ≡ false → ReadSays voices settings bytes (Changed·Refused 17) voices′ settings′
       read-full n =

@@ -21,8 +21,8 @@ use Rattle.lists.proofs.Builds.{build-is, build-at}
 use Rattle.lists.proofs.Fills.{build-length}
 use Rattle.lists.proofs.Joins.{part-part, part-joined, part-last, part-behind, rows-part, rows-cut, rows-same, flatten-rows}
 use Rattle.settings.specs.declared.Settings.{Settings}
-use Rattle.settings.specs.Store.{Entry}
-use Rattle.settings.specs.Format.{mark, versionOf, isKnown, countOf, headBytes, entryBytes, half, entryFrom, entryAt, entriesOf, formatRefusal, settled, readRefusal, bytesOfEntry, bytesOfEntries, bytesOfHeading, bytesOfFile}
+use Rattle.settings.specs.Store.{Entry, heldIn}
+use Rattle.settings.specs.Format.{mark, versionOf, isKnown, countOf, headBytes, entryBytes, half, entryFrom, entryAt, entriesOf, formatRefusal, voicesOf, readRefusal, bytesOfEntry, bytesOfEntries, bytesOfHeading, bytesOfFile}
 use Rattle.settings.specs.Written.{Fits, nothing, Writable}
 use Rattle.settings.proofs.Refusing.{well-formed}
 use Rattle.settings.proofs.Writing.{entry-long, heading-long, file-long}
@@ -126,9 +126,9 @@ module _ (version : ℕ) (es : List Entry) (k : Writable version es) where
       sym (well-formed file marked (omega arith) version (sym version-back) (k .known) w (length es) refl (sym count-back) l)
 
   -- so it is accepted where it has no more than 256 voices
-  pub written-accepted : length (settled es) ≤ mostVoices → readRefusal file ≡ 0
+  pub written-accepted : heldIn (voicesOf es) ≤ mostVoices → readRefusal file ≡ 0
   unfolding readRefusal
-  written-accepted h = rw (written-formed, written-back, le-ltb mostVoices (length (settled es)) h)
+  written-accepted h = rw (written-formed, written-back, le-ltb mostVoices (heldIn (voicesOf es)) h)
 
 -- ---- a file that is well formed
 

@@ -22,13 +22,13 @@ use Rattle.lists.proofs.Firsts.{first-within, first-is, first-none, first-left,
 use Rattle.settings.specs.declared.Settings.{Settings}
 use Rattle.settings.specs.Store.{Store, storeSettings, store, free, holdsAt, freePlace, holding, inOrder, Entry}
 use Rattle.settings.specs.Changes.{empty, placeFor, setIn}
-use Rattle.settings.specs.Format.{countOf, versionOf, headBytes, entryBytes, settingsFrom, entryAt, entriesOf, putEntry, settled, setEntry, readIn}
+use Rattle.settings.specs.Format.{countOf, versionOf, headBytes, entryBytes, settingsFrom, entryAt, entriesOf, putEntry, settled, setEntry, readIn, voicesOf}
 use Rattle.settings.specs.Inner.Steps.{Gathered}
 use Rattle.settings.proofs.Places.{off-at, holding-long, holding-at, own-place, free-place}
 
 -- the voices of records, and their settings one after the other
 abbrev pub names : List Entry → List ℕ
-names es = map (λ (e : Entry). e .voice) es
+names = voicesOf
 
 unfoldable pub all : List Entry → List ℕ
 all es = flatten (map (λ (e : Entry). inOrder (e .settings)) es)
@@ -61,7 +61,7 @@ set-own (y ∷ l) zero x z h e = rw e
 set-own (y ∷ l) (suc i) x z h e = ap (λ (k : List ℕ). y ∷ k) (set-own l i x z (omega arith) e)
 
 -- instead of the one of its voice
-names-put : (es : List Entry) (e : Entry) (p : ℕ) → p < length es → getD (names es) p free ≡ e .voice → names (take p es ++ (e ∷ drop (suc p) es)) ≡ names es
+pub names-put : (es : List Entry) (e : Entry) (p : ℕ) → p < length es → getD (names es) p free ≡ e .voice → names (take p es ++ (e ∷ drop (suc p) es)) ≡ names es
 names-put [] e p h q = absurd (omega arith)
 names-put (x ∷ es) e zero h q = ap (λ (v : ℕ). v ∷ names es) (sym q)
 names-put (x ∷ es) e (suc p) h q = ap (λ (l : List ℕ). x .voice ∷ l) (names-put es e p (omega arith) q)

@@ -3,11 +3,11 @@ use mathlib.Core.Path.{_≡_, refl, sym, ap, _∙_, subst}
 use mathlib.Core.Bool.{cond}
 use mathlib.Core.Logic.{⊎-elim}
 use mathlib.Core.List.{List, [], _∷_, map}
-use Prim.Native.Nat.{ℕ, suc, _+_, _-_, _*_, _≤_, _<_}
+use Prim.Native.Nat.{ℕ, suc, _-_, _≤_, _<_}
 use native.Mathlib.Omega.{arith}
 use borrow.Author.Tests.{lt-ltb, le-ltb}
 use lib.Dec.{ltb}
-use lib.ListN.{length, take, drop, getD, take-append-drop}
+use lib.ListN.{length, take, drop, take-append-drop}
 use lib.Seq.{drop-at}
 use Rattle.lists.specs.Sizes.{mostVoices, mostVoice}
 use Rattle.lists.specs.Build.{foldFrom}
@@ -15,19 +15,16 @@ use Rattle.lists.specs.Bytes.{Bytes}
 use Rattle.lists.specs.Firsts.{firstAt}
 use Rattle.lists.proofs.Numbers.{le-or-lt}
 use Rattle.lists.proofs.Refusals.{or-none}
-use Rattle.lists.proofs.Spelled.{word-below}
-use Rattle.lists.proofs.Fills.{build-length}
-use Rattle.lists.proofs.Builds.{build-at}
 use Rattle.settings.specs.declared.Changed.{Changed}
 use Rattle.settings.specs.declared.Changed.the-variants.{Done}
-use Rattle.settings.specs.Store.{Store, storeSettings, storeOf, Entry}
+use Rattle.settings.specs.Store.{Store, storeSettings, storeOf, Entry, heldIn}
 use Rattle.settings.specs.Changes.{empty, placeFor}
-use Rattle.settings.specs.Format.{countOf, versionOf, entryBytes, entryAt, formatRefusal, entriesOf, putEntry, settled, setEntry, readRefusal, readIn}
-use Rattle.settings.specs.Written.{nothing}
+use Rattle.settings.specs.Format.{formatRefusal, entriesOf, putEntry, settled, setEntry, readRefusal, readIn, voicesOf}
 use Rattle.settings.specs.Promise.{changedOf, storeRefusal, setRefusal, ClearSays, SetSays, ReadSays}
 use Rattle.settings.specs.Laws.{Sets, none, set-then}
 use Rattle.settings.proofs.Places.{some-place}
 use Rattle.settings.proofs.Gathering.{names, Closed, none-closed, put-closed, place-is, put-long, settled-grows, voices-long, settings-long}
+use Rattle.settings.proofs.Different.{Numbers, file-numbers, different-voices}
 use Rattle.settings.proofs.Laws.{done-none, Sized, clear-sized, store-then, usable-then, numbers-then, settings-then, set-sized}
 
 -- ---- records that are put one after the other leave a store closed up
@@ -35,9 +32,6 @@ use Rattle.settings.proofs.Laws.{done-none, Sized, clear-sized, store-t
 -- a record has a place where all of them have
 has-place : (got : List Entry) (x : Entry) (es : List Entry) → length (foldFrom putEntry (putEntry got x) es) ≤ mostVoices → firstAt (x .voice) (names got) < mostVoices
 has-place got x es h = omega (arith, put-long got x, settled-grows (putEntry got x) es)
-
-abbrev pub Numbers : List Entry → Type 0
-Numbers es = (i : ℕ) → i < length es → getD es i nothing .voice ≤ mostVoice
 
 pub closed-fold : (es got : List Entry) (s : Store) → Closed got s → Numbers es → length (foldFrom putEntry got es) ≤ mostVoices → Closed (foldFrom putEntry got es) (foldFrom setEntry s es)
 unfolding foldFrom
@@ -97,13 +91,6 @@ sets-fold (x ∷ es) got rs voices settings voices′ settings′ k u m h (set-t
     let q = sets-fold es (putEntry got x) _ _ _ voices′ settings′ (rw (i .then) (put-closed got (storeOf voices settings) k x (m 0 (omega arith)) (has-place got x es h))) (i .usable) (λ n g. m (suc n) (omega arith)) h rest in
     record { done = rw (i .done, q .done); then = q .then ∙ ap (λ (y : Store). foldFrom setEntry y es) (i .then); numbers = q .numbers ∙ i .numbers; kept = q .kept ∙ i .kept }
 
--- each number of a record is one that a voice can have
-file-numbers : (bytes : List ℕ) → Bytes bytes → Numbers (entriesOf bytes)
-unfolding entriesOf
-file-numbers bytes b i h =
-    let g : i < countOf bytes = rw (build-length (entryAt (versionOf bytes) bytes) (countOf bytes)) at h in
-    rw (build-at (entryAt (versionOf bytes) bytes) (countOf bytes) i nothing g) (let l = word-below bytes b (7 + entryBytes (versionOf bytes) * i) in omega arith)
-
 few-0 : (n : ℕ) → _≡_ {A = ℕ} (cond (ltb mostVoices n) 17 0) 0 → n ≤ mostVoices
 few-0 n e = ⊎-elim (λ (h : n ≤ mostVoices). h) (λ (h : mostVoices < n). absurd (let z : _≡_ {A = ℕ} 17 0 = rw (lt-ltb mostVoices n h) at e in omega arith)) (le-or-lt n mostVoices)
 
@@ -111,7 +98,10 @@ few-0 n e = ⊎-elim (λ (h : n ≤ mostVoices). h) (λ (h : mostVoices < n). ab
 module _ (voices settings bytes : List ℕ) (b : Bytes bytes) (v₂ s₂ : List ℕ) (read : ReadSays voices settings bytes Done v₂ s₂) where
   read-few : length (foldFrom putEntry [] (entriesOf bytes)) ≤ mostVoices
   unfolding readRefusal settled
-  read-few = few-0 (length (foldFrom putEntry [] (entriesOf bytes))) (or-none (formatRefusal bytes) _ (or-none (storeRefusal voices settings) (readRefusal bytes) (done-none _ (read .answer)) .1) .1)
+  read-few =
+      let n : heldIn (voicesOf (entriesOf bytes)) ≤ mostVoices = few-0 (heldIn (voicesOf (entriesOf bytes))) (or-none (formatRefusal bytes) _ (or-none (storeRefusal voices settings) (readRefusal bytes) (done-none _ (read .answer)) .1) .1) in
+      let d : length (foldFrom putEntry [] (entriesOf bytes)) ≡ heldIn (voicesOf (entriesOf bytes)) = different-voices (entriesOf bytes) (file-numbers bytes b) in
+      omega arith
 
   pub read-closed : Closed (settled (entriesOf bytes)) (readIn bytes)
   unfolding readIn settled

@@ -33,7 +33,7 @@ bytes =
     []
 
 pub worked-file : (bytesOfFile 2 worked ≡ bytes) × (entriesOf bytes ≡ worked) × (readRefusal bytes ≡ 0)
-unfolding bytesOfFile bytesOfHeading bytesOfEntries flatten bytesOf entriesOf build little readRefusal formatRefusal startsWith alike settled foldFrom firstAt
+unfolding bytesOfFile bytesOfHeading bytesOfEntries flatten bytesOf entriesOf build little readRefusal formatRefusal startsWith alike holding count firstAt
 worked-file = (refl, refl, refl)
 
 -- RULES, Settings: version 1 has no threshold, which is 0.5
@@ -41,7 +41,7 @@ abbrev first : List ℕ
 first = 86 ∷ 83 ∷ 84 ∷ 1 ∷ 0 ∷ 1 ∷ 0 ∷ 7 ∷ 0 ∷ 1 ∷ 0 ∷ 0 ∷ 0 ∷ 0 ∷ 0 ∷ 0 ∷ 0 ∷ 2 ∷ 0 ∷ 0 ∷ 0 ∷ 0 ∷ 0 ∷ 0 ∷ 0 ∷ []
 
 pub version-1 : (entriesOf first ≡ entry 7 (settings 1 2 half) ∷ []) × (readRefusal first ≡ 0) × (readRefusal (set first 3 2) ≡ 18) × (readRefusal (set bytes 3 1) ≡ 18)
-unfolding entriesOf build little readRefusal formatRefusal startsWith alike settled foldFrom firstAt
+unfolding entriesOf build little readRefusal formatRefusal startsWith alike holding count firstAt
 version-1 = (refl, refl, refl, refl)
 
 pub half-is : ofBits binary64 half ≡ div binary64 (ofInt binary64 (pos 1)) (ofInt binary64 (pos 2))
@@ -103,7 +103,7 @@ many n = VST (1 ∷ 0 ∷ []) ++ (bytesOf 2 n ++ rows (λ i. bytesOf 18 i) n)
 
 -- RULES, Settings: 256 voices, and 257; the length goes before 17
 pub too-many : (readRefusal (many 256) ≡ 0) × (readRefusal (many 257) ≡ 17) × (readRefusal (many 257 ++ (0 ∷ [])) ≡ 18)
-unfolding readRefusal formatRefusal startsWith alike little entriesOf build settled foldFrom firstAt bytesOf rows
+unfolding readRefusal formatRefusal startsWith alike little entriesOf build holding count firstAt bytesOf rows
 too-many = (refl, refl, refl)
 
 -- 256 voices, 0 to 255, and room for their settings

@@ -10,7 +10,7 @@ use Rattle.lists.specs.Build.{build, foldFrom}
 use Rattle.lists.specs.Bytes.{bytesOf, wordAt, patternAt, startsWith}
 use Rattle.lists.specs.Firsts.{firstAt}
 use Rattle.settings.specs.declared.Settings.{Settings}
-use Rattle.settings.specs.Store.{Store, Entry, entry}
+use Rattle.settings.specs.Store.{Store, heldIn, Entry, entry}
 use Rattle.settings.specs.Changes.{empty, setIn}
 
 -- RULES, Settings: first come the letters V, S and T
@@ -64,17 +64,13 @@ formatRefusal bytes =
     (orElse (cond (isKnown (versionOf bytes)) 0 16)
     (cond (eqb (length bytes) (lengthOf (versionOf bytes) (countOf bytes))) 0 18)))
 
--- RULES, Settings: the later record of a voice replaces the earlier in its place, and that of another voice comes behind all
-abbrev pub putEntry : List Entry → Entry → List Entry
-putEntry es e = let p = firstAt (e .voice) (map (λ (x : Entry). x .voice) es) in take p es ++ (e ∷ drop (suc p) es)
+-- the voices of records
+abbrev pub voicesOf : List Entry → List ℕ
+voicesOf es = map (λ (e : Entry). e .voice) es
 
--- one record for each voice
-unfoldable pub settled : List Entry → List Entry
-settled es = foldFrom putEntry [] es
-
--- RULES, Settings: 17 where there are more than 256 different voices
+-- RULES, Settings: 17 where there are more than 256 different voices; a list of numbers holds each of its voices once
 unfoldable pub readRefusal : List ℕ → ℕ
-readRefusal bytes = orElse (formatRefusal bytes) (cond (ltb mostVoices (length (settled (entriesOf bytes)))) 17 0)
+readRefusal bytes = orElse (formatRefusal bytes) (cond (ltb mostVoices (heldIn (voicesOf (entriesOf bytes)))) 17 0)
 
 -- RULES, Settings: what a cleared store becomes when the records are set one after the other
 abbrev pub setEntry : Store → Entry → Store
@@ -82,6 +78,14 @@ setEntry s e = setIn (e .voice) (e .settings) s
 
 unfoldable pub readIn : List ℕ → Store
 readIn bytes = foldFrom setEntry empty (entriesOf bytes)
+
+-- RULES, Settings: the later record of a voice replaces the earlier in its place, and that of another voice comes behind all
+abbrev pub putEntry : List Entry → Entry → List Entry
+putEntry es e = let p = firstAt (e .voice) (voicesOf es) in take p es ++ (e ∷ drop (suc p) es)
+
+-- so one record is left for each voice
+unfoldable pub settled : List Entry → List Entry
+settled es = foldFrom putEntry [] es
 
 -- ---- from the other side
 
