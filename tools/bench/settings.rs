@@ -114,6 +114,10 @@ fn file(records: usize, voices: usize) -> Vec<u8> {
     bytes
 }
 
+fn counted(count: usize, what: &str) -> String {
+    format!("{count} {what}{}", if count == 1 { "" } else { "s" })
+}
+
 /// Short calls are timed a hundred at once, so that reading the clock doesn't count.
 fn timed(what: &str, mut plain: impl FnMut(), mut ours: impl FnMut()) {
     let (first, second) = least_times(|side| {
@@ -136,7 +140,7 @@ pub fn run() {
         ours.our_read(&bytes);
         assert_eq!(plain, ours);
         timed(
-            &format!("read {records} records of {voices} voices"),
+            &format!("read {} of {}", counted(records, "record"), counted(voices, "voice")),
             || assert!(plain.read(black_box(&bytes))),
             || ours.our_read(black_box(&bytes)),
         );
@@ -147,7 +151,7 @@ pub fn run() {
         let mut out = vec![0; HEAD + RECORD * PLACES];
         let written = store.our_write(&mut out);
         assert_eq!(out[..written], store.write());
-        timed(&format!("write {voices} voices"), || drop(black_box(store.write())), || drop(black_box(store.our_write(&mut out))));
+        timed(&format!("write {}", counted(voices, "voice")), || drop(black_box(store.write())), || drop(black_box(store.our_write(&mut out))));
         // The last voice is new each time.
         let last = voices - 1;
         let (mut plain, mut ours) = (store.clone(), store.clone());

@@ -93,7 +93,7 @@ pub const SETTINGS_RECORD_BYTES: usize = 26;
 /// Bytes of the longest settings file that is written.
 pub const SETTINGS_WRITTEN_BYTES: usize = 6663;
 /// Bytes of the longest settings file that is read: 65,535 records.
-pub const SETTINGS_MOST_BYTES: usize = 1703917;
+pub const SETTINGS_MOST_BYTES: usize = 1_703_917;
 
 /// An end that is open, for [`align`]; any number below 0, and NaN, says the same.
 pub const OPEN_END: f64 = -1.0;

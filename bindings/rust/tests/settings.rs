@@ -2,8 +2,8 @@
 //! hand. Random calls are held to a second store, which is written here and looks up places only.
 
 use hejmirov::{
-    FREE_PLACE, MAX_VOICE, MAX_VOICES, Refusal, SETTINGS_WRITTEN_BYTES, SETTINGS_HEAD_BYTES,
-    SETTINGS_RECORD_BYTES, STORE_SETTINGS, Settings, Store,
+    FREE_PLACE, MAX_VOICE, MAX_VOICES, Refusal, SETTINGS_HEAD_BYTES, SETTINGS_RECORD_BYTES,
+    SETTINGS_WRITTEN_BYTES, STORE_SETTINGS, Settings, Store,
 };
 
 const NAN: u64 = 0x7ff8_0000_0000_0000;
