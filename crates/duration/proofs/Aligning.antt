@@ -34,7 +34,7 @@ use Rattle.duration.specs.Fitting.FairAlong.{ended, next}
 use Rattle.duration.proofs.Closing.{accepted-group}
 use Rattle.duration.proofs.Estimates.{length-estimates}
 use Rattle.duration.proofs.Fairness.{positive-at, estimates-positive, fair-fit}
-use Rattle.duration.proofs.Refusals.{labelled}
+use Rattle.duration.proofs.Refusals.{Labels, Fitting, labelled}
 
 -- ---- one duration a state, none below the shortest
 
@@ -165,26 +165,37 @@ aligned-is : (r : Aligned) (n c : ℕ) → aligned r ≡ answerOf 0 (n ∷ c ∷
 aligned-is (align.Done w d) n c e = let q : w ∷ d ∷ [] ≡ n ∷ c ∷ [] = ap (λ (a : Answer). a .values) e in cc
 aligned-is (align.Refused k) n c e = absurd (let q : _≡_ {A = List ℕ} [] (n ∷ c ∷ []) = ap (λ (a : Answer). a .values) e in let z : _≡_ {A = ℕ} 0 1 = cc in omega arith)
 
-pub align-theorem : (ms vs : List Float) (nstate : ℕ) (ends : List Float) (out work : List ℕ) (r : Aligned) (out′ work′ : List ℕ) → aligned r .number ≡ 0
-    → AlignSays ms vs nstate ends out work r out′ work′ → AcceptedAlong ms vs (groups nstate 0 0 ends) out r out′
-align-theorem ms vs nstate ends out work r out′ work′ z f =
-    let gs : List Group = groups nstate 0 0 ends in
-    let o : Outcome = fitAlong ms vs gs 0 in
-    let lists : ℕ = refusalOfLabels nstate (length ends) (length ms) (length vs) (length out) (length work) in
-    let k : ℕ = orElse lists (refusalAlong ms vs gs 0) in
-    let n : k ≡ 0 = accepted-is (aligned r) k _ (f .answer) z .0 in
-    let p = or-none lists (refusalAlong ms vs gs 0) n in
-    let l = labelled nstate (length ends) (length ms) (length vs) (length out) (length work) (p .0) in
-    let w = course ms vs (l .1 .agree) nstate (l .0 .some) 0 0 0 ends zero-le (omega (arith, l .0 .cover)) (p .1) in
-    let c : length (o .durations) ≡ length ms = omega (arith, w .count) in
-    record {
-      outcome = o;
-      answer = aligned-is r (length ms) (o .changes) (f .answer ∙ ap (λ (m : ℕ). answerOf m (length ms ∷ o .changes ∷ [])) n);
-      output = f .output ∙ rw (n, c);
-      states = l .1 .few;
-      frames = omega (arith, w .few);
-      count = c;
-      positive = λ i h. positive-at (w .positive) i (omega arith);
-      fair = w .fair;
-      natural = ap (λ (n : ℕ). drop n (o .durations)) (sym (sub-zero (lastFrom gs))) ∙ w .natural;
-    }
+module _ (ms vs : List Float) (nstate : ℕ) (ends : List Float) (out work : List ℕ) (r : Aligned) (out′ work′ : List ℕ) (z : aligned r .number ≡ 0) (f : AlignSays ms vs nstate ends out work r out′ work′) where
+  abbrev gs : List Group
+  gs = groups nstate 0 0 ends
+
+  abbrev lists : ℕ
+  lists = refusalOfLabels nstate (length ends) (length ms) (length vs) (length out) (length work)
+
+  unrefused : orElse lists (refusalAlong ms vs gs 0) ≡ 0
+  unrefused = accepted-is (aligned r) (orElse lists (refusalAlong ms vs gs 0)) _ (f .answer) z .0
+
+  within-sizes : Labels nstate (length ends) (length ms) × Fitting (length ms) (length vs) (length out) (length work)
+  within-sizes = labelled nstate (length ends) (length ms) (length vs) (length out) (length work) (or-none lists (refusalAlong ms vs gs 0) unrefused .0)
+
+  -- nstate is in range, and the states are those of the labels
+  pub align-labels : Labels nstate (length ends) (length ms)
+  align-labels = within-sizes .0
+
+  pub align-theorem : AcceptedAlong ms vs gs out r out′
+  align-theorem =
+      let o : Outcome = fitAlong ms vs gs 0 in
+      let l = within-sizes .1 in
+      let w = course ms vs (l .agree) nstate (align-labels .some) 0 0 0 ends zero-le (omega (arith, align-labels .cover)) (or-none lists (refusalAlong ms vs gs 0) unrefused .1) in
+      let c : length (o .durations) ≡ length ms = omega (arith, w .count) in
+      record {
+        outcome = o;
+        answer = aligned-is r (length ms) (o .changes) (f .answer ∙ ap (λ (m : ℕ). answerOf m (length ms ∷ o .changes ∷ [])) unrefused);
+        output = f .output ∙ rw (unrefused, c);
+        states = l .few;
+        frames = omega (arith, w .few);
+        count = c;
+        positive = λ i h. positive-at (w .positive) i (omega arith);
+        fair = w .fair;
+        natural = ap (λ (n : ℕ). drop n (o .durations)) (sym (sub-zero (lastFrom gs))) ∙ w .natural;
+      }

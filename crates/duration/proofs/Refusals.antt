@@ -90,6 +90,7 @@ fitting n v o w h =
 
 pub record Labels (k l n : ℕ) : Type 0 where
   pub some : 1 ≤ k
+  pub narrow : k ≤ 16
   pub cover : l * k ≡ n
 
 pub labelled : (k l n v o w : ℕ) → refusalOfLabels k l n v o w ≡ 0 → Labels k l n × Fitting n v o w
@@ -99,7 +100,7 @@ labelled k l n v o w h =
     let b = cond-none (ltb k 1) 2 _ (a .1) in
     let c = cond-none (ltb 16 k) 2 _ (b .1) in
     let d = cond-none (not (eqb (l * k) n)) 3 _ (c .1) in
-    (record { some = ltb-false k 1 (b .0); cover = eqb-true (l * k) n (not-false (eqb (l * k) n) (d .0)) }, fitting n v o w (d .1))
+    (record { some = ltb-false k 1 (b .0); narrow = ltb-false 16 k (c .0); cover = eqb-true (l * k) n (not-false (eqb (l * k) n) (d .0)) }, fitting n v o w (d .1))
 
 -- ---- all of them leave the work space untouched
 

@@ -1,6 +1,6 @@
 -- The call's door, and what lies behind it.
-use mathlib.Core.Path.{_≡_, refl, sym, _∙_}
-use mathlib.Core.Bool.{Bool, true, false, not, _&&_, true≢false}
+use mathlib.Core.Path.{_≡_, _∙_}
+use mathlib.Core.Bool.{Bool, true, not}
 use mathlib.Core.List.{List, map}
 use Prim.Native.Nat.{ℕ, _*_, _<_, _≤_, _^_}
 use borrow.Author.Tests.{ltb-true, leb-true, eqb-true, not-true}
@@ -17,12 +17,9 @@ use Rattle.region.proofs.Across.{across-as}
 use Rattle.region.proofs.Flats.{lists-are}
 use Rattle.gv.specs.Promise.{opens, variedIn, VarySays}
 use Rattle.gv.specs.Inner.Turns.{Planned, Suited, listsIn, parmgenIn}
+use Rattle.lists.proofs.Flags.{both}
 use Rattle.gv.specs.declared.MlpgGlobalVariance.{MlpgGlobalVariance}
 use Rattle.gv.proofs.Varied.{varied-is}
-
-both : (a b : Bool) → a && b ≡ true → (a ≡ true) × (b ≡ true)
-both true b e = (refl, e)
-both false b e = absurd (true≢false (sym e))
 
 module _ (g : Layout) (on means varis floats : ℕ) where
   pub record Opened : Type 0 where

@@ -18,7 +18,7 @@ use Rattle.job.specs.declared.finding.Found.{Found}
 use Rattle.job.specs.declared.finding.Found.the-variants.{Sound, Wrong}
 use Rattle.job.specs.Format.{mark, versionOf, version, countOf, lengthOf, IsJob}
 use Rattle.job.specs.Damage.{elseFound, foundTo, markFound, wordFound, lengthFound, damageOf}
-use Rattle.job.proofs.Frames.{neither}
+use Rattle.lists.proofs.Flags.{neither}
 
 -- ---- a number that is what it may be, or is not
 

@@ -1,6 +1,6 @@
 -- A speed that is not refused gives one duration a state, and not too many frames.
 use mathlib.Core.Path.{_≡_, refl}
-use mathlib.Core.Bool.{Bool, true, false, cond, _||_}
+use mathlib.Core.Bool.{true, false, cond}
 use mathlib.Core.List.{List}
 use Prim.Native.Nat.{ℕ, zero, suc, _≤_, _<_}
 use native.Mathlib.Omega.{arith}
@@ -10,6 +10,7 @@ use lib.Ieee.{Float, eq}
 use borrow.Author.Tests.{eqb-false, leb-false, ltb-false}
 use Rattle.lists.specs.Sizes.{mostFrames}
 use Rattle.lists.specs.Totals.{total}
+use Rattle.lists.proofs.Flags.{neither}
 use Rattle.floats.specs.Numbers.{nought, one}
 use Rattle.steps.specs.Steps.{shortest, Outcome, unchanged}
 use Rattle.duration.specs.Fit.{startOf, atShortest, fitTo, refusalTo}
@@ -27,10 +28,6 @@ total-ones : (n : ℕ) → total (replicate n 1) ≡ n
 unfolding total
 total-ones zero = refl
 total-ones (suc n) = omega (arith, total-ones n)
-
-pub neither : (a b : Bool) → a || b ≡ false → (a ≡ false) × (b ≡ false)
-neither true b e = absurd (let z : _≡_ {A = ℕ} 0 1 = cc in omega arith)
-neither false b e = (refl, e)
 
 module _ (ms vs : List Float) (few : length ms ≤ 4096) (agree : length vs ≡ length ms) where
   ones : Bounded (length ms) (unchanged (replicate (length ms) shortest))

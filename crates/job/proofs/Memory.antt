@@ -19,7 +19,7 @@ use Rattle.lists.proofs.Refusals.{or-none}
 use Rattle.lists.proofs.Regions.{lent-stored}
 use Rattle.duration.proofs.Refusals.{cond-none}
 use Rattle.job.specs.Link.{headBytes, linkRoom, linkBytes, idle, underWay, stageOf, hasEnded, cameIn, beginRefusal, linkRefusal}
-use Rattle.job.proofs.Frames.{neither}
+use Rattle.lists.proofs.Flags.{neither}
 
 -- ---- a memory with a job under way, in which a part and an end are taken
 

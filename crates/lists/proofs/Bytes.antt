@@ -1,6 +1,6 @@
 -- Laws of numbers and their bytes.
 use mathlib.Core.Path.{_≡_, refl, sym, ap, _∙_}
-use mathlib.Core.List.{List, _∷_}
+use mathlib.Core.List.{List, [], _∷_, _++_}
 use mathlib.Core.Logic.{⊎-elim}
 use Prim.Native.Nat.{ℕ, zero, suc, _+_, _-_, _*_, _/_, _%_, _^_, _<_, _≤_, min}
 use native.Mathlib.Nat.{lt-of-lt-of-le}
@@ -8,7 +8,7 @@ use native.Mathlib.Numerals.{add-one}
 use native.Mathlib.Omega.{arith}
 use lib.Pow.{pow-add, pow-mono}
 use lib.ListN.{length, take, drop, getD, set, drop-of-length-le, length-take, length-drop}
-use lib.Seq.{sets, drop-cons, getD-take, getD-drop, length-take-le, take-nil}
+use lib.Seq.{sets, drop-cons, getD-take, getD-drop, length-take-le, take-nil, take-at, drop-at}
 use Rattle.lists.specs.Bytes.{little, bytesOf}
 use Rattle.lists.proofs.Numbers.{le-or-lt}
 use Rattle.lists.proofs.Parts.{take-min}
@@ -35,6 +35,33 @@ little-bytes (suc k) n h =
     let e : 2 ^ (8 * k + 8) ≡ 2 ^ (8 * k) * 256 = pow-add 2 (8 * k) 8 in
     let l : n < 2 ^ (8 * k) * 256 = rw (a, e) at h in
     omega (arith, little-bytes k (n / 256) (omega arith))
+
+-- so too where they stand behind others and before others
+pub little-at : (p q : List ℕ) (o k n : ℕ) → length p ≡ o → n < 2 ^ (8 * k) → little (take k (drop o (p ++ (bytesOf k n ++ q)))) ≡ n
+little-at p q o k n e h = ap (λ (l : List ℕ). little (take k l)) (drop-at p (bytesOf k n ++ q) o e) ∙ ap little (take-at (bytesOf k n) q k (bytes-length k n)) ∙ little-bytes k n h
+
+-- four bytes that are there, one by one
+module _ (bytes : List ℕ) where
+  byte-first : (i j k : ℕ) → i < length bytes → suc i ≡ j → take (suc k) (drop i bytes) ≡ getD bytes i 0 ∷ take k (drop j bytes)
+  byte-first i j k h e = ap (take (suc k)) (drop-cons bytes i 0 h) ∙ ap (λ (n : ℕ). getD bytes i 0 ∷ take k (drop n bytes)) e
+
+  pub four-bytes : (at : ℕ) → at + 4 ≤ length bytes → take 4 (drop at bytes) ≡ getD bytes at 0 ∷ getD bytes (at + 1) 0 ∷ getD bytes (at + 2) 0 ∷ getD bytes (at + 3) 0 ∷ []
+  four-bytes at h =
+      let b : ℕ → ℕ = λ i. getD bytes i 0 in
+      byte-first at (at + 1) 3 (omega arith) (omega arith)
+      ∙ ap (λ (l : List ℕ). b at ∷ l) (byte-first (at + 1) (at + 2) 2 (omega arith) (omega arith)
+      ∙ ap (λ (l : List ℕ). b (at + 1) ∷ l) (byte-first (at + 2) (at + 3) 1 (omega arith) (omega arith)
+      ∙ ap (λ (l : List ℕ). b (at + 2) ∷ l) (byte-first (at + 3) (at + 4) 0 (omega arith) (omega arith))))
+
+-- a number's four bytes are stored, one by one
+pub four-stored : (s : List ℕ) (at n : ℕ) → set (set (set (set s at (n % 256)) (at + 1) (n / 256 % 256)) (at + 2) (n / 65536 % 256)) (at + 3) (n / 16777216 % 256) ≡ sets s at (bytesOf 4 n)
+unfolding bytesOf
+four-stored s at n =
+    let two : at + 2 ≡ suc (suc at) = omega arith in
+    let three : at + 3 ≡ suc (suc (suc at)) = omega arith in
+    let b : n / 65536 ≡ n / 256 / 256 = omega arith in
+    let c : n / 16777216 ≡ n / 256 / 256 / 256 = omega arith in
+    rw (add-one at, two, three, b, c)
 
 -- no bytes say 0
 pub little-past : (bytes : List ℕ) (at w : ℕ) → length bytes ≤ at → 0 ≡ little (take w (drop at bytes))

@@ -1,13 +1,26 @@
 -- Laws of yes and no as numbers.
-use mathlib.Core.Path.{_≡_, refl, ap}
-use mathlib.Core.Bool.{Bool, true, false}
+use mathlib.Core.Path.{_≡_, refl, sym, ap}
+use mathlib.Core.Bool.{Bool, true, false, _&&_, _||_, true≢false}
 use mathlib.Core.List.{List, [], _∷_, map}
 use Prim.Native.Nat.{ℕ, zero, suc}
 use Rattle.lists.specs.Flags.{flag, isOn}
 
+-- both of two tests hold, and neither does
+pub both : (a b : Bool) → a && b ≡ true → (a ≡ true) × (b ≡ true)
+both true b e = (refl, e)
+both false b e = absurd (true≢false (sym e))
+
+pub neither : (a b : Bool) → a || b ≡ false → (a ≡ false) × (b ≡ false)
+neither true b e = absurd (true≢false e)
+neither false b e = (refl, e)
+
 pub on-true : (y : ℕ) → (y ≡ 0 → ⊥) → isOn y ≡ true
 on-true zero h = absurd (h refl)
 on-true (suc y) h = refl
+
+pub off-zero : (y : ℕ) → isOn y ≡ false → y ≡ 0
+off-zero zero h = refl
+off-zero (suc y) h = absurd (true≢false h)
 
 pub flag-back : (b : Bool) → isOn (flag b) ≡ b
 flag-back true = refl

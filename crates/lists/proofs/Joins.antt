@@ -3,13 +3,17 @@ use mathlib.Core.Path.{_≡_, refl, sym, ap, _∙_}
 use mathlib.Core.Logic.{⊎-elim}
 use mathlib.Core.List.{List, [], _∷_, _++_, map, flatten, append-assoc, append-nil}
 use Prim.Native.Nat.{ℕ, zero, suc, _+_, _*_, _<_, _≤_}
-use native.Mathlib.Nat.{zero-mul, suc-mul}
+use native.Mathlib.Nat.{mul-comm, zero-mul, suc-mul}
+use native.Mathlib.Numerals.{add-one}
 use native.Mathlib.Omega.{arith}
 use lib.ListN.{length, take, drop, getD, length-append, length-drop, take-append-drop}
-use lib.Seq.{take-at, take-all, take-take, drop-append-add, drop-drop}
-use Rattle.lists.specs.Build.{rows}
+use lib.Seq.{sets, take-at, take-all, take-take, drop-append-add, drop-drop}
+use Rattle.lists.specs.Build.{build, rows}
 use Rattle.lists.specs.Parts.{part}
 use Rattle.lists.proofs.Numbers.{le-or-lt}
+use Rattle.lists.proofs.Stores.{sets-behind}
+use Rattle.lists.proofs.Fills.{build-length}
+use Rattle.lists.proofs.Builds.{build-at}
 
 module _ {A : Type 0} where
   -- a part and what lies behind it
@@ -32,12 +36,26 @@ module _ {A : Type 0} where
   rows-same r q zero h = refl
   rows-same r q (suc n) h = rw (rows-same r q n (λ t l. h t (omega arith)), h n (omega arith))
 
+  -- no row, and one row more
+  pub rows-none : (r : ℕ → List A) → rows r 0 ≡ []
+  unfolding rows
+  rows-none r = refl
+
+  pub rows-next : (r : ℕ → List A) (n : ℕ) → rows r (n + 1) ≡ rows r n ++ r n
+  unfolding rows
+  rows-next r n = rw add-one
+
   -- rows of w items each
   module _ (r : ℕ → List A) (w : ℕ) where
     pub rows-length : (n : ℕ) → ((t : ℕ) → t < n → length (r t) ≡ w) → length (rows r n) ≡ n * w
     unfolding rows
     rows-length zero each = sym (zero-mul w)
     rows-length (suc n) each = simp length-append (omega (arith, rows-length n (λ t h. each t (omega arith)), each n (omega arith), suc-mul n w))
+
+    -- a row is stored behind those before it
+    pub rows-stored : (n base at : ℕ) (l s s′ : List A) → ((t : ℕ) → length (r t) ≡ w) → s ≡ sets l base (rows r n) → at ≡ base + w * n → s′ ≡ sets s at (r n) → s′ ≡ sets l base (rows r (n + 1))
+    rows-stored n base at l s s′ each e a f =
+        f ∙ sets-behind (rows r n) (r n) l s base at e (omega (arith, rows-length n (λ t h. each t), mul-comm n w)) ∙ ap (sets l base) (sym (rows-next r n))
 
     pub rows-part : (n t : ℕ) (rest : List A) → t < n → ((i : ℕ) → i < n → length (r i) ≡ w) → part (t * w) w (rows r n ++ rest) ≡ r t
     unfolding rows
@@ -82,3 +100,10 @@ pub flatten-rows : {A B : Type 0} (f : B → List A) (z : B) (xs : List B) → f
 unfolding flatten
 flatten-rows f z [] = unfold rows in refl
 flatten-rows {A} f z (x ∷ xs) = ap (λ (l : List A). f x ++ l) (flatten-rows f z xs) ∙ sym (rows-first (λ i. f (getD (x ∷ xs) i z)) (length xs))
+
+-- and for each of a list by a rule
+pub flatten-build : {A B : Type 0} (f : B → List A) (g : ℕ → B) (n : ℕ) → flatten (map f (build g n)) ≡ rows (λ i. f (g i)) n
+flatten-build f g n =
+    flatten-rows f (g 0) (build g n)
+    ∙ ap (rows (λ i. f (getD (build g n) i (g 0)))) (build-length g n)
+    ∙ rows-same (λ i. f (getD (build g n) i (g 0))) (λ i. f (g i)) n (λ i h. ap f (build-at g n i (g 0) h))

@@ -1,5 +1,6 @@
 -- Laws of refusal numbers.
 use mathlib.Core.Path.{_≡_, refl}
+use mathlib.Core.Bool.{Bool, true, false, cond}
 use Prim.Native.Nat.{ℕ, zero, suc, _≤_}
 use native.Mathlib.Omega.{arith}
 use Rattle.lists.specs.Refusals.{orElse}
@@ -8,6 +9,11 @@ use Rattle.lists.specs.Refusals.{orElse}
 pub or-first : (k l : ℕ) → (k ≡ 0 → ⊥) → orElse k l ≡ k
 or-first zero l z = absurd (z refl)
 or-first (suc k) l z = refl
+
+-- a test that refuses where it fails has held
+pub none-then : (t : Bool) (k : ℕ) → cond t 0 (suc k) ≡ 0 → t ≡ true
+none-then true k e = refl
+none-then false k e = absurd (omega arith)
 
 -- neither is above m
 pub or-below : (k l m : ℕ) → k ≤ m → l ≤ m → orElse k l ≤ m

@@ -61,10 +61,13 @@ bytes-of zero n i = omega arith
 bytes-of (suc k) n zero = omega arith
 bytes-of (suc k) n (suc i) = bytes-of k (n / 256) i
 
--- two bytes, or fewer, say a number of 16 bits
+-- k bytes, or fewer, say a number of so many
+pub some-below : (bs : List ℕ) → Bytes bs → (at k : ℕ) → little (take k (drop at bs)) < 2 ^ (8 * k)
+some-below bs p at k =
+    let part : List ℕ = take k (drop at bs) in
+    let l : length part ≤ k = simp length-take (omega arith) in
+    let q : 8 * length part ≤ 8 * k = omega arith in
+    lt-of-lt-of-le (little-below part (take-bytes k (drop at bs) (λ i. rw (getD-drop at bs i 0) (p (at + i))))) (pow-mono q)
+
 pub word-below : (bs : List ℕ) → Bytes bs → (at : ℕ) → wordAt bs at < 65536
-word-below bs p at =
-    let part : List ℕ = take 2 (drop at bs) in
-    let l : length part ≤ 2 = simp length-take (omega arith) in
-    let q : 8 * length part ≤ 16 = omega arith in
-    lt-of-lt-of-le (little-below part (take-bytes 2 (drop at bs) (λ i. rw (getD-drop at bs i 0) (p (at + i))))) (pow-mono q)
+word-below bs p at = some-below bs p at 2

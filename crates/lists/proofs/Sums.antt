@@ -1,12 +1,12 @@
 -- Laws of totals and of folds.
-use mathlib.Core.Path.{_≡_, ap}
+use mathlib.Core.Path.{_≡_, ap, _∙_}
 use mathlib.Core.List.{List, [], _∷_, _++_}
 use Prim.Native.Nat.{ℕ, zero, suc, _+_, _*_, _^_, _<_, _≤_, zero-le}
 use native.Mathlib.Nat.{not-suc-le-zero}
 use native.Mathlib.Numerals.{add-one}
 use native.Mathlib.Omega.{arith}
-use lib.ListN.{length, take, drop, getD, set, drop-of-length-le}
-use lib.Seq.{drop-cons, take-suc, take-all}
+use lib.ListN.{length, take, drop, getD, set, take-append-drop, drop-of-length-le}
+use lib.Seq.{drop-cons, take-suc, take-add, take-all}
 use Rattle.lists.specs.Totals.{total}
 use Rattle.lists.specs.Build.{foldFrom}
 
@@ -28,6 +28,14 @@ total-next xs i h = rw (drop-cons xs i 0 h, add-one)
 pub total-none : (xs : List ℕ) (i : ℕ) → length xs ≤ i → total (drop i xs) ≡ 0
 unfolding total
 total-none xs i h = rw (drop-of-length-le xs h)
+
+-- a part more
+pub total-part : (xs : List ℕ) (a n : ℕ) → total (take (a + n) xs) ≡ total (take a xs) + total (take n (drop a xs))
+total-part xs a n = ap total (take-add a n xs) ∙ total-append (take a xs) (take n (drop a xs))
+
+-- a front has no larger total
+pub total-front : (xs : List ℕ) (a : ℕ) → total (take a xs) ≤ total xs
+total-front xs a = omega (arith, total-append (take a xs) (drop a xs), ap total (take-append-drop a xs))
 
 -- no number is larger than the total
 pub getD-le-total : (xs : List ℕ) (i : ℕ) → getD xs i 0 ≤ total xs

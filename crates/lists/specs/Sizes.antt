@@ -36,6 +36,10 @@ mostVoices = 256
 abbrev pub mostVoice : ℕ
 mostVoice = 65535
 
+-- words of an utterance: as many as 32 bits count
+abbrev pub mostWords : ℕ
+mostWords = 4294967295
+
 -- RULES, Sizes: a frame has 1 to 64 components; v is out of that range
 abbrev pub outside : ℕ → Bool
 outside v = ltb v 1 || ltb mostComponents v

@@ -1,5 +1,6 @@
 // Total functions on lent lists: whatever the places and counts, they do what the list has room for.
 ghost use mathlib.Core.Path.{_≡_};
+ghost use mathlib.Core.List.{[], _∷_};
 ghost use Prim.Native.Nat.{_*_, _^_, min, max};
 ghost use lib.ListN.{take, drop, replicate};
 ghost use lib.Dec.{leb};
@@ -190,6 +191,26 @@ pub fn little_endian(bytes: &[u8], at: usize, width: usize) -> u64
     number
 }
 
+// The same of four bytes; where all are there they are read with no loop, and so by one load.
+pub fn little_u32(bytes: &[u8], at: usize) -> u32
+    ensures { λ r. ⌜ r ≡ little (take 4 (drop at (now (bytes .entry)))) ⌝ }
+{
+    let n = bytes.len();
+    if n < 4 {
+        return little_endian(bytes, at, 4) as u32;
+    }
+    if n - 4 < at {
+        return little_endian(bytes, at, 4) as u32;
+    }
+    of_four(bytes[at], bytes[at + 1], bytes[at + 2], bytes[at + 3])
+}
+
+fn of_four(a: u8, b: u8, c: u8, d: u8) -> u32
+    ensures { λ r. ⌜ r ≡ little (a ∷ b ∷ c ∷ d ∷ []) ⌝ }
+{
+    a as u32 + 256 * (b as u32) + 65_536 * (c as u32) + 16_777_216 * (d as u32)
+}
+
 // A number as an index, in 64 bits, and a byte as each: a read that is widened by a call asks for its index alone.
 pub fn wide(x: u32) -> usize
     ensures { λ r. ⌜ r ≡ x ⌝ }
@@ -231,6 +252,25 @@ pub fn put_little_endian(bytes: &mut [u8], at: usize, width: usize, number: u64)
         rest = rest / 256;
         i += 1;
     }
+}
+
+// The same of four bytes; where there is room for all they are written with no loop, and so by one store.
+pub fn put_u32(bytes: &mut [u8], at: usize, number: u32)
+    ensures { λ _. ⌜ now (bytes .exit) ≡ sets (now (bytes .entry)) at (bytesOf 4 number) ⌝ }
+{
+    let n = bytes.len();
+    if n < 4 {
+        put_little_endian(bytes, at, 4, long(number));
+        return;
+    }
+    if n - 4 < at {
+        put_little_endian(bytes, at, 4, long(number));
+        return;
+    }
+    bytes[at] = (number % 256) as u8;
+    bytes[at + 1] = (number / 256 % 256) as u8;
+    bytes[at + 2] = (number / 65_536 % 256) as u8;
+    bytes[at + 3] = (number / 16_777_216 % 256) as u8;
 }
 
 // The place of the first of these numbers that is v, or their length where none is.

@@ -13,6 +13,7 @@ use lib.Ieee.{Float}
 use Rattle.lists.specs.Sizes.{outside}
 use Rattle.lists.specs.Totals.{total}
 use Rattle.lists.specs.Refusals.{orElse}
+use Rattle.lists.proofs.Flags.{neither}
 use Rattle.lists.proofs.Sums.{total-whole}
 use Rattle.lists.proofs.Stores.{filled}
 use Rattle.lists.proofs.Fills.{build-length}
@@ -72,15 +73,10 @@ three-tests false false true h = let z : _≡_ {A = ℕ} 0 1 = cc in absurd (ome
 three-tests false true d h = let z : _≡_ {A = ℕ} 0 1 = cc in absurd (omega arith)
 three-tests true b d h = let z : _≡_ {A = ℕ} 0 1 = cc in absurd (omega arith)
 
-both-tests : (a b : Bool) → a || b ≡ false → (a ≡ false) × (b ≡ false)
-both-tests false false h = (refl, refl)
-both-tests false true h = let z : _≡_ {A = ℕ} 0 1 = cc in absurd (omega arith)
-both-tests true b h = let z : _≡_ {A = ℕ} 0 1 = cc in absurd (omega arith)
-
 pub in-range : (v states : ℕ) → outOfRange v states ≡ false → InRange v states
 in-range v states h =
-    let t = both-tests (ltb 4096 states) (outside v) h in
-    let u = both-tests (ltb v 1) (ltb 64 v) (t .1) in
+    let t = neither (ltb 4096 states) (outside v) h in
+    let u = neither (ltb v 1) (ltb 64 v) (t .1) in
     record { few = ltb-false 4096 states (t .0); some-v = ltb-false v 1 (u .0); most-v = ltb-false 64 v (u .1) }
 
 has-room : (v frames : ℕ) (n : Lengths) → short v frames n ≡ false → Room v frames n

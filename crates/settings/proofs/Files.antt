@@ -1,8 +1,8 @@
 -- The format from both sides: the records that a file says, and the file that says them.
 use mathlib.Core.Path.{_≡_, refl, sym, ap, _∙_}
-use mathlib.Core.Bool.{Bool, true, false, cond}
+use mathlib.Core.Bool.{true, false, cond}
 use mathlib.Core.List.{List, [], _++_, append-assoc, append-nil}
-use Prim.Native.Nat.{ℕ, suc, _+_, _-_, _*_, _^_, _≤_, _<_}
+use Prim.Native.Nat.{ℕ, _+_, _*_, _^_, _≤_, _<_}
 use native.Mathlib.Nat.{mul-comm, suc-mul, mul-le-mul-right}
 use native.Mathlib.Omega.{arith}
 use borrow.Author.Tests.{le-ltb, eq-eqb, eqb-true}
@@ -13,7 +13,7 @@ use Rattle.lists.specs.Sizes.{mostVoices}
 use Rattle.lists.specs.Build.{rows}
 use Rattle.lists.specs.Parts.{part}
 use Rattle.lists.specs.Bytes.{Bytes, little, bytesOf, wordAt, patternAt, startsWith}
-use Rattle.lists.proofs.Refusals.{or-none}
+use Rattle.lists.proofs.Refusals.{or-none, none-then}
 use Rattle.lists.proofs.Bytes.{little-bytes}
 use Rattle.lists.proofs.Spelled.{part-spelled, part-below, word-below}
 use Rattle.lists.proofs.Fronts.{starts-is, is-starts}
@@ -136,10 +136,6 @@ module _ (version : ℕ) (es : List Entry) (k : Writable version es) where
 pub read-formed : (bytes : List ℕ) → readRefusal bytes ≡ 0 → formatRefusal bytes ≡ 0
 unfolding readRefusal
 read-formed bytes e = or-none (formatRefusal bytes) _ e .0
-
-none-then : (t : Bool) (k : ℕ) → cond t 0 (suc k) ≡ 0 → t ≡ true
-none-then true k e = refl
-none-then false k e = absurd (omega arith)
 
 module _ (bytes : List ℕ) (b : Bytes bytes) (z : formatRefusal bytes ≡ 0) where
   abbrev v : ℕ

@@ -1,21 +1,22 @@
--- Excerpts lie in the trajectory, and all of them joined are the trajectory.
+-- Excerpts lie in the trajectory, those of consecutive states joined are a part of it, and all of them are the trajectory.
 use mathlib.Core.Path.{_≡_, sym, ap, _∙_}
-use mathlib.Core.List.{List, [], _∷_, _++_, append-assoc, append-nil, flatten}
+use mathlib.Core.List.{List, []}
 use Prim.Native.Nat.{ℕ, zero, suc, _+_, _*_, _<_, _≤_}
-use native.Mathlib.Nat.{add-mul, mul-le-mul-right}
+use native.Mathlib.Nat.{zero-mul, add-mul, mul-le-mul-right}
 use native.Mathlib.Numerals.{add-one}
 use native.Mathlib.Omega.{arith}
 use denote.Ref.{RefT}
 use lib.Ieee.{Float}
-use lib.ListN.{length, take, drop, getD, take-append-drop}
-use lib.Seq.{take-add, take-all}
+use lib.ListN.{length, take, drop, getD, length-drop, take-append-drop}
+use lib.Seq.{getD-drop, drop-drop, take-add, take-all}
 use Rattle.lists.specs.Totals.{total}
-use Rattle.lists.specs.Build.{build}
-use Rattle.lists.proofs.Sums.{total-append, total-more}
+use Rattle.lists.specs.Build.{rows}
+use Rattle.lists.proofs.Sums.{total-append, total-more, total-none, total-part}
+use Rattle.lists.proofs.Joins.{rows-none, rows-next, rows-same}
 use Rattle.spool.specs.Excerpt.{firstOf, excerptStart, excerptCount, excerptOf}
 use Rattle.spool.specs.Refusal.{trajectoryRefusal}
 use Rattle.spool.specs.Promise.{ExcerptSays}
-use Rattle.spool.proofs.Refusals.{Accepted, accepts, excerpt-0}
+use Rattle.spool.specs.Refusal.Laws.{Accepted, accepts, excerpt-0}
 
 -- the next state starts where this one ends
 pub start-next : (ds : List ℕ) (v state : ℕ) → state < length ds → excerptStart ds v (state + 1) ≡ excerptStart ds v state + excerptCount ds v state
@@ -30,32 +31,46 @@ excerpt-fits numbers ds v state a h =
     let l : firstOf ds (state + 1) * v ≤ total ds * v = mul-le-mul-right v (omega arith) in
     omega (arith, start-next ds v state h, a .agree)
 
-module _ {A : Type 0} where
-  flatten-more : (L : List (List A)) (l : List A) → flatten (L ++ (l ∷ [])) ≡ flatten L ++ l
-  unfolding flatten
-  flatten-more [] l = append-nil l
-  flatten-more (x ∷ L) l = rw (flatten-more L l, append-assoc)
+-- whatever the numbers are
+module _ {A : Type 0} (trajectory : List A) (ds : List ℕ) (v : ℕ) (part : ℕ → List A) (parts : (state : ℕ) → state < length ds → part state ≡ excerptOf trajectory ds v state) (from : ℕ) where
+  -- the frames of n states from one on
+  abbrev frames : ℕ → ℕ
+  frames n = total (take n (drop from ds))
 
-  -- whatever the numbers are
-  module _ (trajectory : List A) (ds : List ℕ) (v : ℕ) (part : ℕ → List A) (parts : (state : ℕ) → state < length ds → part state ≡ excerptOf trajectory ds v state) where
-    parts-so-far : (n : ℕ) → n ≤ length ds → flatten (build part n) ≡ take (excerptStart ds v n) trajectory
-    unfolding flatten build excerptOf total
-    parts-so-far zero h = let z : 0 * v + 0 ≡ 0 = omega arith in rw z
-    parts-so-far (suc n) h =
-        let s : excerptStart ds v (suc n) ≡ excerptStart ds v n + excerptCount ds v n = rw add-one at (start-next ds v n h) in
-        rw (flatten-more (build part n) (part n), parts-so-far n (omega arith), parts n h, s, take-add (excerptStart ds v n) (excerptCount ds v n) trajectory)
+  frames-next : (n : ℕ) → from + n < length ds → frames (n + 1) ≡ frames n + getD ds (from + n) 0
+  frames-next n h =
+      let d : getD (drop from ds) n 0 ≡ getD ds (from + n) 0 = getD-drop from ds n 0 in
+      total-more (drop from ds) n (simp length-drop (omega arith)) ∙ rw d
 
-    pub parts-join : length trajectory ≡ total ds * v → flatten (build part (length ds)) ≡ trajectory
-    parts-join e =
-        let w : take (length ds) ds ≡ ds = take-all (length ds) ds (omega arith) in
-        parts-so-far (length ds) (omega arith) ∙ take-all (excerptStart ds v (length ds)) trajectory (rw w (omega arith))
+  -- the excerpt behind those of n states
+  part-next : (n : ℕ) → from + n < length ds → part (from + n) ≡ take (getD ds (from + n) 0 * v) (drop (frames n * v) (drop (firstOf ds from * v) trajectory))
+  unfolding excerptOf
+  part-next n h =
+      let s : excerptStart ds v (from + n) ≡ firstOf ds from * v + frames n * v = omega (arith, ap (λ (f : ℕ). f * v) (total-part ds from n), add-mul (firstOf ds from) (frames n) v) in
+      parts (from + n) h ∙ rw (s, drop-drop)
 
--- what the calls hand out, state by state, is together the trajectory, unless it is refused with its durations
-pub excerpts-join : (trajectory : RefT (List Float)) (ds : List ℕ) (v : ℕ) (part : ℕ → RefT (List Float))
-    → ((state : ℕ) → state < length ds → ExcerptSays trajectory ds v state (part state))
-    → trajectoryRefusal (length (trajectory .now)) ds v ≡ 0
-    → flatten (build (λ state. part state .now) (length ds)) ≡ trajectory .now
-excerpts-join trajectory ds v part says e =
-    parts-join (trajectory .now) ds v (λ state. part state .now)
-    (λ state h. says state h .numbers ∙ rw (excerpt-0 (length (trajectory .now)) ds v state e h))
-    (accepts (length (trajectory .now)) ds v e .agree)
+  pub parts-from : (n : ℕ) → from + n ≤ length ds → rows (λ i. part (from + i)) n ≡ take (frames n * v) (drop (firstOf ds from * v) trajectory)
+  parts-from zero h = let z : frames 0 * v ≡ 0 = ap (λ (f : ℕ). f * v) (total-none [] 0 (omega arith)) ∙ zero-mul v in rows-none (λ i. part (from + i)) ∙ rw z
+  parts-from (suc n) h =
+      let l : List A = drop (firstOf ds from * v) trajectory in
+      let e : frames (suc n) * v ≡ frames n * v + getD ds (from + n) 0 * v = ap (λ (f : ℕ). f * v) (rw add-one at (frames-next n (omega arith))) ∙ add-mul (frames n) (getD ds (from + n) 0) v in
+      rw add-one at (rows-next (λ i. part (from + i)) n)
+      ∙ rw (parts-from n (omega arith), part-next n (omega arith), e) (sym (take-add (frames n * v) (getD ds (from + n) 0 * v) l))
+
+-- what the calls hand out, state by state, unless the trajectory is refused with its durations
+module _ (trajectory : RefT (List Float)) (ds : List ℕ) (v : ℕ) (part : ℕ → RefT (List Float)) (says : (state : ℕ) → state < length ds → ExcerptSays trajectory ds v state (part state)) (e : trajectoryRefusal (length (trajectory .now)) ds v ≡ 0) where
+  each : (state : ℕ) → state < length ds → part state .now ≡ excerptOf (trajectory .now) ds v state
+  each state h = says state h .numbers ∙ rw (excerpt-0 (length (trajectory .now)) ds v state e h)
+
+  -- is, of n states from one on, the part that begins with its first frame and has their frames
+  pub excerpts-from : (from n : ℕ) → from + n ≤ length ds → rows (λ i. part (from + i) .now) n ≡ take (total (take n (drop from ds)) * v) (drop (total (take from ds) * v) (trajectory .now))
+  excerpts-from from n h = parts-from (trajectory .now) ds v (λ state. part state .now) each from n h
+
+  -- and of all states the trajectory
+  pub excerpts-join : rows (λ state. part state .now) (length ds) ≡ trajectory .now
+  excerpts-join =
+      let a = accepts (length (trajectory .now)) ds v e .agree in
+      let w : take (length ds) ds ≡ ds = take-all (length ds) ds (omega arith) in
+      let z : total (take 0 ds) * v ≡ 0 = ap (λ (f : ℕ). f * v) (total-none [] 0 (omega arith)) ∙ zero-mul v in
+      rows-same (λ state. part state .now) (λ i. part (0 + i) .now) (length ds) (λ i h. let o : 0 + i ≡ i = omega arith in rw o)
+      ∙ excerpts-from 0 (length ds) (omega arith) ∙ rw (z, w) (take-all (total ds * v) (trajectory .now) (omega arith))

@@ -14,7 +14,7 @@ use Rattle.spool.specs.Place.{placeOf}
 use Rattle.spool.specs.Refusal.{placeRefusal}
 use Rattle.spool.specs.Promise.{placed, PlaceSays}
 use Rattle.spool.specs.declared.Placed.the-variants.{At}
-use Rattle.spool.proofs.Refusals.{place-accepts}
+use Rattle.spool.specs.Refusal.Laws.{place-accepts}
 use Rattle.spool.proofs.Sums.{product-fits}
 
 -- the next component stands 8 bytes further, and after a frame's last component so does the next frame's first

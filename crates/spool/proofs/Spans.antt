@@ -11,7 +11,7 @@ use Rattle.spool.specs.Refusal.{excerptRefusal}
 use Rattle.spool.specs.Promise.{spanned, SpanSays}
 use Rattle.spool.specs.declared.Span.{Span}
 use Rattle.spool.specs.declared.Span.the-variants.{Numbers, Refused}
-use Rattle.spool.proofs.Refusals.{excerpt-accepts}
+use Rattle.spool.specs.Refusal.Laws.{excerpt-accepts}
 use Rattle.spool.proofs.Excerpts.{excerpt-fits}
 
 module _ (trajectory : List Float) (ds : List ℕ) (v state : ℕ) (r : Span) (says : SpanSays trajectory ds v state r) where

@@ -8,15 +8,22 @@ use denote.Ref.{RefT}
 use lib.Ieee.{Float}
 use lib.ListN.{length, take, drop, getD}
 use Rattle.lists.specs.Totals.{total}
-use Rattle.lists.specs.Answers.{given}
-use Rattle.lists.proofs.Answers.{given-none, refused-is}
+use Rattle.lists.specs.Answers.{given, refusing, answerOf}
+use Rattle.lists.proofs.Answers.{given-none, refused, refused-is}
 use Rattle.spool.specs.Place.{numberOf}
 use Rattle.spool.specs.Excerpt.{excerptStart, excerptCount, excerptOf}
-use Rattle.spool.specs.Refusal.{excerptRefusal}
+use Rattle.spool.specs.Refusal.{trajectoryRefusal, excerptRefusal}
+use Rattle.spool.specs.Refusal.Laws.{excerpt-first}
 use Rattle.spool.specs.Promise.{spanned, SpanSays, ExcerptSays}
 use Rattle.spool.specs.declared.Span.{Span}
 use Rattle.spool.specs.declared.Span.the-variants.{Numbers, Refused}
 use Rattle.spool.proofs.Spans.{span-none, span-first, span-part}
+
+-- a trajectory that is refused with its durations
+pub span-refused-as : (numbers : ℕ) (ds : List ℕ) (v state : ℕ) (values : List ℕ) (r : ℕ) → r ≡ trajectoryRefusal numbers ds v → (r ≡ 0 → ⊥) → refusing r ≡ answerOf (excerptRefusal numbers ds v state) values
+span-refused-as numbers ds v state values r e z =
+    let q : r ≡ excerptRefusal numbers ds v state = e ∙ sym (excerpt-first numbers ds v state (λ n. z (e ∙ n))) in
+    rw (← q) (refused r values z)
 
 -- a state's first number and its count, from the frames summed before it
 pub span-values : (ds : List ℕ) (v state at first width start count : ℕ)

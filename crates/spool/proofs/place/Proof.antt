@@ -6,7 +6,7 @@ use native.Mathlib.Omega.{arith}
 use borrow.Author.Needs.{needs}
 use Rattle.spool.specs.Place.{placeOf}
 use Rattle.lists.specs.Sizes.{outside}
-use Rattle.spool.proofs.Refusals.{in-range, place-3, place-10, place-0}
+use Rattle.spool.specs.Refusal.Laws.{in-range, place-3, place-10, place-0}
 use Rattle.spool.proofs.Places.{place-most}
 use Rattle.lists.proofs.Answers.{refused-as, accepted}
 use Rattle.spool.proofs.place.Statement.{statement}

@@ -1,18 +1,19 @@
--- When each refusal is given.
-use mathlib.Core.Path.{_≡_, refl}
+-- When each refusal is given: all that the crates above know of the numbers.
+use mathlib.Core.Path.{_≡_, refl, _∙_}
 use mathlib.Core.Bool.{true, false, cond, _||_}
 use mathlib.Core.List.{List}
 use mathlib.Core.Logic.{⊎-elim}
-use Prim.Native.Nat.{ℕ, suc, _*_, _<_, _≤_}
+use Prim.Native.Nat.{ℕ, _*_, _<_, _≤_}
 use native.Mathlib.Omega.{arith}
-use borrow.Author.Tests.{ltb-false, lt-ltb, le-ltb, eqb-true, eqb-false, eq-eqb, ne-eqb}
+use borrow.Author.Tests.{ltb-false, lt-ltb, le-ltb, eqb-true, eq-eqb, ne-eqb}
 use lib.Dec.{ltb, eqb}
 use lib.ListN.{length}
 use Rattle.lists.specs.Totals.{total}
 use Rattle.lists.proofs.Numbers.{le-or-lt}
-use Rattle.lists.proofs.Refusals.{or-none}
+use Rattle.lists.proofs.Refusals.{or-first, or-none, none-then}
 use Rattle.lists.specs.Sizes.{outside}
-use Rattle.spool.specs.Refusal.{placeRefusal, trajectoryRefusal, excerptRefusal}
+use Rattle.spool.specs.Refusal.{placeRefusal, statesRefusal, countsRefusal, framesRefusal, shapeRefusal, durationsRefusal, trajectoryRefusal, excerptRefusal}
+use Rattle.spool.specs.Refusal.Steps.{few-none, none-few, none-short, counts-3, counts-none, durations-then, trajectory-first}
 
 -- a v that is not out of range
 pub in-range : (v : ℕ) → outside v ≡ false → (1 ≤ v) × (v ≤ 64)
@@ -45,6 +46,17 @@ module _ (component v : ℕ) where
         | false ↦ λ w. ⊎-elim (λ (h : v ≤ component). absurd (omega (arith, place-10 w h))) (λ (h : component < v). (w, h)) (le-or-lt v component)
       ]) refl
 
+-- ---- durations
+
+module _ (ds : List ℕ) where
+  -- they are accepted where they are few and short, and in no other case
+  pub durations-0 : length ds ≤ 4096 → total ds ≤ 65536 → durationsRefusal ds ≡ 0
+  durations-0 few short = durations-then ds (few-none (length ds) few) ∙ rw (le-ltb 65536 (total ds) short)
+
+  pub durations-accepts : durationsRefusal ds ≡ 0 → (length ds ≤ 4096) × (total ds ≤ 65536)
+  unfolding durationsRefusal
+  durations-accepts e = let z = or-none (statesRefusal (length ds)) (framesRefusal (total ds)) e in (none-few (length ds) (z .0), none-short (total ds) (z .1))
+
 -- ---- a trajectory of so many numbers, with its durations
 
 pub record Accepted (numbers : ℕ) (ds : List ℕ) (v : ℕ) : Type 0 where
@@ -54,53 +66,48 @@ pub record Accepted (numbers : ℕ) (ds : List ℕ) (v : ℕ) : Type 0 where
   pub short : total ds ≤ 65536
 
 module _ (numbers : ℕ) (ds : List ℕ) (v : ℕ) where
+  -- 3, 4 and 5 by themselves
   pub many-3 : 4096 < length ds → trajectoryRefusal numbers ds v ≡ 3
   unfolding trajectoryRefusal
   many-3 h = rw (lt-ltb 4096 (length ds) h)
 
-  module _ (few : length ds ≤ 4096) where
-    pub width-3 : outside v ≡ true → trajectoryRefusal numbers ds v ≡ 3
+  pub width-3 : outside v ≡ true → trajectoryRefusal numbers ds v ≡ 3
+  width-3 h = let c = counts-3 (length ds) v h in trajectory-first numbers ds v (λ z. omega arith) ∙ c
+
+  module _ (few : length ds ≤ 4096) (width : outside v ≡ false) where
+    pub disagree-4 : (numbers ≡ total ds * v → ⊥) → trajectoryRefusal numbers ds v ≡ 4
     unfolding trajectoryRefusal
-    width-3 h = rw (le-ltb 4096 (length ds) few, h)
+    disagree-4 h = rw (le-ltb 4096 (length ds) few, width, ne-eqb numbers (total ds * v) h)
 
-    module _ (width : outside v ≡ false) where
-      pub disagree-4 : (numbers ≡ total ds * v → ⊥) → trajectoryRefusal numbers ds v ≡ 4
-      unfolding trajectoryRefusal
-      disagree-4 h = rw (le-ltb 4096 (length ds) few, width, ne-eqb numbers (total ds * v) h)
+    pub long-5 : numbers ≡ total ds * v → 65536 < total ds → trajectoryRefusal numbers ds v ≡ 5
+    unfolding trajectoryRefusal
+    long-5 e h = rw (le-ltb 4096 (length ds) few, width, eq-eqb numbers (total ds * v) e, lt-ltb 65536 (total ds) h)
 
-      module _ (agree : numbers ≡ total ds * v) where
-        pub long-5 : 65536 < total ds → trajectoryRefusal numbers ds v ≡ 5
-        unfolding trajectoryRefusal
-        long-5 h = rw (le-ltb 4096 (length ds) few, width, eq-eqb numbers (total ds * v) agree, lt-ltb 65536 (total ds) h)
-
+  -- it is accepted in this case
   pub accepted-0 : Accepted numbers ds v → trajectoryRefusal numbers ds v ≡ 0
   unfolding trajectoryRefusal
   accepted-0 a = rw (le-ltb 4096 (length ds) (a .few), a .width, eq-eqb numbers (total ds * v) (a .agree), le-ltb 65536 (total ds) (a .short))
 
-  -- and in no other case
+  -- and in no other
   pub accepts : trajectoryRefusal numbers ds v ≡ 0 → Accepted numbers ds v
-  accepts e = ⊎-elim
-      (λ (few : length ds ≤ 4096).
-      (elim (outside v) as (λ s. outside v ≡ s → Accepted numbers ds v) [
-        | true ↦ λ w. absurd (omega (arith, width-3 few w))
-        | false ↦ λ width.
-            (elim (eqb numbers (total ds * v)) as (λ s. eqb numbers (total ds * v) ≡ s → Accepted numbers ds v) [
-              | true ↦ λ g. ⊎-elim
-                  (λ (short : total ds ≤ 65536). record { few = few; width = width; agree = eqb-true numbers (total ds * v) g; short = short })
-                  (λ (long : 65536 < total ds). absurd (omega (arith, long-5 few width (eqb-true numbers (total ds * v) g) long)))
-                  (le-or-lt (total ds) 65536)
-              | false ↦ λ g. absurd (omega (arith, disagree-4 few width (eqb-false numbers (total ds * v) g)))
-            ]) refl
-      ]) refl)
-      (λ (many : 4096 < length ds). absurd (omega (arith, many-3 many)))
-      (le-or-lt (length ds) 4096)
+  unfolding trajectoryRefusal
+  accepts e =
+      let a = or-none (countsRefusal (length ds) v) (shapeRefusal numbers (total ds) v) e in
+      let b = or-none (cond (eqb numbers (total ds * v)) 0 4) (framesRefusal (total ds)) (a .1) in
+      let c = counts-none (length ds) v (a .0) in
+      record {
+        few = c .0;
+        width = c .1;
+        agree = eqb-true numbers (total ds * v) (none-then (eqb numbers (total ds * v)) 3 (b .0));
+        short = none-short (total ds) (b .1);
+      }
 
   -- ---- one state of it
 
   module _ (state : ℕ) where
-    pub excerpt-refused : (k : ℕ) → trajectoryRefusal numbers ds v ≡ suc k → excerptRefusal numbers ds v state ≡ suc k
+    pub excerpt-first : (trajectoryRefusal numbers ds v ≡ 0 → ⊥) → excerptRefusal numbers ds v state ≡ trajectoryRefusal numbers ds v
     unfolding excerptRefusal
-    excerpt-refused k e = rw e
+    excerpt-first z = or-first (trajectoryRefusal numbers ds v) _ z
 
     module _ (e : trajectoryRefusal numbers ds v ≡ 0) where
       pub excerpt-10 : length ds ≤ state → excerptRefusal numbers ds v state ≡ 10
