@@ -1,2 +1,3 @@
--- The table of ten cases.
-pub mod Table
+-- Worked cases.
+pub mod Table  -- the table of ten
+pub mod ReadAlong  -- words and timing files

@@ -1,1 +1,1 @@
-// The table of ten worked cases as one statement, over the definitions of the crates below: `specs/Table.antt` says it, `proofs/Table.antt` proves it.
+// Worked cases over the definitions of the crates below: the table of ten as one statement, which `specs/Table.antt` says and `proofs/Table.antt` proves, and those of words, `specs/ReadAlong.antt`.
