@@ -1,9 +1,11 @@
 /* hejmirov.h: the calls of libhejmirov.a, the numeric core of a talking-book renderer.
  *
  * Every call answers 0, or the number of the first refusal that applies (enum hejmirov_refusal);
- * hejmirov_job_old_number alone refuses nothing and turns one such number into another. A call ends
- * on any numbers and any lengths, allocates nothing, keeps nothing between calls but in memory that
- * it is lent, and may run in any number of threads at once.
+ * hejmirov_job_old_number alone refuses nothing and turns one such number into another. The calls
+ * whose names begin with hejmirov_words_ have refusal numbers of their own, from 1 on once more
+ * (enum hejmirov_words_refusal). A call ends on any numbers and any lengths, allocates nothing,
+ * keeps nothing between calls but in memory that it is lent, and may run in any number of threads
+ * at once.
  *
  * Lists. A list is a pointer and, right after it, how many items it has. A list of 0 items may come
  * with a null pointer. A list that is only read is `const`. A list that is written must not overlap
@@ -39,16 +41,18 @@ extern "C" {
 
 #define HEJMIROV_VERSION "0.3.0"
 
-/* Limits: more is refused. All but the frames of a place, which are any 32-bit number. */
-#define HEJMIROV_MAX_WINDOWS 4       /* windows in a set, at least 1 */
-#define HEJMIROV_MAX_WIDTH 15        /* coefficients in a window, at least 1 */
-#define HEJMIROV_MAX_V 64            /* numbers in a frame of a stream, at least 1 */
-#define HEJMIROV_MAX_STATES 4096     /* states in an utterance */
-#define HEJMIROV_MAX_NSTATE 16       /* states in a label, at least 1 */
-#define HEJMIROV_MAX_FRAMES 65536    /* frames in an utterance */
-#define HEJMIROV_MAX_JOB_STATES 1024 /* states in a job file */
-#define HEJMIROV_MAX_VOICES 256      /* voices in a store, which has so many places */
-#define HEJMIROV_MAX_VOICE 65535     /* the number of a voice */
+/* Limits: more is refused. All but the frames of a place, and those of a timing file that is read,
+ * which are any 32-bit number. */
+#define HEJMIROV_MAX_WINDOWS 4         /* windows in a set, at least 1 */
+#define HEJMIROV_MAX_WIDTH 15          /* coefficients in a window, at least 1 */
+#define HEJMIROV_MAX_V 64              /* numbers in a frame of a stream, at least 1 */
+#define HEJMIROV_MAX_STATES 4096       /* states in an utterance */
+#define HEJMIROV_MAX_NSTATE 16         /* states in a label, at least 1 */
+#define HEJMIROV_MAX_FRAMES 65536      /* frames in an utterance */
+#define HEJMIROV_MAX_JOB_STATES 1024   /* states in a job file */
+#define HEJMIROV_MAX_VOICES 256        /* voices in a store, which has so many places */
+#define HEJMIROV_MAX_VOICE 65535       /* the number of a voice */
+#define HEJMIROV_MAX_WORDS 4294967295u /* words in an utterance, those of no labels too */
 
 /* Sizes. */
 #define HEJMIROV_WORK_FLOATS_A_FRAME 48      /* doubles of a trajectory's work space for each frame */
@@ -62,6 +66,9 @@ extern "C" {
 #define HEJMIROV_SETTINGS_RECORD_BYTES 26    /* bytes of each of its records, in version 2 */
 #define HEJMIROV_SETTINGS_WRITTEN_BYTES 6663 /* bytes of the longest that is written */
 #define HEJMIROV_SETTINGS_MOST_BYTES 1703917 /* bytes of the longest that is read */
+#define HEJMIROV_TIMING_HEAD_BYTES 9         /* bytes of a timing file before its first word */
+#define HEJMIROV_TIMING_WORD_BYTES 8         /* bytes of each of its words */
+#define HEJMIROV_MILLISECONDS_A_FRAME 5      /* milliseconds that a frame lasts */
 
 /* An end that is open, for hejmirov_align: any number below 0, and NaN, says the same. */
 #define HEJMIROV_OPEN_END (-1.0)
@@ -69,7 +76,8 @@ extern "C" {
 /* The number of a place of a store that is free: any number above 65,535 says the same. */
 #define HEJMIROV_FREE_PLACE 4294967295u
 
-/* Why a call refused. A program should take a number that it doesn't know as a refusal, too. */
+/* Why a call refused, but for the calls of words, whose numbers stand below. A program should take
+ * a number that it doesn't know as a refusal, too. */
 enum hejmirov_refusal {
     HEJMIROV_ACCEPTED = 0,
     HEJMIROV_BAD_WINDOWS = 1,         /* window count or a window's length out of range */
@@ -95,7 +103,7 @@ enum hejmirov_refusal {
     HEJMIROV_JOB_DAMAGED = 9
 };
 
-/* One line for a log. */
+/* One line for a log. It is not for the calls of words: see hejmirov_words_refusal_text. */
 static inline const char *hejmirov_refusal_text(uint32_t refusal) {
     switch (refusal) {
     case HEJMIROV_ACCEPTED: return "accepted";
@@ -117,6 +125,32 @@ static inline const char *hejmirov_refusal_text(uint32_t refusal) {
     case HEJMIROV_STORE_FULL: return "a store with no place for one more voice";
     case HEJMIROV_SETTINGS_MALFORMED: return "settings file's mark or length is wrong";
     case HEJMIROV_VOICE_NOT_HELD: return "a voice that the store doesn't hold";
+    default: return "a refusal that this header doesn't know";
+    }
+}
+
+/* Why a call of words refused, one whose name begins with hejmirov_words_. The numbers are these
+ * calls' own: 1 to 5 say other things here than above, and neither the names nor the texts above
+ * are for them. They are looked for in the order 5, 1, 2, 3, 4. An accepted call answers 0,
+ * HEJMIROV_ACCEPTED, as all calls do; a number that a program doesn't know is a refusal, too. */
+enum hejmirov_words_refusal {
+    HEJMIROV_WORDS_LABELS_DISAGREE = 1, /* labels and durations disagree, or too many words */
+    HEJMIROV_WORDS_NO_SUCH_PLACE = 2,   /* no such frame or word */
+    HEJMIROV_WORDS_MALFORMED = 3,       /* timing file's mark, version, length or words are wrong */
+    HEJMIROV_WORDS_TOO_LITTLE_ROOM = 4, /* output shorter than the answer */
+    HEJMIROV_WORDS_BAD_UTTERANCE = 5    /* durations, nstate, v or a trajectory out of range */
+};
+
+/* One line for a log, of a number that a call of words has answered; hejmirov_refusal_text has
+ * another text for it. */
+static inline const char *hejmirov_words_refusal_text(uint32_t refusal) {
+    switch (refusal) {
+    case HEJMIROV_ACCEPTED: return "accepted";
+    case HEJMIROV_WORDS_LABELS_DISAGREE: return "labels and durations disagree, or too many words";
+    case HEJMIROV_WORDS_NO_SUCH_PLACE: return "no such frame or word";
+    case HEJMIROV_WORDS_MALFORMED: return "timing file's mark, version, length or words are wrong";
+    case HEJMIROV_WORDS_TOO_LITTLE_ROOM: return "output shorter than the answer";
+    case HEJMIROV_WORDS_BAD_UTTERANCE: return "durations, nstate, v or a trajectory out of range";
     default: return "a refusal that this header doesn't know";
     }
 }
@@ -573,6 +607,129 @@ uint32_t hejmirov_settings_write(const uint32_t *voices, size_t n_voices,
                                  const uint64_t *settings, size_t n_settings,
                                  uint8_t *out, size_t n_out,
                                  uint64_t *written);
+
+/* Words: when each word of an utterance sounds, for a text that is read along. A word is a number
+ * of consecutive labels, 0 too; a pause is a word like any other. All calls but hejmirov_words_read
+ * are lent
+ *
+ *   words          each word's number of labels, in order; words are counted from 0
+ *   nstate         states a label, 1 to 16
+ *   durations      one number of frames a state, 0 too, in order, as hejmirov_fit and others give
+ *                  them; there are the words' total x nstate of them
+ *
+ * A word's span is two numbers: its first frame, which is how many frames the words before it have,
+ * and the frame after its last, which is that and its own frames. So words touch: the first begins
+ * at frame 0, each begins where the one before it ends, and the last ends at the durations' total;
+ * every frame lies in exactly one word; and a word of no frames, one of no labels too, has equal
+ * ends.
+ *
+ * Words of 1, 0 and 2 labels with nstate 2 and durations 2, 3, 4, 0, 1 and 5 have the spans 0 and
+ * 5, 5 and 5, 5 and 15; in milliseconds 0 and 25, 25 and 25, 25 and 75; at frame 5 the third
+ * sounds.
+ *
+ * The numbers with which these calls refuse are those of enum hejmirov_words_refusal, and their
+ * lines for a log those of hejmirov_words_refusal_text.
+ */
+
+/* Each word's first frame and the frame after its last.
+ *
+ *   words, nstate, durations
+ *                  as above
+ *   spans          afterwards 2 x n_words numbers, the span of word w at 2 x w and 2 x w + 1
+ *
+ * Refused with 5: nstate out of range, n_durations above 4,096, or the durations' total above
+ * 65,536. 1: n_durations is not the words' total x nstate, or n_words above 4,294,967,295. 4:
+ * n_spans below 2 x n_words.
+ */
+uint32_t hejmirov_words_spans(const uint32_t *words, size_t n_words,
+                              uint32_t nstate,
+                              const uint32_t *durations, size_t n_durations,
+                              uint32_t *spans, size_t n_spans);
+
+/* The same in whole milliseconds, of which a frame has 5.
+ *
+ *   words, nstate, durations
+ *                  as above
+ *   spans          afterwards 2 x n_words numbers, each 5 times that of hejmirov_words_spans
+ *
+ * Refused as hejmirov_words_spans.
+ */
+uint32_t hejmirov_words_milliseconds(const uint32_t *words, size_t n_words,
+                                     uint32_t nstate,
+                                     const uint32_t *durations, size_t n_durations,
+                                     uint32_t *spans, size_t n_spans);
+
+/* The word that sounds at a frame: the one whose first frame the frame has reached and whose frame
+ * after its last it has not. A word of no frames never sounds.
+ *
+ *   words, nstate, durations
+ *                  as above
+ *   frame          counted from the utterance's start
+ *   word           afterwards the word's number, below n_words
+ *
+ * Refused with 5, 1: as hejmirov_words_spans. 2: frame is not below the durations' total.
+ */
+uint32_t hejmirov_words_at(const uint32_t *words, size_t n_words,
+                           uint32_t nstate,
+                           const uint32_t *durations, size_t n_durations,
+                           uint32_t frame,
+                           uint32_t *word);
+
+/* Where one word's numbers stand in a trajectory. The trajectory's numbers are not read. The parts
+ * of all words, in order, are the whole trajectory.
+ *
+ *   words, nstate, durations
+ *                  as above
+ *   trajectory     total of the durations x v numbers
+ *   v              numbers a frame, 1 to 64
+ *   word           below n_words
+ *   first          afterwards the word's first number: its part starts at trajectory + first
+ *   count          afterwards how many numbers it has, its frames x v; 0 for a word of no frames
+ *
+ * Refused with 5: as hejmirov_words_spans, and where v is out of range or n_trajectory is not the
+ * durations' total x v. 1: as hejmirov_words_spans. 2: no such word.
+ */
+uint32_t hejmirov_words_excerpt(const uint32_t *words, size_t n_words,
+                                uint32_t nstate,
+                                const uint32_t *durations, size_t n_durations,
+                                const double *trajectory, size_t n_trajectory,
+                                uint32_t v,
+                                uint32_t word,
+                                uint64_t *first,
+                                uint64_t *count);
+
+/* Writes the timing file of words. Reading it gives the spans of hejmirov_words_spans.
+ *
+ *   words, nstate, durations
+ *                  as above
+ *   out            afterwards the file's bytes, little-endian: the three bytes RAL, version 1 (16
+ *                  bits), the number of words (32 bits), then each word's first frame and the frame
+ *                  after its last (32 bits each); 9 + 8 x n_words bytes
+ *   written        afterwards how many bytes these are
+ *
+ * Refused with 5, 1: as hejmirov_words_spans. 4: n_out below 9 + 8 x n_words.
+ */
+uint32_t hejmirov_words_write(const uint32_t *words, size_t n_words,
+                              uint32_t nstate,
+                              const uint32_t *durations, size_t n_durations,
+                              uint8_t *out, size_t n_out,
+                              uint64_t *written);
+
+/* Reads a timing file: the spans of its words. Frames are any 32-bit numbers, and there may be
+ * words of no frames.
+ *
+ *   bytes          the whole file, as hejmirov_words_write gives it; n is its number of words, of
+ *                  a file that is not malformed (n_bytes - 9) / 8
+ *   spans          afterwards 2 x n numbers, the span of word w at 2 x w and 2 x w + 1
+ *   words          afterwards n
+ *
+ * Refused with 3: the file is malformed. It doesn't begin with RAL, its version is not 1, its
+ * length is not 9 + 8 x n, the first word doesn't begin at 0, a word doesn't begin where the one
+ * before it ends, or a word ends before it begins. 4: n_spans below 2 x n.
+ */
+uint32_t hejmirov_words_read(const uint8_t *bytes, size_t n_bytes,
+                             uint32_t *spans, size_t n_spans,
+                             uint32_t *words);
 
 #ifdef __cplusplus
 }

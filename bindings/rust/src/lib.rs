@@ -10,6 +10,9 @@
 //! | [`Stream::trajectory`] | a stream's numbers, frame after frame |
 //! | [`place`], [`excerpt`] | where a number stands in the spool, and a state's part of a trajectory |
 //! | [`Store`] | voices' settings by the voice's number, and the file of them |
+//! | [`words_spans`], [`words_milliseconds`] | when each word of an utterance sounds, in frames and in milliseconds |
+//! | [`words_at`], [`words_excerpt`] | the word that sounds at a frame, and a word's part of a trajectory |
+//! | [`words_write`], [`words_read`] | the timing file of words |
 //!
 //! Each call that writes lists has two forms: one that owns what it allocates, output and work
 //! space, and one ending in `_into` that takes the caller's and allocates nothing. Both answer the
@@ -18,8 +21,9 @@
 //! [`settings_clear`] and the other calls that begin so, which take the caller's.
 //!
 //! No call panics, whatever its numbers and lengths; what the library doesn't take is a
-//! [`Refusal`], which says of a damaged job what is wrong with it, and at which byte. After a
-//! refusal every output is as it was. Any `f64` is taken; a NaN that is handed out has the bits
+//! [`Refusal`], which says of a damaged job what is wrong with it, and at which byte; of the calls of
+//! words, which have refusal numbers of their own, it is a [`WordsRefusal`]. After a refusal every
+//! output is as it was. Any `f64` is taken; a NaN that is handed out has the bits
 //! 0x7FF8000000000000. The calls keep nothing between them but what a link's memory or a store
 //! holds, and threads may make them at once. The answers are exact, to the bit, as long as nothing in
 //! the program makes the processor flush subnormal numbers to zero.
@@ -37,12 +41,13 @@ mod settings;
 mod spool;
 mod sys;
 mod trajectory;
+mod words;
 
 pub use durations::{
     Aligned, Answered, Fitted, align, align_into, fit, fit_into, job, job_into, speed, speed_into,
 };
 pub use link::{Link, link_begin, link_end_into, link_part};
-pub use refusal::{Damage, Refusal};
+pub use refusal::{Damage, Refusal, WordsRefusal};
 pub use settings::{
     Settings, Store, settings_clear, settings_count, settings_get, settings_read, settings_remove,
     settings_set, settings_write_into,
@@ -51,6 +56,11 @@ pub use spool::{excerpt, excerpt_range, place};
 pub use trajectory::{
     BandRows, GlobalVariance, Mask, Stream, Trajectory, Windows, band_rows, band_rows_into, mask,
     mask_into,
+};
+pub use words::{
+    Span, words_at, words_excerpt, words_excerpt_range, words_milliseconds,
+    words_milliseconds_into, words_read, words_read_into, words_spans, words_spans_into,
+    words_write, words_write_into,
 };
 
 /// Most windows in a set; at least 1.
@@ -71,6 +81,8 @@ pub const MAX_JOB_STATES: usize = 1024;
 pub const MAX_VOICES: usize = 256;
 /// The largest number of a voice.
 pub const MAX_VOICE: u32 = 65535;
+/// Most words in an utterance, those of no labels too.
+pub const MAX_WORDS: usize = 4_294_967_295;
 
 /// Floats of a trajectory's work space for each frame.
 pub const WORK_FLOATS_A_FRAME: usize = 48;
@@ -94,6 +106,12 @@ pub const SETTINGS_RECORD_BYTES: usize = 26;
 pub const SETTINGS_WRITTEN_BYTES: usize = 6663;
 /// Bytes of the longest settings file that is read: 65,535 records.
 pub const SETTINGS_MOST_BYTES: usize = 1_703_917;
+/// Bytes of a timing file before its first word.
+pub const TIMING_HEAD_BYTES: usize = 9;
+/// Bytes of each word of a timing file.
+pub const TIMING_WORD_BYTES: usize = 8;
+/// Milliseconds that a frame lasts.
+pub const MILLISECONDS_A_FRAME: u32 = 5;
 
 /// An end that is open, for [`align`]; any number below 0, and NaN, says the same.
 pub const OPEN_END: f64 = -1.0;

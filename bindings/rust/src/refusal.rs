@@ -245,9 +245,111 @@ impl Damage {
     }
 }
 
+/// Why a call of words refused: one of those that begin with `words_`. They have numbers of their own,
+/// 1 to 5, which say other things than a [`Refusal`]'s, and of those that apply the first is given in
+/// the order 5, 1, 2, 3, 4. Every output is then as it was.
+///
+/// # Examples
+///
+/// ```
+/// use hejmirov::WordsRefusal;
+///
+/// let refusal = hejmirov::words_at(&[1, 2], 1, &[4, 5, 6], 15).unwrap_err();
+/// assert_eq!(refusal, WordsRefusal::NoSuchPlace);
+/// assert_eq!(refusal.number(), 2);
+/// assert_eq!(refusal.to_string(), "words: refused 2: no such frame or word");
+/// ```
+#[derive(Clone, Copy, Debug, PartialEq, Eq, Hash)]
+#[non_exhaustive]
+pub enum WordsRefusal {
+    /// 5: durations, nstate, v or a trajectory out of range; it is looked for first.
+    BadUtterance,
+    /// 1: labels and durations disagree, or too many words.
+    LabelsDisagree,
+    /// 2: no such frame or word.
+    NoSuchPlace,
+    /// 3: timing file's mark, version, length or words are wrong.
+    Malformed,
+    /// 4: output shorter than the answer; only where the caller lends it.
+    TooLittleRoom,
+    /// A number that these bindings don't know, of a newer library.
+    Unknown(u32),
+}
+
+impl WordsRefusal {
+    /// The number of this refusal, among those of the calls of words.
+    #[must_use]
+    pub fn number(self) -> u32 {
+        match self {
+            WordsRefusal::BadUtterance => 5,
+            WordsRefusal::LabelsDisagree => 1,
+            WordsRefusal::NoSuchPlace => 2,
+            WordsRefusal::Malformed => 3,
+            WordsRefusal::TooLittleRoom => 4,
+            WordsRefusal::Unknown(number) => number,
+        }
+    }
+
+    fn of(number: u32) -> Self {
+        match number {
+            5 => WordsRefusal::BadUtterance,
+            1 => WordsRefusal::LabelsDisagree,
+            2 => WordsRefusal::NoSuchPlace,
+            3 => WordsRefusal::Malformed,
+            4 => WordsRefusal::TooLittleRoom,
+            other => WordsRefusal::Unknown(other),
+        }
+    }
+
+    fn text(self) -> &'static str {
+        match self {
+            WordsRefusal::BadUtterance => "durations, nstate, v or a trajectory out of range",
+            WordsRefusal::LabelsDisagree => "labels and durations disagree, or too many words",
+            WordsRefusal::NoSuchPlace => "no such frame or word",
+            WordsRefusal::Malformed => "timing file's mark, version, length or words are wrong",
+            WordsRefusal::TooLittleRoom => "output shorter than the answer",
+            WordsRefusal::Unknown(_) => "a refusal that these bindings don't know",
+        }
+    }
+
+    /// A call's answer: its values, where the number is 0.
+    pub(crate) fn or<T>(number: u32, values: T) -> Result<T, Self> {
+        match number {
+            0 => Ok(values),
+            _ => Err(Self::of(number)),
+        }
+    }
+}
+
+impl fmt::Display for WordsRefusal {
+    fn fmt(&self, f: &mut fmt::Formatter<'_>) -> fmt::Result {
+        // The number alone would be taken for one of the other calls'.
+        write!(f, "words: refused {}: {}", self.number(), self.text())
+    }
+}
+
+impl Error for WordsRefusal {}
+
 #[cfg(test)]
 mod tests {
-    use super::{Damage, Refusal};
+    use super::{Damage, Refusal, WordsRefusal};
+
+    #[test]
+    fn every_number_of_words_comes_back() {
+        for (number, refusal) in [
+            (1, WordsRefusal::LabelsDisagree),
+            (2, WordsRefusal::NoSuchPlace),
+            (3, WordsRefusal::Malformed),
+            (4, WordsRefusal::TooLittleRoom),
+            (5, WordsRefusal::BadUtterance),
+            (6, WordsRefusal::Unknown(6)),
+            (u32::MAX, WordsRefusal::Unknown(u32::MAX)),
+        ] {
+            assert_eq!(WordsRefusal::or(number, ()), Err(refusal));
+            assert_eq!(refusal.number(), number);
+        }
+        assert_eq!(WordsRefusal::or(0, "values"), Ok("values"));
+    }
 
     #[test]
     fn every_number_comes_back() {

@@ -202,6 +202,69 @@ unsafe extern "C" {
         n_out: usize,
         written: *mut u64,
     ) -> u32;
+
+    pub fn hejmirov_words_spans(
+        words: *const u32,
+        n_words: usize,
+        nstate: u32,
+        durations: *const u32,
+        n_durations: usize,
+        spans: *mut u32,
+        n_spans: usize,
+    ) -> u32;
+
+    pub fn hejmirov_words_milliseconds(
+        words: *const u32,
+        n_words: usize,
+        nstate: u32,
+        durations: *const u32,
+        n_durations: usize,
+        spans: *mut u32,
+        n_spans: usize,
+    ) -> u32;
+
+    pub fn hejmirov_words_at(
+        words: *const u32,
+        n_words: usize,
+        nstate: u32,
+        durations: *const u32,
+        n_durations: usize,
+        frame: u32,
+        word: *mut u32,
+    ) -> u32;
+
+    pub fn hejmirov_words_excerpt(
+        words: *const u32,
+        n_words: usize,
+        nstate: u32,
+        durations: *const u32,
+        n_durations: usize,
+        trajectory: *const f64,
+        n_trajectory: usize,
+        v: u32,
+        word: u32,
+        first: *mut u64,
+        count: *mut u64,
+    ) -> u32;
+
+    pub fn hejmirov_words_write(
+        words: *const u32,
+        n_words: usize,
+        nstate: u32,
+        durations: *const u32,
+        n_durations: usize,
+        out: *mut u8,
+        n_out: usize,
+        written: *mut u64,
+    ) -> u32;
+
+    pub fn hejmirov_words_read(
+        bytes: *const u8,
+        n_bytes: usize,
+        spans: *mut u32,
+        n_spans: usize,
+        words: *mut u32,
+    ) -> u32;
 }
 
 #[cfg(test)]

@@ -1,6 +1,7 @@
 -- The laws of the C calls.
 pub mod One
 pub mod Rendering
+pub mod Timing
 pub mod Telling
 pub mod Old
 pub mod Keeping

@@ -22,6 +22,9 @@ use Rattle.settings.specs.Promise.{changedNumber, counted}
 use Rattle.settings.proofs.Changing.{clear-one, set-one, get-one, remove-one, read-one}
 use Rattle.settings.proofs.Holding.{count-one}
 use Rattle.settings.proofs.Writing.{write-one}
+use Rattle.read_along.specs.Promise.{countedAs, writtenAs, partedAs}
+use Rattle.read_along.proofs.One as words
+use Rattle.hejmirov.specs.Words.{WordsSpansCallSays, WordsMillisecondsCallSays, WordsAtCallSays, WordsExcerptCallSays, WordsWriteCallSays, WordsReadCallSays}
 use Rattle.hejmirov.specs.Settings.{bitsOf, gotNumber, handedFloat, SettingsClearCallSays, SettingsSetCallSays, SettingsGetCallSays, SettingsRemoveCallSays, SettingsCountCallSays, SettingsReadCallSays, SettingsWriteCallSays}
 use Rattle.hejmirov.specs.Promise.{handed, HandsOne, HandsTwo, HandsThree, HandsJob, streamOf, FitCallSays, SpeedCallSays, AlignCallSays, MaskCallSays, BandCallSays, TrajectoryCallSays, PlaceCallSays, ExcerptCallSays, JobCallSays, LinkBeginCallSays, LinkPartCallSays, LinkEndCallSays}
 
@@ -158,4 +161,35 @@ pub settings-write-call-one : (voices settings out : List ℕ) (written r s : �
 settings-write-call-one voices settings out written r s o₁ o₂ x y f g =
     let t = write-one voices settings out (f .answer) (g .answer) o₁ o₂ (f .says) (g .says) in
     let h = hands-one (counted (f .answer)) (counted (g .answer)) written r s x y (ap counted (t .0)) (f .gives) (g .gives) in
+    (h .0, t .1, h .1)
+
+module _ (ws : List ℕ) (nstate : ℕ) (ds : List ℕ) (r s : ℕ) where
+  pub words-spans-call-one : (out o₁ o₂ : List ℕ) → WordsSpansCallSays ws nstate ds out r o₁ → WordsSpansCallSays ws nstate ds out s o₂ → (r ≡ s) × (o₁ ≡ o₂)
+  words-spans-call-one out o₁ o₂ f g =
+      let t = words.spans-one ws nstate ds out (f .answer) (g .answer) o₁ o₂ (f .says) (g .says) in
+      (f .gives ∙ ap (λ c. countedAs c .number) (t .0) ∙ sym (g .gives), t .1)
+
+  pub words-milliseconds-call-one : (out o₁ o₂ : List ℕ) → WordsMillisecondsCallSays ws nstate ds out r o₁ → WordsMillisecondsCallSays ws nstate ds out s o₂ → (r ≡ s) × (o₁ ≡ o₂)
+  words-milliseconds-call-one out o₁ o₂ f g =
+      let t = words.milliseconds-one ws nstate ds out (f .answer) (g .answer) o₁ o₂ (f .says) (g .says) in
+      (f .gives ∙ ap (λ c. countedAs c .number) (t .0) ∙ sym (g .gives), t .1)
+
+  pub words-at-call-one : (frame word x y : ℕ) → WordsAtCallSays ws nstate ds frame word r x → WordsAtCallSays ws nstate ds frame word s y → (r ≡ s) × (x ≡ y)
+  words-at-call-one frame word x y f g =
+      hands-one (countedAs (f .answer)) (countedAs (g .answer)) word r s x y (ap countedAs (words.at-one ws nstate ds frame (f .answer) (g .answer) (f .says) (g .says))) (f .gives) (g .gives)
+
+  pub words-excerpt-call-one : (trajectory : List Float) (v word first count x₀ x₁ y₀ y₁ : ℕ) → WordsExcerptCallSays ws nstate ds trajectory v word first count r x₀ x₁ → WordsExcerptCallSays ws nstate ds trajectory v word first count s y₀ y₁ → (r ≡ s) × (x₀ ≡ y₀) × (x₁ ≡ y₁)
+  words-excerpt-call-one trajectory v word first count x₀ x₁ y₀ y₁ f g =
+      hands-two (partedAs (f .answer)) (partedAs (g .answer)) first count r s x₀ x₁ y₀ y₁ (ap partedAs (words.part-one ws nstate ds trajectory v word (f .answer) (g .answer) (f .says) (g .says))) (f .gives) (g .gives)
+
+  pub words-write-call-one : (out : List ℕ) (written : ℕ) (o₁ o₂ : List ℕ) (x y : ℕ) → WordsWriteCallSays ws nstate ds out written r o₁ x → WordsWriteCallSays ws nstate ds out written s o₂ y → (r ≡ s) × (o₁ ≡ o₂) × (x ≡ y)
+  words-write-call-one out written o₁ o₂ x y f g =
+      let t = words.write-one ws nstate ds out (f .answer) (g .answer) o₁ o₂ (f .says) (g .says) in
+      let h = hands-one (writtenAs (f .answer)) (writtenAs (g .answer)) written r s x y (ap writtenAs (t .0)) (f .gives) (g .gives) in
+      (h .0, t .1, h .1)
+
+pub words-read-call-one : (bytes spans : List ℕ) (words′ r s : ℕ) (o₁ o₂ : List ℕ) (x y : ℕ) → WordsReadCallSays bytes spans words′ r o₁ x → WordsReadCallSays bytes spans words′ s o₂ y → (r ≡ s) × (o₁ ≡ o₂) × (x ≡ y)
+words-read-call-one bytes spans words′ r s o₁ o₂ x y f g =
+    let t = words.read-one bytes spans (f .answer) (g .answer) o₁ o₂ (f .says) (g .says) in
+    let h = hands-one (countedAs (f .answer)) (countedAs (g .answer)) words′ r s x y (ap countedAs (t .0)) (f .gives) (g .gives) in
     (h .0, t .1, h .1)

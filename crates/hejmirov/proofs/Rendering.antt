@@ -40,18 +40,24 @@ module _ (ms vs : List Float) (nstate : ℕ) (ends : List Float) (out work : Lis
   pub align-written : written′ ≡ length ms
   align-written = a .gives .first ∙ ap (λ r. handed (aligned r .values) 0 written) (accepted .answer)
 
+  -- within the sizes
+  pub align-durations : (length (take written′ out′) ≡ length ms) × (length (take written′ out′) ≤ mostStates) × (total (take written′ out′) ≤ mostFrames)
+  align-durations =
+      let o = accepted .outcome in
+      let ds : take written′ out′ ≡ o .durations = ap (λ (m : ℕ). take m out′) align-written ∙ ap (take (length ms)) (accepted .output) ∙ take-at (o .durations) _ (length ms) (accepted .count) in
+      let n : length (take written′ out′) ≡ length ms = ap length ds ∙ accepted .count in
+      (n, rw n (accepted .states), rw ds (accepted .frames))
+
   -- in `hejmirov_trajectory`, with whatever records, windows and room
   pub align-blameless : (v masked : ℕ) (threshold none : Float) (gvOn : ℕ) (weight : Float) (widths : List ℕ) (coefs records gv : List Float) (switches : List ℕ)
       (numbers floats : List Float) (marks : List ℕ) (r : ℕ) (numbers′ floats′ : List Float) (marks′ : List ℕ)
       → TrajectoryCallSays v masked threshold none gvOn weight widths coefs records (take written′ out′) gv switches numbers floats marks r numbers′ floats′ marks′
       → Blameless (streamOf v masked threshold none gvOn weight) widths coefs records gv switches numbers floats marks (length ms) (take written′ out′) r
   align-blameless v masked threshold none gvOn weight widths coefs records gv switches numbers floats marks r numbers′ floats′ marks′ t =
-      let o = accepted .outcome in
-      let ds : take written′ out′ ≡ o .durations = ap (λ (m : ℕ). take m out′) align-written ∙ ap (take (length ms)) (accepted .output) ∙ take-at (o .durations) _ (length ms) (accepted .count) in
-      let n : length (take written′ out′) ≡ length ms = ap length ds ∙ accepted .count in
-      let f : total (take written′ out′) ≤ mostFrames = rw ds (accepted .frames) in
+      let n : length (take written′ out′) ≡ length ms = align-durations .0 in
+      let f : total (take written′ out′) ≤ mostFrames = align-durations .2 in
       let e : r ≡ refusalBeside (streamOf v masked threshold none gvOn weight) widths coefs records gv switches numbers floats marks (length ms) (total (take written′ out′)) =
       t .gives ∙ t .says .number
-      ∙ beside (streamOf v masked threshold none gvOn weight) widths coefs records gv switches numbers floats marks (take written′ out′) (rw n (accepted .states)) f
+      ∙ beside (streamOf v masked threshold none gvOn weight) widths coefs records gv switches numbers floats marks (take written′ out′) (align-durations .1) f
       ∙ ap (λ (m : ℕ). refusalBeside (streamOf v masked threshold none gvOn weight) widths coefs records gv switches numbers floats marks m (total (take written′ out′))) n in
       record { count = n; frames = f; answers = e; accepted = λ q. e ∙ ready (streamOf v masked threshold none gvOn weight) widths coefs records gv switches numbers floats marks (length ms) (total (take written′ out′)) q }

@@ -6,9 +6,11 @@ ghost use Rattle.duration.specs.Promise.{fitted, aligned};
 ghost use Rattle.lists.specs.Ends.{filled};
 ghost use Rattle.spool.specs.Promise.{placed, spanned};
 ghost use Rattle.settings.specs.Promise.{counted};
+ghost use Rattle.read_along.specs.Promise.{countedAs, writtenAs, partedAs};
 ghost use Rattle.job.specs.Damage.{oldNumber};
 ghost use Rattle.job.specs.Promise.{answered};
 ghost use Rattle.hejmirov.specs.Settings.{HandsSettings, SettingsClearCallSays, SettingsSetCallSays, SettingsGetCallSays, SettingsRemoveCallSays, SettingsCountCallSays, SettingsReadCallSays, SettingsWriteCallSays};
+ghost use Rattle.hejmirov.specs.Words.{WordsSpansCallSays, WordsMillisecondsCallSays, WordsAtCallSays, WordsExcerptCallSays, WordsWriteCallSays, WordsReadCallSays};
 ghost use Rattle.hejmirov.specs.Promise.{HandsOne, HandsTwo, HandsJob, varianceOf, FitCallSays, SpeedCallSays, AlignCallSays, MaskCallSays, BandCallSays, TrajectoryCallSays, PlaceCallSays, ExcerptCallSays, JobCallSays, LinkBeginCallSays, LinkPartCallSays, LinkEndCallSays};
 use duration::Aligned;
 use duration::Fitted;
@@ -16,6 +18,8 @@ use job::Answered;
 use lists::Filled;
 use mlpg_adjust::GlobalVariance;
 use mlpg_adjust::Stream;
+use read_along::Part;
+use read_along::file::Written;
 use settings::Counted;
 use settings::Got;
 use settings::Settings;
@@ -476,4 +480,131 @@ fn hand_out_length(answer: Counted, written: &mut u64) -> u32
         }
         Counted::Refused(number) => number as u32,
     }
+}
+
+// Each word's first frame and the frame after its last. This call and those below have refusal numbers of their own.
+#[no_mangle]
+pub extern "C" fn hejmirov_words_spans(
+    words: &[u32],
+    nstate: u32,
+    durations: &[u32],
+    spans: &mut [u32],
+) -> u32
+    ensures { λ r. ⌜ WordsSpansCallSays (now (words .entry)) nstate (now (durations .entry)) (now (spans .entry)) r (now (spans .exit)) ⌝ }
+{
+    words_number(read_along::spans(words, nstate, durations, spans))
+}
+
+// The same in milliseconds.
+#[no_mangle]
+pub extern "C" fn hejmirov_words_milliseconds(
+    words: &[u32],
+    nstate: u32,
+    durations: &[u32],
+    spans: &mut [u32],
+) -> u32
+    ensures { λ r. ⌜ WordsMillisecondsCallSays (now (words .entry)) nstate (now (durations .entry)) (now (spans .entry)) r (now (spans .exit)) ⌝ }
+{
+    words_number(read_along::milliseconds(words, nstate, durations, spans))
+}
+
+fn words_number(answer: read_along::Counted) -> u32
+    ensures { λ r. ⌜ r ≡ countedAs answer .number ⌝ }
+{
+    match answer {
+        read_along::Counted::Number(_) => 0,
+        read_along::Counted::Refused(number) => number as u32,
+    }
+}
+
+// The word that sounds at a frame.
+#[no_mangle]
+pub extern "C" fn hejmirov_words_at(
+    words: &[u32],
+    nstate: u32,
+    durations: &[u32],
+    frame: u32,
+    word: &mut u32,
+) -> u32
+    ensures { λ r. ⌜ WordsAtCallSays (now (words .entry)) nstate (now (durations .entry)) frame (now (word .entry)) r (now (word .exit)) ⌝ }
+{
+    hand_out_word(read_along::at(words, nstate, durations, frame), word)
+}
+
+fn hand_out_word(answer: read_along::Counted, word: &mut u32) -> u32
+    ensures { λ r. ⌜ HandsOne (countedAs answer) (now (word .entry)) r (now (word .exit)) ⌝ }
+{
+    match answer {
+        read_along::Counted::Number(given) => {
+            *word = given;
+            0
+        }
+        read_along::Counted::Refused(number) => number as u32,
+    }
+}
+
+// The part of a trajectory that a word has, by its numbers' places.
+#[no_mangle]
+pub extern "C" fn hejmirov_words_excerpt(
+    words: &[u32],
+    nstate: u32,
+    durations: &[u32],
+    trajectory: &[f64],
+    v: u32,
+    word: u32,
+    first: &mut u64,
+    count: &mut u64,
+) -> u32
+    ensures { λ r. ⌜ WordsExcerptCallSays (now (words .entry)) nstate (now (durations .entry)) (now (trajectory .entry)) v word (now (first .entry)) (now (count .entry)) r (now (first .exit)) (now (count .exit)) ⌝ }
+{
+    let answer = read_along::excerpt_part(words, nstate, durations, trajectory, v, word);
+    hand_out_part(answer, first, count)
+}
+
+fn hand_out_part(answer: Part, first: &mut u64, count: &mut u64) -> u32
+    ensures { λ r. ⌜ HandsTwo (partedAs answer) (now (first .entry)) (now (count .entry)) r (now (first .exit)) (now (count .exit)) ⌝ }
+{
+    match answer {
+        Part::Numbers(begin, length) => {
+            *first = begin;
+            *count = length;
+            0
+        }
+        Part::Refused(number) => number as u32,
+    }
+}
+
+// The timing file of words.
+#[no_mangle]
+pub extern "C" fn hejmirov_words_write(
+    words: &[u32],
+    nstate: u32,
+    durations: &[u32],
+    out: &mut [u8],
+    written: &mut u64,
+) -> u32
+    ensures { λ r. ⌜ WordsWriteCallSays (now (words .entry)) nstate (now (durations .entry)) (now (out .entry)) (now (written .entry)) r (now (out .exit)) (now (written .exit)) ⌝ }
+{
+    let answer = read_along::file::write(words, nstate, durations, out);
+    hand_out_written(answer, written)
+}
+
+fn hand_out_written(answer: Written, written: &mut u64) -> u32
+    ensures { λ r. ⌜ HandsOne (writtenAs answer) (now (written .entry)) r (now (written .exit)) ⌝ }
+{
+    match answer {
+        Written::Bytes(bytes) => {
+            *written = bytes;
+            0
+        }
+        Written::Refused(number) => number as u32,
+    }
+}
+
+// The spans that a timing file says.
+#[no_mangle]
+pub extern "C" fn hejmirov_words_read(bytes: &[u8], spans: &mut [u32], words: &mut u32) -> u32
+    ensures { λ r. ⌜ WordsReadCallSays (now (bytes .entry)) (now (spans .entry)) (now (words .entry)) r (now (spans .exit)) (now (words .exit)) ⌝ }
+{
+    hand_out_word(read_along::file::read(bytes, spans), words)
 }
