@@ -1,13 +1,18 @@
 /* Answers cases with the C calls of hejmirov: everything that a call leaves, lent lists whole.
    The formats of standard input and output are in tools/README.md.
    A call that the archive doesn't have yet is told as such, so the symbols are weak.
-   With the argument `kinds` the driver prints the kinds that are there, and ends. */
+   With the argument `kinds` the driver prints the kinds that are there, and ends; with `long_words` it prints
+   which calls on more words than a case can have aren't answered as the rules say. */
+
+#define _DEFAULT_SOURCE /* for mappings */
 
 #include <stdbool.h>
 #include <stdint.h>
 #include <stdio.h>
 #include <stdlib.h>
 #include <string.h>
+#include <sys/mman.h>
+#include <unistd.h>
 
 #define DOUBLES(name) const double *name, size_t n_##name
 #define WHOLES(name) const uint32_t *name, size_t n_##name
@@ -76,6 +81,23 @@ uint32_t hejmirov_settings_read(OUT_WHOLES(voices), OUT_LONGS(settings), BYTES(b
 uint32_t hejmirov_settings_write(WHOLES(voices), LONGS(settings), OUT_BYTES(out),
                                  uint64_t *written);
 
+/* What every call on words is given first. */
+#define WORDS WHOLES(words), uint32_t nstate, WHOLES(durations)
+
+#pragma weak hejmirov_words_spans
+uint32_t hejmirov_words_spans(WORDS, OUT_WHOLES(spans));
+#pragma weak hejmirov_words_milliseconds
+uint32_t hejmirov_words_milliseconds(WORDS, OUT_WHOLES(spans));
+#pragma weak hejmirov_words_at
+uint32_t hejmirov_words_at(WORDS, uint32_t frame, uint32_t *word);
+#pragma weak hejmirov_words_excerpt
+uint32_t hejmirov_words_excerpt(WORDS, DOUBLES(trajectory), uint32_t v, uint32_t word,
+                                uint64_t *first, uint64_t *count);
+#pragma weak hejmirov_words_write
+uint32_t hejmirov_words_write(WORDS, OUT_BYTES(out), uint64_t *written);
+#pragma weak hejmirov_words_read
+uint32_t hejmirov_words_read(BYTES(bytes), OUT_WHOLES(spans), uint32_t *words);
+
 enum {
     FIT = 3,
     SPEED,
@@ -89,9 +111,11 @@ enum {
     LINK,
     OLD_NUMBER,
     STORE,
-    SETTINGS_FILE
+    SETTINGS_FILE,
+    SPOKEN_WORDS,
+    TIMING_FILE
 };
-enum { ANSWERED = 0, NO_SUCH_CALL = 3, STRAYED = 4, PARTED = 5, LOST = 6 };
+enum { ANSWERED = 0, NO_SUCH_CALL = 3, STRAYED = 4, PARTED = 5, LOST = 6, MISTIMED = 7 };
 
 /* The calls on a link's memory, as a case names them. */
 enum { LINK_BEGIN, LINK_PART, LINK_END };
@@ -670,6 +694,95 @@ static void run_settings_file(void) {
     put_handed_out(&store, &left);
 }
 
+/* The inputs of every call on words. */
+typedef struct {
+    List *words, *durations;
+    uint32_t nstate;
+} Spoken;
+
+#define IN_WORDS(spoken) IN_W((spoken)->words), (spoken)->nstate, IN_W((spoken)->durations)
+
+/* What the calls on words handed out: a refusal each, and the values through pointers. */
+typedef struct {
+    Buffer refusals, sounding, firsts, counts;
+} Timed;
+
+/* Whether written bytes are read back as the words' spans, into lists that are just so long. */
+static bool reads_back_as_spans(const Spoken *spoken, const List *out, uint64_t written) {
+    if (written > out->count) return false;
+    size_t count = spoken->words->count;
+    List *spans = lent_of(4, 2 * count), *read = lent_of(4, 2 * count), *bytes = lent_of(1, written);
+    memcpy(bytes->numbers, out->numbers, written);
+    uint32_t words = untouched;
+    return hejmirov_words_spans(IN_WORDS(spoken), OUT_W(spans)) == 0 &&
+           hejmirov_words_read(IN_B(bytes), OUT_W(read), &words) == 0 && words == count &&
+           memcmp(bytes->numbers, out->numbers, written) == 0 &&
+           memcmp(spans->numbers, read->numbers, spans->size) == 0;
+}
+
+static void keep_refusal(Timed *left, uint32_t refusal) {
+    append(&left->refusals, &refusal, sizeof refusal);
+}
+
+static void ask_frame(const Spoken *spoken, uint32_t frame, Timed *left) {
+    uint32_t word = untouched;
+    keep_refusal(left, hejmirov_words_at(IN_WORDS(spoken), frame, &word));
+    append(&left->sounding, &word, sizeof word);
+}
+
+static void ask_excerpt(const Spoken *spoken, const List *trajectory, uint32_t v, uint32_t word,
+                        Timed *left) {
+    uint64_t first = untouched_long, count = untouched_long;
+    keep_refusal(left, hejmirov_words_excerpt(IN_WORDS(spoken), IN_D(trajectory), v, word, &first,
+                                              &count));
+    append(&left->firsts, &first, sizeof first);
+    append(&left->counts, &count, sizeof count);
+}
+
+static uint64_t write_words(const Spoken *spoken, const List *out, Timed *left) {
+    uint64_t written = untouched_long;
+    uint32_t refusal = hejmirov_words_write(IN_WORDS(spoken), OUT_B(out), &written);
+    keep_refusal(left, refusal);
+    if (refusal == 0 && !reads_back_as_spans(spoken, out, written)) status = MISTIMED;
+    return written;
+}
+
+static void run_words(void) {
+    Spoken spoken = {.words = input(4)};
+    spoken.nstate = take_u32();
+    spoken.durations = input(4);
+    View frames = view(4);
+    List *trajectory = marked(8);
+    uint32_t v = take_u32();
+    View asked = view(4);
+    List *spans = lent(4), *milliseconds = lent(4), *out = lent(1);
+    Timed left = {0};
+    keep_refusal(&left, hejmirov_words_spans(IN_WORDS(&spoken), OUT_W(spans)));
+    keep_refusal(&left, hejmirov_words_milliseconds(IN_WORDS(&spoken), OUT_W(milliseconds)));
+    for (uint32_t i = 0; i < frames.count; i++) ask_frame(&spoken, next_u32(&frames), &left);
+    for (uint32_t i = 0; i < asked.count; i++)
+        ask_excerpt(&spoken, trajectory, v, next_u32(&asked), &left);
+    uint64_t written = write_words(&spoken, out, &left);
+    put_items(&left.refusals, sizeof(uint32_t));
+    put_list(spans);
+    put_list(milliseconds);
+    put_items(&left.sounding, sizeof(uint32_t));
+    put_items(&left.firsts, sizeof(uint64_t));
+    put_items(&left.counts, sizeof(uint64_t));
+    put_u64(written);
+    put_list(out);
+    Buffer *own[] = {&left.refusals, &left.sounding, &left.firsts, &left.counts};
+    for (size_t i = 0; i < sizeof own / sizeof *own; i++) free(own[i]->bytes);
+}
+
+static void run_timing_file(void) {
+    List *bytes = input(1), *spans = lent(4);
+    uint32_t words = untouched;
+    put_u32(hejmirov_words_read(IN_B(bytes), OUT_W(spans), &words));
+    put_list(spans);
+    put_u32(words);
+}
+
 static bool there(uint8_t kind) {
     switch (kind) {
     case FIT: return hejmirov_fit;
@@ -689,6 +802,10 @@ static bool there(uint8_t kind) {
         return hejmirov_settings_clear && hejmirov_settings_set && hejmirov_settings_get &&
                hejmirov_settings_remove && hejmirov_settings_count && hejmirov_settings_read &&
                hejmirov_settings_write;
+    case SPOKEN_WORDS:
+    case TIMING_FILE:
+        return hejmirov_words_spans && hejmirov_words_milliseconds && hejmirov_words_at &&
+               hejmirov_words_excerpt && hejmirov_words_write && hejmirov_words_read;
     default: return false;
     }
 }
@@ -708,6 +825,8 @@ static void run(uint8_t kind) {
     case OLD_NUMBER: run_old_number(); break;
     case STORE: run_store(); break;
     case SETTINGS_FILE: run_settings_file(); break;
+    case SPOKEN_WORDS: run_words(); break;
+    case TIMING_FILE: run_timing_file(); break;
     }
 }
 
@@ -727,6 +846,84 @@ static void answer_case(const uint8_t *bytes) {
     fflush(stdout); /* a later case may end the process */
 }
 
+/* So many words lie in memory once, and stand in a long list over and over. */
+enum { BLOCK = 1 << 22 };
+
+/* A block of words with the same number of labels, as a file that can be mapped again and again. */
+static int block_of(uint32_t labels) {
+    FILE *file = tmpfile();
+    for (size_t i = 0; file && i < BLOCK; i++) fwrite(&labels, sizeof labels, 1, file);
+    return file && fflush(file) == 0 ? fileno(file) : -1;
+}
+
+/* Words with the same number of labels, as many as 2^32 of them, and one more word; null without the memory. */
+static const uint32_t *long_list(uint32_t labels, size_t count, uint32_t last) {
+    size_t size = BLOCK * sizeof labels, blocks = (count + BLOCK) / BLOCK;
+    int block = block_of(labels), flags = MAP_PRIVATE | MAP_NORESERVE;
+    uint8_t *list = mmap(NULL, blocks * size, PROT_NONE, flags | MAP_ANONYMOUS, -1, 0);
+    if (block < 0 || list == MAP_FAILED) return NULL;
+    for (size_t i = 0; i < blocks; i++)
+        if (mmap(list + i * size, size, PROT_READ | PROT_WRITE, flags | MAP_FIXED, block, 0) ==
+            MAP_FAILED)
+            return NULL;
+    ((uint32_t *)list)[count] = last; /* in a page of its own from here on */
+    return (uint32_t *)list;
+}
+
+/* What is asked of a long list without outputs, and the numbers that must come. */
+typedef struct {
+    const char *name;
+    uint32_t labels;
+    uint64_t same; /* so many words with these labels */
+    uint32_t last; /* and these of one more word, where it counts */
+    uint64_t count;
+    uint32_t nstate;
+    size_t n_durations;
+    uint32_t spans, at, last_excerpt, next_excerpt;
+} LongWords;
+
+static const LongWords long_words[] = {
+    {"2^32 words of no labels", 0, 1ull << 32, 0, 1ull << 32, 1, 0, 1, 1, 1, 1},
+    {"2^32 words, no states a label", 0, 1ull << 32, 0, 1ull << 32, 0, 0, 5, 5, 5, 5},
+    {"2^32 - 1 words of no labels", 0, 1ull << 32, 0, (1ull << 32) - 1, 1, 0, 4, 2, 0, 2},
+    {"2^60 labels of 16 states", UINT32_MAX, 1u << 28, 1u << 28, (1u << 28) + 1, 16, 0, 1, 1, 1, 1},
+    {"2^60 labels and 1", UINT32_MAX, 1u << 28, (1u << 28) + 1, (1u << 28) + 1, 16, 16, 1, 1, 1, 1},
+};
+
+static void told(const char *name, const char *call, uint32_t got, uint32_t expected) {
+    if (got != expected) printf("%s: %s gives %u, not %u\n", name, call, got, expected);
+}
+
+static void try_long_words(const LongWords *one) {
+    static const uint32_t ones[16] = {1, 1, 1, 1, 1, 1, 1, 1, 1, 1, 1, 1, 1, 1, 1, 1};
+    static const double trajectory[16];
+    const uint32_t *words = long_list(one->labels, one->same, one->last);
+    if (!words) {
+        printf("%s: there is no memory for so many\n", one->name);
+        return;
+    }
+    uint32_t word = untouched, after = (uint32_t)(one->count - 1);
+    uint64_t first = untouched_long, count = untouched_long, written = untouched_long;
+#define LONG_WORDS words, one->count, one->nstate, ones, one->n_durations
+#define EXCERPT_OF(asked) \
+    hejmirov_words_excerpt(LONG_WORDS, trajectory, one->n_durations, 1, asked, &first, &count)
+    told(one->name, "spans", hejmirov_words_spans(LONG_WORDS, NULL, 0), one->spans);
+    told(one->name, "milliseconds", hejmirov_words_milliseconds(LONG_WORDS, NULL, 0), one->spans);
+    told(one->name, "at", hejmirov_words_at(LONG_WORDS, UINT32_MAX, &word), one->at);
+    told(one->name, "write", hejmirov_words_write(LONG_WORDS, NULL, 0, &written), one->spans);
+    told(one->name, "the next word", EXCERPT_OF(after + 1), one->next_excerpt);
+    if (word != untouched || first != untouched_long || written != untouched_long)
+        printf("%s: a refused call leaves a value\n", one->name);
+    told(one->name, "the last word", EXCERPT_OF(after), one->last_excerpt);
+    if (one->last_excerpt == 0 && (first != 0 || count != 0))
+        printf("%s: the last word is not empty\n", one->name);
+    munmap((void *)words, (one->same + BLOCK) / BLOCK * BLOCK * sizeof *words);
+}
+
+static void print_long_words(void) {
+    for (size_t i = 0; i < sizeof long_words / sizeof *long_words; i++) try_long_words(&long_words[i]);
+}
+
 static void print_kinds(void) {
     static const char *names[] = {[FIT] = "fit",     [SPEED] = "speed",
                                   [ALIGN] = "align", [MASK] = "mask",
@@ -734,14 +931,19 @@ static void print_kinds(void) {
                                   [PLACE] = "place", [EXCERPT] = "excerpt",
                                   [JOB] = "job",     [LINK] = "link",
                                   [OLD_NUMBER] = "old_number",
-                                  [STORE] = "store", [SETTINGS_FILE] = "settings_file"};
-    for (uint8_t kind = FIT; kind <= SETTINGS_FILE; kind++)
+                                  [STORE] = "store", [SETTINGS_FILE] = "settings_file",
+                                  [SPOKEN_WORDS] = "words", [TIMING_FILE] = "timing_file"};
+    for (uint8_t kind = FIT; kind <= TIMING_FILE; kind++)
         if (there(kind)) puts(names[kind]);
 }
 
 int main(int argc, char **argv) {
     if (argc == 2 && strcmp(argv[1], "kinds") == 0) {
         print_kinds();
+        return 0;
+    }
+    if (argc == 2 && strcmp(argv[1], "long_words") == 0) {
+        print_long_words();
         return 0;
     }
     uint32_t size;

@@ -44,17 +44,25 @@ def cut(rng: Random, data: bytes) -> bytes:
     return data[: rng.randint(0, min(len(data), rng.choice([SPEED_AT, HEAD + 1, len(data)])))]
 
 
-def cut_and_wrong(rng: Random, data: bytes) -> bytes:
-    """Cut in the mark, version or count, with another last byte."""
-    kept = data[: rng.randint(1, SPEED_AT)]
+def cut_within(rng: Random, data: bytes, head: int) -> bytes:
+    """Cut in a head, with another last byte."""
+    kept = data[: rng.randint(1, head)]
     return kept[:-1] + bytes(other_byte(rng, byte) for byte in kept[-1:])
 
 
-def other_mark(rng: Random, data: bytes) -> bytes:
-    """One letter, two or all wrong."""
-    for place in rng.sample(range(len(MARK)), rng.choice([1, 1, 2, 3])):
-        data = put(data, place, bytes([other_byte(rng, MARK[place])]))
+def wrong_letters(rng: Random, data: bytes, mark: bytes) -> bytes:
+    """One letter of a mark, two or all wrong."""
+    for place in rng.sample(range(len(mark)), rng.choice([1, 1, 2, 3])):
+        data = put(data, place, bytes([other_byte(rng, mark[place])]))
     return data
+
+
+def cut_and_wrong(rng: Random, data: bytes) -> bytes:
+    return cut_within(rng, data, SPEED_AT)
+
+
+def other_mark(rng: Random, data: bytes) -> bytes:
+    return wrong_letters(rng, data, MARK)
 
 
 def other_version(rng: Random, data: bytes) -> bytes:

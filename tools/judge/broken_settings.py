@@ -3,7 +3,7 @@
 import struct
 from random import Random
 
-from .broken_jobs import Change, empty, of_length, other_byte, other_bytes, put, put_number
+from .broken_jobs import Change, cut_within, empty, of_length, other_bytes, put, put_number, wrong_letters
 from .reading.settings import EACH, HEAD, MARK, RECORD, count_of, damage, records, version_of
 
 VERSION_AT, COUNT_AT = 3, 5
@@ -26,18 +26,14 @@ def cut(rng: Random, data: bytes) -> bytes:
 
 
 def cut_and_wrong(rng: Random, data: bytes) -> bytes:
-    """Cut in the mark, version or count, with another last byte."""
-    kept = data[: rng.randint(1, HEAD)]
-    return kept[:-1] + bytes(other_byte(rng, byte) for byte in kept[-1:])
+    return cut_within(rng, data, HEAD)
 
 
 def other_mark(rng: Random, data: bytes) -> bytes:
     """One letter, two or all wrong, or another mark."""
     if rng.random() < 0.2:
         return put(data, 0, rng.choice(OTHER_MARKS))
-    for place in rng.sample(range(len(MARK)), rng.choice([1, 1, 2, 3])):
-        data = put(data, place, bytes([other_byte(rng, MARK[place])]))
-    return data
+    return wrong_letters(rng, data, MARK)
 
 
 def other_version(rng: Random, data: bytes) -> bytes:

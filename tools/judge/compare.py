@@ -9,7 +9,7 @@ from itertools import groupby
 from . import reading
 from .domain import Judge, answered, judge_of, oracle_answers, tail_of
 from .formats import KINDS, READ, Case, Fields, decode, encode, encode_case, store_calls
-from .programs import ANSWERED, LOST, PANICKED, PARTED, STRAYED, Program
+from .programs import ANSWERED, LOST, MISTIMED, PANICKED, PARTED, STRAYED, Program
 from .reading import jobs, links
 from .reading.durations import TooLong
 
@@ -21,6 +21,7 @@ FAILURES = {
     STRAYED: "wrote outside the lent lists, into an input, or into the store of a refused call",
     PARTED: "an end is not hejmirov_job's answer on the joined bytes",
     LOST: "what was written is not read back as it was",
+    MISTIMED: "what was written of words is not read back as their spans",
 }
 
 
@@ -87,6 +88,11 @@ class Tally:
     store_refusals: Counter = field(default_factory=Counter)
     files: int = 0
     file_refusals: Counter = field(default_factory=Counter)
+    # Calls on words, and timing files that were read, with those that were refused by the words' own numbers.
+    on_words: int = 0
+    word_refusals: Counter = field(default_factory=Counter)
+    timings: int = 0
+    timing_refusals: Counter = field(default_factory=Counter)
 
     def __str__(self) -> str:
         judged = ", ".join(f"{count} by {judge}" for judge, count in self.judged.items())
@@ -101,6 +107,10 @@ class Tally:
             line += f"; on stores {self.on_stores} calls, refused {numbered(self.store_refusals)}"
         if self.files:
             line += f"; {self.files} settings files, refused {numbered(self.file_refusals)}"
+        if self.on_words:
+            line += f"; on words {self.on_words} calls, refused {numbered(self.word_refusals)}"
+        if self.timings:
+            line += f"; {self.timings} timing files, refused {numbered(self.timing_refusals)}"
         return line
 
 
@@ -157,6 +167,12 @@ class Comparison:
                     self.count_damage(end.job, end.refusal)
             if case.kind in ("store", "settings_file"):
                 self.count_store(case, values["refusals"])
+            if case.kind == "words":
+                self.tally.on_words += len(values["refusals"])
+                self.tally.word_refusals.update(number for number in values["refusals"] if number)
+            if case.kind == "timing_file":
+                self.tally.timings += 1
+                self.tally.timing_refusals.update(number for number in [values["refusal"]] if number)
 
     def count_store(self, case: Case, refusals: list[int]) -> None:
         reads = [one.call == READ for one in store_calls(case)]

@@ -4,7 +4,7 @@ from collections.abc import Callable
 from itertools import groupby
 from random import Random
 
-from . import broken_settings
+from . import broken_settings, broken_timing
 from .broken_jobs import broken
 from .formats import KINDS, PART, READ, ROOM, Case, LinkCall, StoreCall
 from .formats import link_calls, link_case, store_calls, store_case
@@ -107,11 +107,13 @@ def too_many_band_frames(rng: Random, case: Case) -> Case:
 
 
 def changed_bytes(rng: Random, case: Case) -> Case:
-    """A job's bytes damaged, or those of one that comes over a link; a settings file's, or those of one that a store reads."""
+    """The bytes of a job or a file damaged, also of a job that comes over a link and of a settings file that a store reads."""
     if case.kind == "job":
         return case.with_fields(bytes=broken(rng, case["bytes"]))
     if case.kind == "settings_file":
         return case.with_fields(bytes=broken_settings.broken(rng, case["bytes"]))
+    if case.kind == "timing_file":
+        return case.with_fields(bytes=broken_timing.broken(rng, case["bytes"]))
     if case.kind == "store":
         return changed_file(rng, case)
     return changed_parts(rng, case) if case.kind == "link" else case
@@ -209,6 +211,17 @@ def changed_call(rng: Random, call: LinkCall) -> LinkCall:
     return LinkCall(call.call, bytes(part), rng.randint(0, call.out), rng.randint(0, call.work))
 
 
+def other_words(rng: Random, case: Case) -> Case:
+    """A word with other labels, few or so many that 32 bits don't count them, or the words in another order."""
+    words = list(case["words"]) or [0]
+    if rng.random() < 0.3:
+        rng.shuffle(words)
+    else:
+        word = rng.randrange(len(words))
+        words[word] = rng.choice([0, words[word] ^ 1, words[word] ^ 1, 2**28, 2**31, 2**32 - 1])
+    return case.with_fields(words=words)
+
+
 GENERAL: list[Damage] = [other_length, short_room, number_out_of_range]
 BY_KIND: dict[str, list[Damage]] = {
     "fit": [*GENERAL, too_many_states],
@@ -223,6 +236,8 @@ BY_KIND: dict[str, list[Damage]] = {
     "link": [other_memory, other_calls, other_calls, changed_bytes],
     "store": [other_store, other_store_calls, changed_bytes],
     "settings_file": [short_room, changed_bytes],
+    "words": [*GENERAL, too_many_states, too_many_frames, longer_trajectory, other_words, other_words],
+    "timing_file": [short_room, changed_bytes],
 }
 
 

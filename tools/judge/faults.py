@@ -4,7 +4,7 @@ from dataclasses import dataclass
 
 IEEE, PAIRS, DURATIONS = "ieee.py", "pairs.py", "durations.py"
 TRAJECTORY, PLACES, JOBS, LINKS = "trajectory.py", "places.py", "jobs.py", "links.py"
-SETTINGS, REFUSALS, EXITS = "settings.py", "refusals.py", "exits.py"
+SETTINGS, WORDS, REFUSALS, EXITS = "settings.py", "words.py", "refusals.py", "exits.py"
 
 
 @dataclass(frozen=True)
@@ -52,6 +52,45 @@ WRITTEN_RECORDS = (
 )
 WRITTEN_HEAD = '        return MARK + struct.pack("<HH", WRITTEN_VERSION, len(held)) + b"".join(kept)'
 WRITTEN = '        return (TOO_SHORT, b"") if room < len(data) else (0, data)'
+ORDER = "ORDER = (REFUSED_BELOW, DISAGREE, NOT_THERE, MALFORMED, TOO_SHORT)"
+NSTATE = '    if not 1 <= case["nstate"] <= MAX_NSTATE:'
+STATES_AND_FRAMES = '    return len(case["durations"]) > MAX_STATES or sum(case["durations"]) > MAX_FRAMES'
+COMPONENTS = '    if not 1 <= case["v"] <= MAX_V:'
+NUMBERS = '    return case["trajectory"] != sum(case["durations"]) * case["v"]'
+LABELS = '    states = sum(case["words"]) * case["nstate"]'
+AGREE = '    return states != len(case["durations"]) or len(case["words"]) > MAX_WORDS'
+OWN_STATES = '    states = (word for word, labels in enumerate(case["words"]) for _ in range(labels * case["nstate"]))'
+OWN_FRAMES = '    return [word for word, duration in zip(states, case["durations"]) for _ in range(duration)]'
+FIRST_FRAME = "    return bisect_left(owned, word)"
+AFTER_LAST = "    return bisect_right(owned, word)"
+SPANS = (
+    '    return [bound(owned, word) for word in range(len(case["words"])) for bound in (first_frame, frame_after_last)]'
+)
+MILLISECONDS = "    return [FRAME_MILLISECONDS * frame for frame in spans]"
+SPANS_ROOM = "    number = refusal(checks_of(case) | {TOO_SHORT: lambda: case[room] < needed})"
+SPANS_LEFT = "    return number, (marked_u32(0, case[room]) if number else answer() + marked_u32(needed, case[room]))"
+FRAME_THERE = '    number = refusal(checks_of(case) | {NOT_THERE: lambda: frame >= sum(case["durations"])})'
+SOUNDING = "    return (number, UNTOUCHED_U32) if number else (0, owners(case)[frame])"
+BELOW = "    below = lambda: bad_durations(case) or bad_trajectory(case)"
+WORD_THERE = (
+    '    number = refusal(checks_of(case) | {REFUSED_BELOW: below, NOT_THERE: lambda: word >= len(case["words"])})'
+)
+NO_PART = "        return number, UNTOUCHED_U64, UNTOUCHED_U64"
+PART = "    return 0, first_frame(owned, word) * v, owned.count(word) * v"
+TIMING_HEAD = '    head = MARK + struct.pack("<HI", VERSION, len(spans) // 2)'
+TIMING_SPANS = '    return head + struct.pack(f"<{len(spans)}I", *spans)'
+TIMING_ROOM = "    number = refusal(checks_of(case) | {TOO_SHORT: lambda: room < needed})"
+NOTHING_WRITTEN = "        return number, UNTOUCHED_U64, marked_bytes(0, room)"
+TIMING_WRITTEN = "    return 0, needed, file_of(spans_of(case)) + marked_bytes(needed, room)"
+TIMING_MARK = "    if data[: len(MARK)] != MARK:"
+TIMING_VERSION = '    return int.from_bytes(data[3:5], "little")'
+ONE_VERSION = "    if version_of(data) != VERSION:"
+TIMING_LENGTH = "    if len(data) < HEAD or len(data) != HEAD + SPAN * count_of(data):"
+TOUCHING = "    if firsts != [0, *afters][: len(firsts)]:"
+FORWARD = "    return any(after < first for first, after in zip(firsts, afters))"
+READ_ROOM = "    number = refusal({MALFORMED: lambda: is_malformed(data), TOO_SHORT: lambda: room < 2 * count})"
+NOTHING_READ = '        return {"refusal": number, "spans": marked_u32(0, room), "words": UNTOUCHED_U32}'
+READ_SPANS = '    return {"refusal": 0, "spans": spans_in(data) + marked_u32(2 * count, room), "words": count}'
 
 FAULTS = [
     Fault("rounding to even", IEEE, HALF,
@@ -428,6 +467,212 @@ FAULTS = [
           "        left.held.append(UNTOUCHED_U32 if number else held)", "        left.held.append(held)"),
     Fault("zeros handed out for a voice that is not held", SETTINGS,
           "        left.got += got or [UNTOUCHED_U64] * EACH", "        left.got += got or [0] * EACH"),
+    Fault("a word begins a frame late", WORDS, FIRST_FRAME,
+          "    return min(bisect_left(owned, word) + (word > 0), len(owned))"),
+    Fault("a word ends at its last frame", WORDS, AFTER_LAST,
+          "    return max(bisect_left(owned, word), bisect_right(owned, word) - 1)"),
+    Fault("the last word's end left out", WORDS, SPANS, SPANS[:-1] + "][: 2 * len(case[\"words\"]) - 1]"),
+    Fault("the last word ends where it begins", WORDS, SPANS,
+          SPANS.replace("return", "spans =") + "; spans[-1:] = spans[-2:-1]; return spans"),
+    Fault("a word's frames for its end", WORDS, AFTER_LAST, "    return owned.count(word)"),
+    Fault("a word of no frames ends at 0", WORDS, AFTER_LAST,
+          "    return bisect_right(owned, word) if word in owned else 0"),
+    Fault("a word of no frames begins at 0", WORDS, FIRST_FRAME,
+          "    return bisect_left(owned, word) if word in owned else 0"),
+    Fault("words of no frames left out of the spans", WORDS, SPANS,
+          SPANS.replace(" for bound", " if word in owned for bound")),
+    Fault("all first frames, then all ends", WORDS, SPANS,
+          '    words = range(len(case["words"]));'
+          " return [bound(owned, word) for bound in (first_frame, frame_after_last) for word in words]"),
+    Fault("one state a label", WORDS, OWN_STATES, OWN_STATES.replace('labels * case["nstate"]', "labels")),
+    Fault("a word of no labels takes a label's states", WORDS, OWN_STATES, OWN_STATES.replace("labels *", "max(1, labels) *")),
+    Fault("a word's states a label too many", WORDS, OWN_STATES, OWN_STATES.replace("labels *", "(labels + 1) *")),
+    Fault("a state of no frames as one", WORDS, OWN_FRAMES, OWN_FRAMES.replace("range(duration)", "range(max(1, duration))")),
+    Fault("frames in 16 bits", WORDS, SPANS, SPANS.replace("[bound(owned, word)", "[bound(owned, word) % 2**16")),
+    Fault("4 ms a frame", WORDS, "FRAME_MILLISECONDS = 5", "FRAME_MILLISECONDS = 4"),
+    Fault("milliseconds of the first frames alone", WORDS, MILLISECONDS,
+          "    return [frame if at % 2 else 5 * frame for at, frame in enumerate(spans)]"),
+    Fault("milliseconds of the ends alone", WORDS, MILLISECONDS,
+          "    return [5 * frame if at % 2 else frame for at, frame in enumerate(spans)]"),
+    Fault("milliseconds up to the last frame's beginning", WORDS, MILLISECONDS,
+          "    return [5 * max(0, frame - at % 2) for at, frame in enumerate(spans)]"),
+    Fault("milliseconds in 16 bits", WORDS, MILLISECONDS, "    return [5 * frame % 2**16 for frame in spans]"),
+    Fault("the word before sounds at its end", WORDS, SOUNDING,
+          "    return (number, UNTOUCHED_U32) if number else (0, owners(case)[max(0, frame - 1)])"),
+    Fault("the next word sounds at a word's last frame", WORDS, SOUNDING,
+          "    return (number, UNTOUCHED_U32) if number else (0, [*owners(case), len(case['words']) - 1][frame + 1])"),
+    Fault("a word of no frames sounds", WORDS, SOUNDING,
+          "    return (number, UNTOUCHED_U32) if number else (0, spans_of(case)[0::2].index(frame)"
+          " if frame in spans_of(case)[0::2] else owners(case)[frame])"),
+    Fault("words of no frames not counted in the word that sounds", WORDS, SOUNDING,
+          "    return (number, UNTOUCHED_U32) if number else (0, sorted({*owners(case)}).index(owners(case)[frame]))"),
+    Fault("the word that sounds counted from 1", WORDS, SOUNDING,
+          "    return (number, UNTOUCHED_U32) if number else (0, owners(case)[frame] + 1)"),
+    Fault("the frame after the last taken", WORDS, FRAME_THERE,
+          FRAME_THERE.replace(">=", ">") + "; frame = min(frame, sum(case['durations']) - 1)"),
+    Fault("the last word sounds past the end", WORDS, SOUNDING,
+          "    return (number, UNTOUCHED_U32) if number not in (0, 2) or not case['words'] else"
+          " (0, [*owners(case), len(case['words']) - 1][min(frame, sum(case['durations']))])"),
+    Fault("the last frame past the end", WORDS, FRAME_THERE, FRAME_THERE.replace("frame >=", "frame + 1 >=")),
+    Fault("a frame asked for in 16 bits", WORDS, FRAME_THERE, "    frame %= 2**16;" + FRAME_THERE[3:]),
+    Fault("a frame asked for in milliseconds", WORDS, FRAME_THERE, "    frame //= 5;" + FRAME_THERE[3:]),
+    Fault("the number of words for a frame that is not there", WORDS, SOUNDING,
+          "    return (number, len(case['words']) if number == 2 else UNTOUCHED_U32) if number else (0, owners(case)[frame])"),
+    Fault("a word's excerpt counted in frames", WORDS, PART, "    return 0, first_frame(owned, word), owned.count(word)"),
+    Fault("a word's excerpt from its first frame's number", WORDS, PART,
+          "    return 0, first_frame(owned, word), owned.count(word) * v"),
+    Fault("a word's excerpt up to its end as its count", WORDS, PART,
+          "    return 0, first_frame(owned, word) * v, frame_after_last(owned, word) * v"),
+    Fault("a word's excerpt without its last frame", WORDS, PART,
+          "    return 0, first_frame(owned, word) * v, max(0, owned.count(word) - 1) * v"),
+    Fault("a state's excerpt for a word's", WORDS, PART,
+          "    return 0, sum(case['durations'][:word]) * v, sum(case['durations'][word : word + 1]) * v"),
+    Fault("a label's excerpt for a word's", WORDS, PART,
+          "    n = case['nstate']; return 0, sum(case['durations'][: word * n]) * v,"
+          " sum(case['durations'][word * n : word * n + n]) * v"),
+    Fault("an empty excerpt from 0", WORDS, PART,
+          "    return 0, first_frame(owned, word) * v if word in owned else 0, owned.count(word) * v"),
+    Fault("an empty excerpt refused", WORDS, PART,
+          "    return (0, first_frame(owned, word) * v, owned.count(word) * v) if word in owned else"
+          " (2, UNTOUCHED_U64, UNTOUCHED_U64)"),
+    Fault("the word at the count taken", WORDS, WORD_THERE, WORD_THERE.replace("word >= len", "word > len")),
+    Fault("the last word not there", WORDS, WORD_THERE, WORD_THERE.replace("word >= len", "word + 1 >= len")),
+    Fault("a word asked for in 16 bits", WORDS, WORD_THERE, "    word %= 2**16;" + WORD_THERE[3:]),
+    Fault("the empty part written for a refused excerpt", WORDS, NO_PART, "        return number, 0, 0"),
+    Fault("the trajectory not looked at", WORDS, BELOW, "    below = lambda: bad_durations(case)"),
+    Fault("the trajectory looked at after the labels", WORDS, WORD_THERE,
+          "    number = refusal(checks_of(case)) or (5 if bad_trajectory(case) else 2 * (word >= len(case['words'])))"),
+    Fault("the trajectory looked at after the word", WORDS, WORD_THERE,
+          "    number = refusal(checks_of(case)) or (2 if word >= len(case['words']) else 5 * bad_trajectory(case))"),
+    Fault("a trajectory's 4 handed on", WORDS, NO_PART,
+          "        return 4 if number == 5 and 1 <= case['v'] <= MAX_V and not bad_durations(case) else number,"
+          " UNTOUCHED_U64, UNTOUCHED_U64"),
+    Fault("a v's 3 handed on", WORDS, NO_PART,
+          "        return 3 if number == 5 and not 1 <= case['v'] <= MAX_V else number, UNTOUCHED_U64, UNTOUCHED_U64"),
+    Fault("a word's 10 handed on", WORDS, NO_PART,
+          "        return 10 if number == 2 else number, UNTOUCHED_U64, UNTOUCHED_U64"),
+    Fault("a longer trajectory taken", WORDS, NUMBERS, NUMBERS.replace("!=", "<")),
+    Fault("a shorter trajectory taken", WORDS, NUMBERS, NUMBERS.replace("!=", ">")),
+    Fault("a trajectory with a part of a frame taken", WORDS, NUMBERS,
+          "    return case['trajectory'] // case['v'] != sum(case['durations'])"),
+    Fault("a v of 0 taken", WORDS, COMPONENTS, '    if case["v"] > MAX_V:'),
+    Fault("a v of 65 taken", WORDS, COMPONENTS, '    if not 1 <= case["v"] <= MAX_V + 1:'),
+    Fault("a v of 64 refused", WORDS, COMPONENTS, '    if not 1 <= case["v"] < MAX_V:'),
+    Fault("no states a label taken", WORDS, NSTATE, '    if case["nstate"] > MAX_NSTATE:'),
+    Fault("17 states a label taken", WORDS, NSTATE, '    if not 1 <= case["nstate"] <= MAX_NSTATE + 1:'),
+    Fault("16 states a label refused", WORDS, NSTATE, '    if not 1 <= case["nstate"] < MAX_NSTATE:'),
+    Fault("4,096 states of words refused", WORDS, STATES_AND_FRAMES,
+          STATES_AND_FRAMES.replace("> MAX_STATES", ">= MAX_STATES")),
+    Fault("too many states of words taken", WORDS, STATES_AND_FRAMES, '    return sum(case["durations"]) > MAX_FRAMES'),
+    Fault("65,536 frames of words refused", WORDS, STATES_AND_FRAMES,
+          STATES_AND_FRAMES.replace("> MAX_FRAMES", ">= MAX_FRAMES")),
+    Fault("65,537 frames of words taken", WORDS, STATES_AND_FRAMES,
+          STATES_AND_FRAMES.replace("> MAX_FRAMES", "> MAX_FRAMES + 1")),
+    Fault("words' frames summed in 32 bits", WORDS, STATES_AND_FRAMES,
+          # What it takes has so many frames that it ends here.
+          '    total = sum(case["durations"]); return len(case["durations"]) > MAX_STATES or total % 2**32 > MAX_FRAMES'
+          " or total > MAX_FRAMES and 1 / 0"),
+    Fault("labels summed in 32 bits", WORDS, LABELS, '    states = sum(case["words"]) % 2**32 * case["nstate"]'),
+    Fault("words' states counted in 32 bits", WORDS, LABELS, LABELS + " % 2**32"),
+    Fault("labels as states", WORDS, LABELS, '    states = sum(case["words"])'),
+    Fault("durations behind the last word taken", WORDS, AGREE, AGREE.replace("!=", ">")),
+    Fault("durations that are too few taken", WORDS, AGREE, AGREE.replace("!=", "<")),
+    Fault("durations of a part of a label taken", WORDS, AGREE,
+          '    return sum(case["words"]) != len(case["durations"]) // case["nstate"]'),
+    Fault("4,294,967,296 words taken", WORDS, AGREE, '    return states != len(case["durations"])',
+          "no case has so many words; `tools/table --long` lends them"),
+    Fault("no words refused", WORDS, AGREE, AGREE + ' or not case["words"]'),
+    Fault("a word of no labels refused", WORDS, AGREE, AGREE + ' or 0 in case["words"]'),
+    Fault("of words 1 before 5", WORDS, ORDER, "ORDER = (1, 5, 2, 3, 4)"),
+    Fault("of words 2 before 1", WORDS, ORDER, "ORDER = (5, 2, 1, 3, 4)"),
+    Fault("of words 2 before 5", WORDS, ORDER, "ORDER = (2, 5, 1, 3, 4)"),
+    Fault("of words 3 before 2", WORDS, ORDER, "ORDER = (5, 1, 3, 2, 4)", "no call has a frame or a word, and a file"),
+    Fault("of words 4 before 3", WORDS, ORDER, "ORDER = (5, 1, 2, 4, 3)"),
+    Fault("of words 4 before 1", WORDS, ORDER, "ORDER = (5, 4, 1, 2, 3)"),
+    Fault("of words 4 before 5", WORDS, ORDER, "ORDER = (4, 5, 1, 2, 3)"),
+    Fault("the smallest of the words' numbers", WORDS, ORDER, "ORDER = (1, 2, 3, 4, 5)"),
+    Fault("spans of one number too few taken", WORDS, SPANS_ROOM, SPANS_ROOM.replace("< needed", "< needed - 1")),
+    Fault("spans of one number a word taken", WORDS, SPANS_ROOM, SPANS_ROOM.replace("< needed", "< needed // 2")),
+    Fault("spans of the exact length refused", WORDS, SPANS_ROOM, SPANS_ROOM.replace("< needed", "<= needed")),
+    Fault("longer spans refused", WORDS, SPANS_ROOM, SPANS_ROOM.replace("< needed", "!= needed")),
+    Fault("spans written as far as there is room", WORDS, SPANS_LEFT,
+          "    new = answer()[: case[room]] if number in (0, 4) else [];"
+          " return number, new + marked_u32(len(new), case[room])"),
+    Fault("what is behind the spans zeroed", WORDS, SPANS_LEFT,
+          "    return number, (marked_u32(0, case[room]) if number else answer() + [0] * (case[room] - needed))"),
+    Fault("a timing file's output of a byte too few taken", WORDS, TIMING_ROOM,
+          TIMING_ROOM.replace("< needed", "< needed - 1")),
+    Fault("a timing file's output of the exact length refused", WORDS, TIMING_ROOM,
+          TIMING_ROOM.replace("< needed", "<= needed")),
+    Fault("a timing file's output measured without its head", WORDS, TIMING_ROOM,
+          TIMING_ROOM.replace("< needed", "< needed - HEAD")),
+    Fault("the length of a timing file that is not written", WORDS, NOTHING_WRITTEN,
+          "        return number, needed, marked_bytes(0, room)"),
+    Fault("the head of a timing file written though refused", WORDS, NOTHING_WRITTEN,
+          "        new = file_of([])[:room] if number == 4 else b'';"
+          " return number, UNTOUCHED_U64, new + marked_bytes(len(new), room)"),
+    Fault("what is behind a timing file zeroed", WORDS, TIMING_WRITTEN,
+          "    return 0, needed, file_of(spans_of(case)) + bytes(room - needed)"),
+    Fault("the output's length as what is written", WORDS, TIMING_WRITTEN,
+          "    return 0, room, file_of(spans_of(case)) + marked_bytes(needed, room)"),
+    Fault("a timing file in milliseconds", WORDS, TIMING_WRITTEN,
+          "    return 0, needed, file_of(in_milliseconds(spans_of(case))) + marked_bytes(needed, room)"),
+    Fault("the written count of numbers, not of words", WORDS, TIMING_HEAD, TIMING_HEAD.replace(" // 2", "")),
+    Fault("a timing file's written count in 8 bits", WORDS, TIMING_HEAD, TIMING_HEAD.replace(" // 2", " // 2 % 256")),
+    Fault("a timing file's version 2 written", WORDS, TIMING_HEAD, TIMING_HEAD.replace("VERSION", "2")),
+    Fault("a timing file's head with its high bytes first", WORDS, TIMING_HEAD, TIMING_HEAD.replace("<", ">")),
+    Fault("a timing file's frames with their high bytes first", WORDS, TIMING_SPANS, TIMING_SPANS.replace("<", ">")),
+    Fault("a timing file's mark in any letters", WORDS, TIMING_MARK, "    if data[: len(MARK)].upper() != MARK:"),
+    Fault("two bytes of a timing file's mark looked at", WORDS, TIMING_MARK, "    if data[:2] != MARK[:2]:"),
+    Fault("a timing file's mark not looked at", WORDS, TIMING_MARK, "    if len(data) < len(MARK):"),
+    Fault("a timing file's version in 8 bits", WORDS, TIMING_VERSION, "    return data[3] if len(data) > 3 else 0"),
+    Fault("a timing file's version not looked at", WORDS, ONE_VERSION, "    if len(data) < 5:"),
+    Fault("a timing file's later version taken", WORDS, ONE_VERSION, "    if version_of(data) < VERSION:"),
+    Fault("a timing file's version 0 taken", WORDS, ONE_VERSION, "    if version_of(data) > VERSION:"),
+    Fault("a timing file's count in 16 bits", WORDS, '    return int.from_bytes(data[5:9], "little")',
+          '    return int.from_bytes(data[5:7], "little")'),
+    Fault("a timing file's count in 24 bits", WORDS, '    return int.from_bytes(data[5:9], "little")',
+          '    return int.from_bytes(data[5:8], "little")'),
+    Fault("a timing file's length in 32 bits", WORDS, TIMING_LENGTH,
+          "    if len(data) < HEAD or (HEAD + SPAN * count_of(data)) % 2**32 != len(data):"),
+    Fault("surplus bytes of a timing file passed over", WORDS, TIMING_LENGTH, TIMING_LENGTH.replace("!=", "<")),
+    Fault("a timing file's words by its length", WORDS, TIMING_LENGTH,
+          "    if len(data) < HEAD or (len(data) - HEAD) % SPAN: return True\n"
+          "    data = data[:5] + ((len(data) - HEAD) // SPAN).to_bytes(4, 'little') + data[9:]\n    if False:"),
+    Fault("a part of a word at the end passed over", WORDS, TIMING_LENGTH,
+          "    if len(data) < HEAD or (len(data) - HEAD) // SPAN != count_of(data):"),
+    Fault("a timing file without words refused", WORDS, TIMING_LENGTH, TIMING_LENGTH[:-1] + " or len(data) == HEAD:"),
+    Fault("gaps between words taken", WORDS, TOUCHING,
+          "    if any(first < after for first, after in zip(firsts, [0, *afters])) or firsts[:1] not in ([], [0]):"),
+    Fault("words that overlap taken", WORDS, TOUCHING,
+          "    if any(first > after for first, after in zip(firsts, [0, *afters])):"),
+    Fault("words that don't touch taken", WORDS, TOUCHING, "    if firsts[:1] not in ([], [0]):"),
+    Fault("words not from 0 taken", WORDS, TOUCHING, "    if firsts[1:] != afters[: len(firsts[1:])]:"),
+    Fault("the last word's touching not looked at", WORDS, TOUCHING,
+          "    if firsts[:-1] != [0, *afters][: len(firsts[:-1])] or firsts[:1] not in ([], [0]):"),
+    Fault("a word that ends before it begins taken", WORDS, FORWARD, "    return False"),
+    Fault("a last word that ends before it begins taken", WORDS, FORWARD,
+          "    return any(after < first for first, after in zip(firsts[:-1], afters))"),
+    Fault("a word of no frames in a file refused", WORDS, FORWARD,
+          "    return any(after <= first for first, after in zip(firsts, afters))"),
+    Fault("frames of a file with a sign", WORDS, FORWARD,
+          "    return any((after ^ 2**31) < (first ^ 2**31) for first, after in zip(firsts, afters))"),
+    Fault("a file's frames above 65,536 refused", WORDS, FORWARD,
+          "    return any(not first <= after <= MAX_FRAMES for first, after in zip(firsts, afters))"),
+    Fault("a file's frame 4,294,967,295 refused", WORDS, FORWARD,
+          "    return any(not first <= after < MAX_WORDS for first, after in zip(firsts, afters))"),
+    Fault("read spans of one number too few taken", WORDS, READ_ROOM, READ_ROOM.replace("< 2 * count", "< 2 * count - 1")),
+    Fault("read spans of one number a word taken", WORDS, READ_ROOM, READ_ROOM.replace("< 2 * count", "< count")),
+    Fault("read spans of the exact length refused", WORDS, READ_ROOM, READ_ROOM.replace("< 2 * count", "<= 2 * count")),
+    Fault("the number of words for a refused read", WORDS, NOTHING_READ, NOTHING_READ.replace("UNTOUCHED_U32", "count")),
+    Fault("no words for a refused read", WORDS, NOTHING_READ, NOTHING_READ.replace("UNTOUCHED_U32", "0")),
+    Fault("spans read up to where a file is malformed", WORDS, NOTHING_READ,
+          "        new = spans_in(data)[:2] if number == 3 and len(data) == HEAD + SPAN * count <= HEAD + 4 * room else []\n"
+          "        return {'refusal': number, 'spans': new + marked_u32(len(new), room), 'words': UNTOUCHED_U32}"),
+    Fault("what is behind read spans zeroed", WORDS, READ_SPANS,
+          "    return {'refusal': 0, 'spans': spans_in(data) + [0] * (room - 2 * count), 'words': count}"),
+    Fault("the number of read frames for that of words", WORDS, READ_SPANS,
+          READ_SPANS.replace('"words": count', '"words": 2 * count')),
     Fault("the largest refusal that applies", REFUSALS,
           "    return next((number for number in sorted(checks) if checks[number]()), 0)",
           "    return next((number for number in sorted(checks, reverse=True) if checks[number]()), 0)"),

@@ -54,6 +54,11 @@ REFUSAL = ("refusal", "u32")
 STORE = [("voices", "u32s"), ("settings", "u64s")]
 # A refusal a call; of every get three patterns, count and write the values through pointers; the writes' lists joined.
 STORE_EXIT = [("refusals", "u32s"), ("got", "u64s"), ("held", "u32s"), ("written", "u64s"), ("out", "u8s"), *STORE]
+# A refusal a call; the spans' and milliseconds' lists; of every frame and word that is asked for the values through
+# pointers; of the write its value and list.
+WORDS_EXIT = [("refusals", "u32s"), ("spans", "u32s"), ("milliseconds", "u32s"), ("sounding", "u32s")]
+WORDS_EXIT += [("firsts", "u64s"), ("counts", "u64s"), ("written", "u64"), ("out", "u8s")]
+TIMING_EXIT = [REFUSAL, ("spans", "u32s"), ("words", "u32")]
 
 KINDS = {
     "float": Kind(0, [("operation", "u8"), ("a", "f64"), ("b", "f64")], [("answer", "f64")]),
@@ -151,6 +156,16 @@ KINDS = {
         STORE_EXIT,
         STORE_EXIT,
     ),
+    "words": Kind(
+        16,
+        # The frames are asked for one after the other, then the excerpts of the words `asked`.
+        [("words", "u32s"), ("nstate", "u32"), ("durations", "u32s"), ("frames", "u32s")]
+        + [("trajectory", ROOM), ("v", "u32"), ("asked", "u32s")]
+        + [("spans", ROOM), ("milliseconds", ROOM), ("out", ROOM)],
+        WORDS_EXIT,
+        WORDS_EXIT,
+    ),
+    "timing_file": Kind(17, [("bytes", "u8s"), ("spans", ROOM)], TIMING_EXIT, TIMING_EXIT),
 }
 
 

@@ -19,7 +19,7 @@ ARCHIVE = ROOT / "target/staticlib/libhejmirov.a"
 PATIENCE_SECONDS = 600
 
 # What the first byte of an answer says.
-ANSWERED, PANICKED, NOT_RUN, NO_SUCH_CALL, STRAYED, PARTED, LOST = range(7)
+ANSWERED, PANICKED, NOT_RUN, NO_SUCH_CALL, STRAYED, PARTED, LOST, MISTIMED = range(8)
 
 
 @dataclass(frozen=True)

@@ -5,15 +5,16 @@ from dataclasses import replace
 from functools import partial
 
 from .broken_jobs import COUNT_AT, SPEED_AT, count_of, put, put_number
+from .broken_timing import numbers_of, packed, put_long
 from .formats import END, KINDS, PART, ROOM, Case, LinkCall, StoreCall, link_calls, link_case, store_calls, store_case
-from .reading import settings
+from .reading import settings, words
 from .reading.jobs import HEAD, PAIR
 
 # Which lists hold one number a state, so that a state leaves them all at once.
 STATE_LISTS = ("means", "varis", "weights", "durations", "switches")
 SIMPLE = [0.0, 1.0, 2.0]
 
-# So many numbers of a store, or records of a settings file, are tried one by one.
+# So many numbers of a store, records of a settings file, or words are tried one by one.
 FEW = 8
 
 
@@ -261,6 +262,75 @@ def smaller_settings_file(case: Case) -> Iterator[Case]:
     yield from (case.with_fields(bytes=file) for file in smaller_file(case["bytes"]))
 
 
+def fewer_words(case: Case) -> Iterator[Case]:
+    """Without half of the words or one, or without labels of one, and without their states where there are so many."""
+    counts, nstate = case["words"], case["nstate"]
+    for size in sorted({len(counts) // 2, 1} - {0}, reverse=True) if counts else ():
+        for first in range(0, len(counts), size):
+            states = nstate * sum(counts[first : first + size])
+            yield from without_states_of(case, without(counts, first, size), nstate * sum(counts[:first]), states)
+    for word, labels in enumerate(counts[:FEW]):
+        for less in smaller_wholes(labels):
+            fewer = [*counts[:word], less, *counts[word + 1 :]]
+            yield from without_states_of(case, fewer, nstate * sum(counts[:word]), nstate * (labels - less))
+
+
+def without_states_of(case: Case, counts: list[int], first: int, states: int) -> Iterator[Case]:
+    """The trajectory loses what their frames have in it; the frames that are asked for stay, or come as much earlier."""
+    gone = sum(case["durations"][first : first + states])
+    rest = max(0, case["trajectory"] - gone * case["v"])
+    fewer = case.with_fields(words=counts, durations=without(case["durations"], first, states), trajectory=rest)
+    yield fewer
+    if gone:
+        yield fewer.with_fields(frames=[max(0, frame - gone) for frame in case["frames"]])
+
+
+def simpler_states(case: Case) -> Iterator[Case]:
+    """One state a label with all its frames, or a state's frames in the longest."""
+    durations, nstate = case["durations"], case["nstate"]
+    if 1 < nstate < len(durations) + 1:
+        joined = [sum(durations[first : first + nstate]) for first in range(0, len(durations), nstate)]
+        yield case.with_fields(nstate=1, durations=joined)
+    for state in range(len(durations[:100])):
+        longest = durations.index(max(durations))
+        if state != longest and durations[state]:
+            moved = list(durations)
+            moved[longest] += moved[state]
+            moved[state] = 0
+            yield case.with_fields(durations=moved)
+
+
+def smaller_frames(case: Case) -> Iterator[Case]:
+    """A state with fewer frames, or one component, the trajectory as much shorter."""
+    durations, frames = case["durations"], sum(case["durations"])
+    for state, duration in enumerate(durations[:40]):
+        for less in smaller_wholes(duration):
+            rest = max(0, case["trajectory"] - (duration - less) * case["v"])
+            fewer = case.with_fields(durations=[*durations[:state], less, *durations[state + 1 :]], trajectory=rest)
+            yield fewer
+            yield fewer.with_fields(frames=[max(0, frame - duration + less) for frame in case["frames"]])
+    if case["v"] > 1 and case["trajectory"] >= frames * (case["v"] - 1):
+        yield case.with_fields(v=1, trajectory=case["trajectory"] - frames * (case["v"] - 1))
+
+
+def smaller_timing(case: Case) -> Iterator[Case]:
+    """A timing file that is cut, has a word fewer, smaller numbers or a sound byte in front."""
+    data = case["bytes"]
+    smaller = [data[:length] for length in smaller_wholes(len(data))]
+    count, spans = words.count_of(data), numbers_of(data)
+    for less in smaller_wholes(count):
+        fewer = put_long(data, COUNT_AT, less)
+        places = range(words.HEAD, words.HEAD + words.SPAN * FEW, words.SPAN)
+        smaller += [fewer, *(without(fewer, place, words.SPAN * (count - less)) for place in places)]
+    smaller += [put(data, place, sound) for place, sound in enumerate([b"R", b"A", b"L", b"\x01", b"\0"])]
+    for at, number in enumerate(spans if len(spans) <= 40 else []):
+        smaller += [put_long(data, words.HEAD + 4 * at, less) for less in smaller_wholes(number)]
+        # Where one word ends and the next begins, both at once.
+        alike = [[less if one == number else one for one in spans] for less in smaller_wholes(number)]
+        smaller += [data[: words.HEAD] + packed(numbers)[words.HEAD :] for numbers in alike]
+    yield from (case.with_fields(bytes=less) for less in smaller)
+
+
 GENERAL = (without_states, narrower, shorter_lists, smaller_numbers)
 BY_KIND = {
     "job": (smaller_job, smaller_numbers),
@@ -272,6 +342,8 @@ BY_KIND = {
         smaller_store,
     ),
     "settings_file": (smaller_settings_file, smaller_numbers),
+    "words": (fewer_words, simpler_states, smaller_frames, shorter_lists, smaller_numbers),
+    "timing_file": (smaller_timing, smaller_numbers),
 }
 
 

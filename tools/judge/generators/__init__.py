@@ -5,7 +5,7 @@ from random import Random
 
 from .. import damage
 from ..formats import Case
-from . import durations, links, operations, settings, spool, trajectories
+from . import durations, links, operations, settings, spool, trajectories, words
 from .common import with_odd_nan
 
 GENERATORS: dict[str, Callable[[Random, bool], Case]] = {
@@ -25,6 +25,8 @@ GENERATORS: dict[str, Callable[[Random, bool], Case]] = {
     "old_number": spool.old_number_case,
     "store": settings.store_case_of,
     "settings_file": settings.settings_file_case,
+    "words": words.words_case,
+    "timing_file": words.timing_case,
 }
 
 # Fits with many steps to take and many ties.
@@ -50,7 +52,7 @@ def make(seed: int, kind: str, index: int) -> Case:
 
 
 def make_damaged(seed: int, kind: str, index: int) -> Case:
-    """A damaged case; the bytes of a job, over a link too, and of a settings file are, whatever else is."""
+    """A damaged case; the bytes of a job, over a link too, and of a settings or timing file are, whatever else is."""
     rng = Random(f"{seed} {kind} {index}")
     case = GENERATORS[kind](rng, False)
     return damage.damaged(rng, damage.changed_bytes(rng, case))

@@ -3,7 +3,7 @@
 import struct
 from random import Random
 
-from ..broken_settings import broken, packed
+from ..broken_settings import broken, other_length, other_version, packed, surplus
 from ..formats import CLEAR, COUNT, GET, READ, REMOVE, SET, WRITE, Case, StoreCall, store_case
 from ..reading.settings import EACH, FREE, HEAD, MARK, MAX_VOICE, PLACES, RECORD, WRITTEN_VERSION
 from ..reading.settings import Left, Store, damage, follow, records
@@ -190,10 +190,17 @@ def store_case_of(rng: Random, small: bool) -> Case:
     return store_case(voices, settings, calls)
 
 
+def broken_large(rng: Random, file: bytes) -> bytes:
+    """Often with all its voices, so that 17 shows behind 16 and 18."""
+    return rng.choice([broken, *[other_version] * 3, other_length, surplus])(rng, file)
+
+
 def settings_file_case(rng: Random, small: bool) -> Case:
     file = a_file(rng, some_voices(rng), small)
-    if rng.random() < (0.25 if len(file) < LARGE else 0.5):
-        file = broken(rng, file)
+    if len(file) < LARGE:
+        file = broken(rng, file) if rng.random() < 0.25 else file
+    else:
+        file = broken_large(rng, file) if rng.random() < 0.8 else file
     voices, settings = lengths(rng)
     held = 0 if damage(file) else len({voice for voice, _ in records(file)})
     return Case("settings_file", {"bytes": file, "voices": voices, "settings": settings, "out": room_for(rng, held)})

@@ -5,7 +5,7 @@
 """
 
 from ..formats import Case, Fields
-from . import durations, exits, ieee, jobs, links, pairs, places, refusals, settings, trajectory
+from . import durations, exits, ieee, jobs, links, pairs, places, refusals, settings, trajectory, words
 from .durations import Refused
 
 at_exit = exits.at_exit
@@ -27,6 +27,8 @@ ANSWERS = {
     "old_number": jobs.old_number_values,
     "store": settings.store_values,
     "settings_file": settings.store_values,
+    "words": words.words_values,
+    "timing_file": words.timing_values,
 }
 
 
