@@ -5,6 +5,7 @@ mod durations;
 mod links;
 mod settings;
 mod trajectories;
+mod words;
 
 use std::time::{Duration, Instant};
 
@@ -75,14 +76,16 @@ pub fn shown(time: Duration) -> String {
 type Group = (&'static str, &'static str, fn());
 
 const BOTH: &str = "Rust | Hejmirov | times as fast";
-const GROUPS: [Group; 7] = [
+const PLAIN: &str = "plain Rust | Hejmirov | times as fast";
+const GROUPS: [Group; 8] = [
     ("durations", BOTH, durations::run),
     ("alignments", BOTH, durations::alignments),
     ("trajectories", BOTH, trajectories::run),
     ("growth", BOTH, trajectories::growth),
     ("largest", BOTH, trajectories::largest),
     ("links", "as a file | over a link | of that a part", links::run),
-    ("settings", "plain Rust | Hejmirov | times as fast", settings::run),
+    ("settings", PLAIN, settings::run),
+    ("words", PLAIN, words::run),
 ];
 
 fn main() {
