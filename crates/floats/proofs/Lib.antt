@@ -10,4 +10,5 @@ pub mod Roots
 pub mod Claims
 pub mod Closest
 pub mod Ordered
+pub mod Strict
 pub mod Casts

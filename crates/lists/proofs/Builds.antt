@@ -1,6 +1,6 @@
 -- Laws of lists by a rule.
 use mathlib.Core.Path.{_≡_, refl, sym, ap, _∙_}
-use mathlib.Core.List.{List, [], _∷_, _++_}
+use mathlib.Core.List.{List, [], _∷_, _++_, map, map-append}
 use mathlib.Core.Logic.{⊎-elim}
 use Prim.Native.Nat.{ℕ, zero, suc, _+_, _-_, _<_, _≤_}
 use native.Mathlib.Omega.{arith}
@@ -46,6 +46,12 @@ module _ {A : Type 0} where
   unfolding build
   build-first f zero = refl
   build-first f (suc n) = ap (λ (l : List A). l ++ (f (suc n) ∷ [])) (build-first f n)
+
+-- what g makes of the elements
+pub map-build : {A B : Type 0} (g : A → B) (f : ℕ → A) (n : ℕ) → map g (build f n) ≡ build (λ i. g (f i)) n
+unfolding build
+map-build g f zero = refl
+map-build {B = B} g f (suc n) = map-append g (build f n) (f n ∷ []) ∙ ap (λ (l : List B). l ++ (g (f n) ∷ [])) (map-build g f n)
 
 -- a fold along two lists, one behind the other
 pub fold-append : {A B : Type 0} (f : A → B → A) (a : A) (xs ys : List B) → foldFrom f a (xs ++ ys) ≡ foldFrom f (foldFrom f a xs) ys

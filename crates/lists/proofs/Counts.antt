@@ -5,7 +5,13 @@ use mathlib.Core.List.{List, [], _∷_, _++_}
 use Prim.Native.Nat.{ℕ, zero, suc, _+_, _≤_}
 use native.Mathlib.Omega.{arith}
 use lib.ListN.{length, replicate}
+use Rattle.lists.specs.Flags.{flag}
 use Rattle.lists.specs.Frames.{select, count}
+
+pub count-first : (b : Bool) (bs : List Bool) → count (b ∷ bs) ≡ flag b + count bs
+unfolding count
+count-first true bs = omega arith
+count-first false bs = omega arith
 
 pub count-append : (cs bs : List Bool) → count (cs ++ bs) ≡ count cs + count bs
 unfolding count

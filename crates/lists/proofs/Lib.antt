@@ -18,5 +18,7 @@ pub mod Flags
 pub mod Counts
 pub mod Chosen
 pub mod Expansions
+pub mod Shares
+pub mod Columns
 pub mod Ends
 pub mod Joins

@@ -17,7 +17,7 @@ use Rattle.lists.specs.Refusals.{orElse}
 use Rattle.lists.proofs.Numbers.{le-or-lt}
 use Rattle.lists.proofs.Refusals.{or-none}
 use Rattle.lists.proofs.Fills.{build-length}
-use Rattle.lists.proofs.Builds.{build-at, build-is, fold-append}
+use Rattle.lists.proofs.Builds.{build-at, build-is, map-build, fold-append}
 use Rattle.lists.proofs.Firsts.{first-within, first-is, first-before, first-none}
 use Rattle.lists.proofs.Chosen.{select-append, select-at, select-each, select-front, select-map, select-first, select-none}
 use Rattle.settings.specs.declared.Changed.{Changed}
@@ -31,7 +31,7 @@ use Rattle.settings.specs.Promise.{changedOf, countedOf, storeRefusal, f
 use Rattle.settings.specs.Laws.{SameSettings}
 use Rattle.settings.specs.Written.{Fits, nothing, Writable}
 use Rattle.settings.proofs.Places.{holding-long, holding-at}
-use Rattle.settings.proofs.Gathering.{names, names-more, put-behind, all, Closed, none-closed, names-long, voices-long, held-there, behind-free, first-there, not-there, three-more}
+use Rattle.settings.proofs.Gathering.{names, put-behind, all, Closed, none-closed, names-long, voices-long, held-there, behind-free, first-there, not-there, three-more}
 use Rattle.settings.proofs.Writing.{entries-held}
 use Rattle.settings.proofs.Holding.{held-most}
 use Rattle.settings.proofs.Setting.{holds-first, held-first}
@@ -111,14 +111,9 @@ module _ (s : Store) where
   unfoldable some : ℕ → List Entry
   some i = select (build (holdsAt vs) i) (build (entryIn s) i)
 
-  map-build : (f : ℕ → Entry) (i : ℕ) → names (build f i) ≡ build (λ j. f j .voice) i
-  unfolding build
-  map-build f zero = refl
-  map-build f (suc i) = names-more (build f i) (f i) ∙ ap (λ (l : List ℕ). l ++ (f i .voice ∷ [])) (map-build f i)
-
   some-names : (i : ℕ) → names (some i) ≡ select (build (holdsAt vs) i) (build (λ j. getD vs j free) i)
   unfolding some
-  some-names i = select-map (λ (e : Entry). e .voice) (build (holdsAt vs) i) (build (entryIn s) i) ∙ ap (select (build (holdsAt vs) i)) (map-build (entryIn s) i)
+  some-names i = select-map (λ (e : Entry). e .voice) (build (holdsAt vs) i) (build (entryIn s) i) ∙ ap (select (build (holdsAt vs) i)) (map-build (λ (e : Entry). e .voice) (entryIn s) i)
 
   -- so its voice is none of those before
   new-name : (i : ℕ) → i < length vs → holdsAt vs i ≡ true → firstAt (getD vs i free) (names (some i)) ≡ length (names (some i))
