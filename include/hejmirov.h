@@ -39,7 +39,7 @@
 extern "C" {
 #endif
 
-#define HEJMIROV_VERSION "0.3.0"
+#define HEJMIROV_VERSION "0.4.0"
 
 /* Limits: more is refused. All but the frames of a place, and those of a timing file that is read,
  * which are any 32-bit number. */
@@ -272,7 +272,7 @@ uint32_t hejmirov_band_rows(const uint32_t *widths, size_t n_widths,
                             double *rows, size_t n_rows,
                             double *right, size_t n_right);
 
-/* A stream's trajectory: v numbers a frame.
+/* A stream's trajectory: v numbers a frame; and how many of its pairs were clamped.
  *
  *   v              numbers a frame, 1 to 64
  *   masked         not 0: each record ends with a voicing weight; 0: it has none, and every frame
@@ -293,6 +293,20 @@ uint32_t hejmirov_band_rows(const uint32_t *widths, size_t n_widths,
  *   out            afterwards F x v numbers, component c of frame t at t x v + c
  *   work           F x 48 numbers; afterwards F x 48 zeros
  *   marks          F x 4 numbers; afterwards F x 4 zeros
+ *   clamped_high   afterwards how many pairs of the voiced frames were clamped high
+ *   clamped_low    afterwards how many of them were clamped low
+ *
+ * Clamped pairs. A voiced frame has n_widths x v pairs: the means of its state's record, each with
+ * its variance. Every variance is inverted: where its size is above 1e19 to 0, and the pair is
+ * clamped high; where its size is below 1e-19 to 1e38, and the pair is clamped low; else, at both
+ * bounds too, to 1 / variance. So -1e20 and the infinities are high, 0.0 and -0.0 low, and NaN is
+ * neither. A pair is counted once a voiced frame, before the inverse variances near the ends of a
+ * run of voiced frames are set to 0: those of every window but the first, at frames from which it
+ * would reach past the run. Other frames add nothing, nor do GV variances, which are not
+ * inverted. The pairs of a stream are its voiced frames x n_widths x v, at most 16,777,216, and the
+ * two counts are shares of these: a voiced state of 3 frames, with the variances 1e20, 0, 0 and 1
+ * in two windows of v = 2, has 12 pairs, of which 3 are clamped high and 6 low. hejmirov_mask says
+ * which frames are voiced.
  *
  * Global variance. The numbers of the frames that count are scaled about their mean, so that their
  * variance is the target, GV mean x gv_weight; five steps of every voiced frame follow. In these
@@ -324,7 +338,9 @@ uint32_t hejmirov_trajectory(uint32_t v,
                              const uint8_t *switches, size_t n_switches,
                              double *out, size_t n_out,
                              double *work, size_t n_work,
-                             uint32_t *marks, size_t n_marks);
+                             uint32_t *marks, size_t n_marks,
+                             uint32_t *clamped_high,
+                             uint32_t *clamped_low);
 
 /* The byte place of one number in the spool, a file of frames of v doubles each.
  *

@@ -7,7 +7,7 @@
 //! | [`Link`] | the same from a job that comes in parts |
 //! | [`mask`] | which frames are voiced, and how far each is from the ends of its run |
 //! | [`band_rows`] | the equations of one component, before they are solved |
-//! | [`Stream::trajectory`] | a stream's numbers, frame after frame |
+//! | [`Stream::trajectory`] | a stream's numbers, frame after frame, and how many of its pairs were clamped |
 //! | [`place`], [`excerpt`] | where a number stands in the spool, and a state's part of a trajectory |
 //! | [`Store`] | voices' settings by the voice's number, and the file of them |
 //! | [`words_spans`], [`words_milliseconds`] | when each word of an utterance sounds, in frames and in milliseconds |
@@ -54,8 +54,8 @@ pub use settings::{
 };
 pub use spool::{excerpt, excerpt_range, place};
 pub use trajectory::{
-    BandRows, GlobalVariance, Mask, Stream, Trajectory, Windows, band_rows, band_rows_into, mask,
-    mask_into,
+    BandRows, Clamped, GlobalVariance, Mask, Stream, Trajectory, Windows, band_rows,
+    band_rows_into, mask, mask_into,
 };
 pub use words::{
     Span, words_at, words_excerpt, words_excerpt_range, words_milliseconds,

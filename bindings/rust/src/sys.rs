@@ -98,6 +98,8 @@ unsafe extern "C" {
         n_work: usize,
         marks: *mut u32,
         n_marks: usize,
+        clamped_high: *mut u32,
+        clamped_low: *mut u32,
     ) -> u32;
 
     pub fn hejmirov_place(frame: u32, component: u32, v: u32, place: *mut u64) -> u32;

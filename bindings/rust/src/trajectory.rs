@@ -274,7 +274,7 @@ pub struct GlobalVariance<'a> {
 ///     gv: None,
 /// };
 /// // A record: a mean a window, a variance a window, the voicing weight.
-/// assert_eq!(stream.record_len(), 5);
+/// assert_eq!((stream.pairs_a_frame(), stream.record_len()), (2, 5));
 /// let voiced = [3.0, 0.0, 1.0, 1.0, 0.9];
 /// let unvoiced = [3.0, 0.0, 1.0, 1.0, 0.1];
 /// let trajectory = stream.trajectory(&[voiced, unvoiced].concat(), &[2, 1])?;
@@ -300,17 +300,23 @@ pub struct Stream<'a> {
 }
 
 impl Stream<'_> {
+    /// Pairs of a voiced frame, each a mean and a variance: windows × v. All pairs of a stream, of
+    /// which those that were [`Clamped`] are a share, are so many for each of its voiced frames.
+    #[must_use]
+    pub fn pairs_a_frame(&self) -> usize {
+        self.windows.widths.len().saturating_mul(self.v as usize)
+    }
+
     /// Numbers in a state's record: windows × v means, as many variances, and the weight of a masked
     /// stream. Component c of window w is number v × w + c.
     #[must_use]
     pub fn record_len(&self) -> usize {
-        let pairs = self.windows.widths.len().saturating_mul(self.v as usize);
-        pairs
+        self.pairs_a_frame()
             .saturating_mul(2)
             .saturating_add(usize::from(self.masked))
     }
 
-    /// The stream's numbers, frame after frame.
+    /// The stream's numbers, frame after frame, and how many of its pairs were clamped.
     ///
     /// `records` holds one record a state, [`record_len`](Self::record_len) numbers each; `durations`
     /// one number of frames a state, 0 too.
@@ -339,7 +345,9 @@ impl Stream<'_> {
     ///     gv: None,
     /// };
     /// let records = [1.0, 1.0, 3.0, 1.0];
-    /// assert_eq!(plain.trajectory(&records, &[2, 2])?.numbers, [1.0, 1.0, 3.0, 3.0]);
+    /// let trajectory = plain.trajectory(&records, &[2, 2])?;
+    /// assert_eq!(trajectory.numbers, [1.0, 1.0, 3.0, 3.0]);
+    /// assert_eq!((trajectory.clamped.high, trajectory.clamped.low), (0, 0));
     ///
     /// // The variance of 1, 1, 3, 3 is 1; a target of 4 draws the numbers apart.
     /// let switches = [true, true];
@@ -353,12 +361,17 @@ impl Stream<'_> {
         let mut numbers = vec![0.0; frames * (self.v as usize).min(MAX_V)];
         let mut work = vec![0.0; frames * WORK_FLOATS_A_FRAME];
         let mut marks = vec![0; frames * WORK_MARKS_A_FRAME];
-        self.trajectory_into(records, durations, &mut numbers, &mut work, &mut marks)?;
-        Ok(Trajectory { v: self.v, numbers })
+        let clamped =
+            self.trajectory_into(records, durations, &mut numbers, &mut work, &mut marks)?;
+        Ok(Trajectory {
+            v: self.v,
+            numbers,
+            clamped,
+        })
     }
 
     /// [`trajectory`](Self::trajectory) in the caller's memory: frames × v numbers in `out`,
-    /// component c of frame t at t × v + c.
+    /// component c of frame t at t × v + c. It answers how many pairs were clamped.
     ///
     /// `work` needs [`WORK_FLOATS_A_FRAME`] and `marks` [`WORK_MARKS_A_FRAME`] numbers a frame; so
     /// many of each are zero afterwards. What is beyond stays as it was.
@@ -371,15 +384,18 @@ impl Stream<'_> {
     /// # Examples
     ///
     /// ```
-    /// use hejmirov::{Stream, WORK_FLOATS_A_FRAME, WORK_MARKS_A_FRAME, Windows};
+    /// use hejmirov::{Clamped, Stream, WORK_FLOATS_A_FRAME, WORK_MARKS_A_FRAME, Windows};
     ///
     /// let windows = Windows { widths: &[1], coefficients: &[1.0] };
     /// let stream = Stream { v: 2, windows, masked: false, threshold: 0.0, fill: 0.0, gv: None };
     /// let mut out = [7.0; 5];
     /// let mut work = [7.0; 2 * WORK_FLOATS_A_FRAME];
     /// let mut marks = [7; 2 * WORK_MARKS_A_FRAME];
-    /// stream.trajectory_into(&[5.0, 6.0, 1.0, 1.0], &[2], &mut out, &mut work, &mut marks)?;
+    /// // Means of 5 and 6; the second variance is 0, and is so in both frames.
+    /// let record = [5.0, 6.0, 1.0, 0.0];
+    /// let clamped = stream.trajectory_into(&record, &[2], &mut out, &mut work, &mut marks)?;
     /// assert_eq!(out, [5.0, 6.0, 5.0, 6.0, 7.0]);
+    /// assert_eq!(clamped, Clamped { high: 0, low: 2 });
     /// # Ok::<(), hejmirov::Refusal>(())
     /// ```
     pub fn trajectory_into(
@@ -389,15 +405,16 @@ impl Stream<'_> {
         out: &mut [f64],
         work: &mut [f64],
         marks: &mut [u32],
-    ) -> Result<(), Refusal> {
+    ) -> Result<Clamped, Refusal> {
         let off = GlobalVariance {
             weight: 0.0,
             pairs: &[],
             switches: &[],
         };
         let gv = self.gv.unwrap_or(off);
+        let mut clamped = Clamped::default();
         // SAFETY: each pointer and length are those of one slice, and the written ones are borrowed
-        // alone; a `bool` is a byte of 0 or 1.
+        // alone; a `bool` is a byte of 0 or 1; the last two pointers are to numbers of our own.
         let refusal = unsafe {
             sys::hejmirov_trajectory(
                 self.v,
@@ -424,10 +441,66 @@ impl Stream<'_> {
                 work.len(),
                 marks.as_mut_ptr(),
                 marks.len(),
+                &raw mut clamped.high,
+                &raw mut clamped.low,
             )
         };
-        Refusal::or(refusal, ())
+        Refusal::or(refusal, clamped)
     }
+}
+
+/// How many pairs of a stream's voiced frames were clamped, at most 16,777,216 together.
+///
+/// A voiced frame has [`pairs_a_frame`](Stream::pairs_a_frame) pairs: the means of its state's
+/// record, each with its variance. Every variance is inverted: where its size is above 1e19 to 0, and
+/// the pair is clamped high; where its size is below 1e-19 to 1e38, and the pair is clamped low; else,
+/// at both bounds too, to 1 / variance. So -1e20 and the infinities are high, 0 and -0 low, and NaN
+/// is neither.
+///
+/// A pair is counted once a voiced frame, before the inverse variances near the ends of a run of
+/// voiced frames are set to 0: those of every window but the first, at frames from which it would
+/// reach past the run. Other frames add nothing, nor do the variances of a [`GlobalVariance`], which
+/// are not inverted.
+///
+/// # Examples
+///
+/// ```
+/// use hejmirov::{Clamped, Stream, Windows};
+///
+/// let stream = Stream {
+///     v: 1,
+///     windows: Windows { widths: &[1, 3], coefficients: &[1.0, -0.5, 0.0, 0.5] },
+///     masked: true,
+///     threshold: 0.5,
+///     fill: 0.0,
+///     gv: None,
+/// };
+/// // A record: a mean a window, a variance a window, the voicing weight.
+/// let records = [
+///     [3.0, 0.0, 1.0, -1e20, 0.9],    // one of its two pairs is clamped high
+///     [3.0, 0.0, 1e19, 1e-19, 0.9],   // none at the bounds themselves
+///     [3.0, 0.0, f64::NAN, 1.0, 0.9], // none
+///     [3.0, 0.0, 0.0, 1e-20, 0.9],    // both low
+///     [3.0, 0.0, 0.0, f64::MAX, 0.1], // unvoiced
+/// ];
+/// let durations = [2, 3, 1, 4, 5];
+/// let clamped = stream.trajectory(&records.concat(), &durations)?.clamped;
+/// assert_eq!(clamped, Clamped { high: 2, low: 8 });
+///
+/// // Their shares of all pairs, in percent.
+/// let mask = hejmirov::mask(&records.map(|record| record[4]), 0.5, &durations)?;
+/// let voiced = mask.voiced.iter().filter(|&&voiced| voiced == 1).count();
+/// let pairs = voiced * stream.pairs_a_frame();
+/// let share = |count: u32| 100.0 * f64::from(count) / pairs as f64;
+/// assert_eq!((pairs, share(clamped.high), share(clamped.low)), (20, 10.0, 40.0));
+/// # Ok::<(), hejmirov::Refusal>(())
+/// ```
+#[derive(Clone, Copy, Debug, Default, PartialEq, Eq, Hash)]
+pub struct Clamped {
+    /// Pairs whose variance is above 1e19 in size: its inverse is 0.
+    pub high: u32,
+    /// Pairs whose variance is below 1e-19 in size: its inverse is 1e38.
+    pub low: u32,
 }
 
 /// A stream's numbers, frame after frame.
@@ -437,6 +510,8 @@ pub struct Trajectory {
     pub v: u32,
     /// Component c of frame t is number t × v + c.
     pub numbers: Vec<f64>,
+    /// How many pairs were clamped.
+    pub clamped: Clamped,
 }
 
 impl Trajectory {
@@ -454,12 +529,132 @@ impl Trajectory {
     /// # Examples
     ///
     /// ```
-    /// let trajectory = hejmirov::Trajectory { v: 2, numbers: vec![0.0, 0.1, 1.0, 1.1, 2.0, 2.1] };
+    /// use hejmirov::{Clamped, Trajectory};
+    ///
+    /// let numbers = vec![0.0, 0.1, 1.0, 1.1, 2.0, 2.1];
+    /// let trajectory = Trajectory { v: 2, numbers, clamped: Clamped::default() };
     /// assert_eq!(trajectory.excerpt(&[1, 2], 0)?, [0.0, 0.1]);
     /// assert_eq!(trajectory.frames().nth(2), Some(&[2.0, 2.1][..]));
     /// # Ok::<(), hejmirov::Refusal>(())
     /// ```
     pub fn excerpt(&self, durations: &[u32], state: u32) -> Result<&[f64], Refusal> {
         excerpt(&self.numbers, durations, self.v, state)
+    }
+}
+
+#[cfg(test)]
+mod tests {
+    //! What stands behind the pointers to the two counts, of which the safe call shows only what was
+    //! written.
+
+    use super::sys;
+
+    /// What the call is asked, of a masked stream whose windows have a coefficient each.
+    struct Asked {
+        v: u32,
+        coefficients: Vec<f64>,
+        records: Vec<f64>,
+        durations: Vec<u32>,
+        rooms: [usize; 3], // of out, work and marks, in frames
+    }
+
+    /// A state of three frames, three of whose four variances are clamped.
+    fn asked() -> Asked {
+        Asked {
+            v: 2,
+            coefficients: vec![1.0, 1.0],
+            records: vec![1.0, 2.0, 3.0, 4.0, 1e20, 0.0, -0.0, 1.0, 0.9],
+            durations: vec![3],
+            rooms: [3; 3],
+        }
+    }
+
+    /// The call's number, and what it leaves behind both pointers, where 21 and 22 stood.
+    fn counts(asked: &Asked) -> (u32, u32, u32) {
+        let (mut high, mut low) = (21, 22);
+        let widths = vec![1; asked.coefficients.len()];
+        let [out, work, marks] = asked.rooms;
+        let (mut out, mut work) = (vec![7.0; out * 2], vec![7.0; work * 48]);
+        let mut marks = vec![7; marks * 4];
+        // SAFETY: each pointer and length are those of one list, and the written ones are borrowed
+        // alone; a list of none may come with a null pointer; the last two are to numbers of our own.
+        let number = unsafe {
+            sys::hejmirov_trajectory(
+                asked.v,
+                1,
+                0.5,
+                0.0,
+                0,
+                0.0,
+                widths.as_ptr(),
+                widths.len(),
+                asked.coefficients.as_ptr(),
+                asked.coefficients.len(),
+                asked.records.as_ptr(),
+                asked.records.len(),
+                asked.durations.as_ptr(),
+                asked.durations.len(),
+                std::ptr::null(),
+                0,
+                std::ptr::null(),
+                0,
+                out.as_mut_ptr(),
+                out.len(),
+                work.as_mut_ptr(),
+                work.len(),
+                marks.as_mut_ptr(),
+                marks.len(),
+                &raw mut high,
+                &raw mut low,
+            )
+        };
+        (number, high, low)
+    }
+
+    #[test]
+    fn both_counts_are_written_where_the_call_is_accepted() {
+        assert_eq!(counts(&asked()), (0, 3, 6));
+        let none = Asked {
+            records: vec![1.0, 2.0, 3.0, 4.0, 1.0, 1.0, 1.0, 1.0, 0.9],
+            ..asked()
+        };
+        assert_eq!(counts(&none), (0, 0, 0));
+        let no_states = Asked {
+            records: Vec::new(),
+            durations: Vec::new(),
+            rooms: [0; 3],
+            ..asked()
+        };
+        assert_eq!(counts(&no_states), (0, 0, 0));
+    }
+
+    #[test]
+    fn both_counts_stay_where_the_call_refuses() {
+        let windows = Asked {
+            coefficients: vec![1.0; 5],
+            ..asked()
+        };
+        assert_eq!(counts(&windows), (1, 21, 22));
+        let coefficient = Asked {
+            coefficients: vec![1.0, f64::NAN],
+            ..asked()
+        };
+        assert_eq!(counts(&coefficient), (2, 21, 22));
+        for v in [0, 65] {
+            assert_eq!(counts(&Asked { v, ..asked() }), (3, 21, 22));
+        }
+        let records = Asked {
+            records: vec![0.0; 10],
+            ..asked()
+        };
+        assert_eq!(counts(&records), (4, 21, 22));
+        let durations = Asked {
+            durations: vec![65_537],
+            ..asked()
+        };
+        assert_eq!(counts(&durations), (5, 21, 22));
+        for rooms in [[2, 3, 3], [3, 2, 3], [3, 3, 2], [0, 0, 0]] {
+            assert_eq!(counts(&Asked { rooms, ..asked() }), (6, 21, 22));
+        }
     }
 }

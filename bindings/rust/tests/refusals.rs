@@ -3,9 +3,9 @@
 #![allow(clippy::float_cmp)] // what is promised is exact
 
 use hejmirov::{
-    Aligned, Damage, Fitted, GlobalVariance, JOB_STATE_BYTES, LINK_BYTES, Link, MAX_FRAMES,
-    MAX_JOB_STATES, MAX_NSTATE, MAX_STATES, MAX_V, MAX_WIDTH, MAX_WINDOWS, OPEN_END, Refusal,
-    Stream, WORK_FLOATS_A_FRAME, WORK_MARKS_A_FRAME, Windows,
+    Aligned, Clamped, Damage, Fitted, GlobalVariance, JOB_STATE_BYTES, LINK_BYTES, Link,
+    MAX_FRAMES, MAX_JOB_STATES, MAX_NSTATE, MAX_STATES, MAX_V, MAX_WIDTH, MAX_WINDOWS, OPEN_END,
+    Refusal, Stream, WORK_FLOATS_A_FRAME, WORK_MARKS_A_FRAME, Windows,
 };
 
 const MEANS: [f64; 2] = [2.0, 3.0];
@@ -187,9 +187,10 @@ fn trajectories_zero_the_work_space_they_use_and_no_more() {
     let mut numbers = [7.0; 3];
     let mut floats = [7.0; 2 * WORK_FLOATS_A_FRAME + 1];
     let mut marks = [7; 2 * WORK_MARKS_A_FRAME + 1];
-    PLAIN
-        .trajectory_into(&[5.0, 1.0], &[2], &mut numbers, &mut floats, &mut marks)
+    let clamped = PLAIN
+        .trajectory_into(&[5.0, 0.0], &[2], &mut numbers, &mut floats, &mut marks)
         .unwrap();
+    assert_eq!(clamped, Clamped { high: 0, low: 2 });
     assert_eq!(numbers, [5.0, 5.0, 7.0]);
     let (last, used) = floats.split_last().unwrap();
     assert!(*last == 7.0 && used.iter().all(|number| number.to_bits() == 0));
@@ -205,7 +206,9 @@ fn empty_lists_are_accepted() {
     );
     assert_eq!(hejmirov::align(&[], &[], 1, &[]), Ok(Fitted::default()));
     assert_eq!(hejmirov::mask(&[], 0.5, &[]), Ok(hejmirov::Mask::default()));
-    assert_eq!(PLAIN.trajectory(&[], &[]).unwrap().numbers, []);
+    let trajectory = PLAIN.trajectory(&[], &[]).unwrap();
+    assert_eq!(trajectory.numbers, []);
+    assert_eq!(trajectory.clamped, Clamped::default());
     assert_eq!(
         PLAIN
             .trajectory(&[1.0, 1.0], &[0])

@@ -8,7 +8,7 @@ use std::fs;
 use std::path::Path;
 use std::vec::IntoIter;
 
-use hejmirov::{Fitted, GlobalVariance, Link, Stream, Windows};
+use hejmirov::{Clamped, Fitted, GlobalVariance, Link, Stream, Windows};
 
 /// The bytes that are left of the file.
 struct File {
@@ -193,7 +193,7 @@ fn band_rows() {
 
 #[test]
 fn trajectories() {
-    replay(8, 1, |stored| {
+    replay(8, 3, |stored| {
         let (v, masked, threshold, fill) =
             (stored.u32(), stored.u32() != 0, stored.f64(), stored.f64());
         let (gv_on, weight) = (stored.u32() != 0, stored.f64());
@@ -218,6 +218,8 @@ fn trajectories() {
             gv,
         };
         let trajectory = stream.trajectory(&records, &durations).unwrap();
-        bits(&trajectory.numbers) == bits(&stored.f64s())
+        let Clamped { high, low } = trajectory.clamped;
+        let right = (bits(&stored.f64s()), stored.u32(), stored.u32());
+        (bits(&trajectory.numbers), high, low) == right
     });
 }

@@ -1,7 +1,7 @@
 //! The forms that own their memory never lack room, whatever lengths and sizes they are given; and
 //! what is asked of a value is answered, whatever its fields are.
 
-use hejmirov::{Fitted, Link, Refusal, Stream, Trajectory, Windows};
+use hejmirov::{Clamped, Fitted, Link, Refusal, Stream, Trajectory, Windows};
 
 /// Whole numbers from a seed: splitmix64.
 struct Seed(u64);
@@ -115,6 +115,7 @@ fn values_of_any_fields() {
         fill: f64::NAN,
         gv: None,
     };
+    assert_eq!(stream.pairs_a_frame() as u64, 5 * most);
     assert_eq!(stream.record_len() as u64, 10 * most + 1);
     assert_eq!(
         stream.trajectory(&[], &[u32::MAX]),
@@ -122,8 +123,11 @@ fn values_of_any_fields() {
     );
 
     for v in [0, 1, 2, 65, u32::MAX] {
-        let numbers = vec![1.0; 3];
-        let trajectory = Trajectory { v, numbers };
+        let trajectory = Trajectory {
+            v,
+            numbers: vec![1.0; 3],
+            clamped: Clamped::default(),
+        };
         assert_eq!(trajectory.frames().count(), 3 / (v as usize).max(1));
         for state in [0, 3, u32::MAX] {
             assert_eq!(

@@ -8,7 +8,7 @@ use Rattle.lists.proofs.Answers.{same}
 use Rattle.duration.specs.Promise.{fitted, aligned}
 use Rattle.duration.proofs.Calls.{fit-says-one, speed-says-one, align-says-one}
 use Rattle.lists.specs.Ends.{filled}
-use Rattle.mlpg_adjust.specs.Promise.{createdNumber}
+use Rattle.mlpg_adjust.specs.Promise.{created}
 use Rattle.voicing.proofs.Ways.{masked-one}
 use Rattle.band.proofs.Ways.{band-one}
 use Rattle.mlpg_adjust.proofs.One.{create-one}
@@ -91,12 +91,14 @@ band-call-one widths coefs means ivars rows right r s A₁ R₁ A₂ R₂ f g =
     (f .gives ∙ ap (λ b. filled b .number) (t .0) ∙ sym (g .gives), t .1, t .2)
 
 pub trajectory-call-one : (v masked : ℕ) (threshold none : Float) (gvOn : ℕ) (weight : Float) (widths : List ℕ) (coefs records : List Float) (ds : List ℕ) (gv : List Float) (switches : List ℕ)
-    (out work : List Float) (marks : List ℕ) (r s : ℕ) (o₁ w₁ : List Float) (m₁ : List ℕ) (o₂ w₂ : List Float) (m₂ : List ℕ)
-    → TrajectoryCallSays v masked threshold none gvOn weight widths coefs records ds gv switches out work marks r o₁ w₁ m₁
-    → TrajectoryCallSays v masked threshold none gvOn weight widths coefs records ds gv switches out work marks s o₂ w₂ m₂ → (r ≡ s) × (o₁ ≡ o₂) × (w₁ ≡ w₂) × (m₁ ≡ m₂)
-trajectory-call-one v masked threshold none gvOn weight widths coefs records ds gv switches out work marks r s o₁ w₁ m₁ o₂ w₂ m₂ f g =
+    (out work : List Float) (marks : List ℕ) (high low r s : ℕ) (o₁ w₁ : List Float) (m₁ : List ℕ) (x₀ x₁ : ℕ) (o₂ w₂ : List Float) (m₂ : List ℕ) (y₀ y₁ : ℕ)
+    → TrajectoryCallSays v masked threshold none gvOn weight widths coefs records ds gv switches out work marks high low r o₁ w₁ m₁ x₀ x₁
+    → TrajectoryCallSays v masked threshold none gvOn weight widths coefs records ds gv switches out work marks high low s o₂ w₂ m₂ y₀ y₁
+    → (r ≡ s) × (o₁ ≡ o₂) × (w₁ ≡ w₂) × (m₁ ≡ m₂) × (x₀ ≡ y₀) × (x₁ ≡ y₁)
+trajectory-call-one v masked threshold none gvOn weight widths coefs records ds gv switches out work marks high low r s o₁ w₁ m₁ x₀ x₁ o₂ w₂ m₂ y₀ y₁ f g =
     let t = create-one (streamOf v masked threshold none gvOn weight) widths coefs records ds gv switches out work marks (f .answer) (g .answer) o₁ w₁ m₁ o₂ w₂ m₂ (f .says) (g .says) in
-    (f .gives ∙ ap createdNumber (t .0) ∙ sym (g .gives), t .1, t .2, t .3)
+    let h = hands-two (created (f .answer)) (created (g .answer)) high low r s x₀ x₁ y₀ y₁ (ap created (t .0)) (f .gives) (g .gives) in
+    (h .0, t .1, t .2, t .3, h .1, h .2)
 
 pub job-call-one : (bytes out work : List ℕ) (states frames changes place r s : ℕ) (o₁ w₁ o₂ w₂ : List ℕ) (x₀ x₁ x₂ p y₀ y₁ y₂ q : ℕ)
     → JobCallSays bytes out work states frames changes place r o₁ w₁ x₀ x₁ x₂ p → JobCallSays bytes out work states frames changes place s o₂ w₂ y₀ y₁ y₂ q

@@ -50,14 +50,14 @@ module _ (ms vs : List Float) (nstate : ℕ) (ends : List Float) (out work : Lis
 
   -- in `hejmirov_trajectory`, with whatever records, windows and room
   pub align-blameless : (v masked : ℕ) (threshold none : Float) (gvOn : ℕ) (weight : Float) (widths : List ℕ) (coefs records gv : List Float) (switches : List ℕ)
-      (numbers floats : List Float) (marks : List ℕ) (r : ℕ) (numbers′ floats′ : List Float) (marks′ : List ℕ)
-      → TrajectoryCallSays v masked threshold none gvOn weight widths coefs records (take written′ out′) gv switches numbers floats marks r numbers′ floats′ marks′
+      (numbers floats : List Float) (marks : List ℕ) (high low r : ℕ) (numbers′ floats′ : List Float) (marks′ : List ℕ) (high′ low′ : ℕ)
+      → TrajectoryCallSays v masked threshold none gvOn weight widths coefs records (take written′ out′) gv switches numbers floats marks high low r numbers′ floats′ marks′ high′ low′
       → Blameless (streamOf v masked threshold none gvOn weight) widths coefs records gv switches numbers floats marks (length ms) (take written′ out′) r
-  align-blameless v masked threshold none gvOn weight widths coefs records gv switches numbers floats marks r numbers′ floats′ marks′ t =
+  align-blameless v masked threshold none gvOn weight widths coefs records gv switches numbers floats marks high low r numbers′ floats′ marks′ high′ low′ t =
       let n : length (take written′ out′) ≡ length ms = align-durations .0 in
       let f : total (take written′ out′) ≤ mostFrames = align-durations .2 in
       let e : r ≡ refusalBeside (streamOf v masked threshold none gvOn weight) widths coefs records gv switches numbers floats marks (length ms) (total (take written′ out′)) =
-      t .gives ∙ t .says .number
+      t .gives .answers ∙ t .says .number
       ∙ beside (streamOf v masked threshold none gvOn weight) widths coefs records gv switches numbers floats marks (take written′ out′) (align-durations .1) f
       ∙ ap (λ (m : ℕ). refusalBeside (streamOf v masked threshold none gvOn weight) widths coefs records gv switches numbers floats marks m (total (take written′ out′))) n in
       record { count = n; frames = f; answers = e; accepted = λ q. e ∙ ready (streamOf v masked threshold none gvOn weight) widths coefs records gv switches numbers floats marks (length ms) (total (take written′ out′)) q }

@@ -13,7 +13,7 @@ use Rattle.duration.specs.declared.Aligned.{Aligned}
 use Rattle.lists.specs.Ends.{filled}
 use Rattle.voicing.specs.Promise.{MaskedDistancesSays}
 use Rattle.band.specs.Promise.{BandSays}
-use Rattle.mlpg_adjust.specs.Promise.{createdNumber, CreateSays}
+use Rattle.mlpg_adjust.specs.Promise.{created, CreateSays}
 use Rattle.mlpg_adjust.specs.declared.Stream.{Stream}
 use Rattle.mlpg_adjust.specs.declared.GlobalVariance.{GlobalVariance}
 use Rattle.mlpg_adjust.specs.declared.GlobalVariance.the-variants.{Off, On}
@@ -95,10 +95,10 @@ streamOf v masked threshold none gvOn weight = record { v = v; masked = not (eqb
 
 -- `hejmirov_trajectory`
 pub record TrajectoryCallSays (v masked : ℕ) (threshold none : Float) (gvOn : ℕ) (weight : Float) (widths : List ℕ) (coefs records : List Float) (ds : List ℕ) (gv : List Float) (switches : List ℕ)
-    (out work : List Float) (marks : List ℕ) (r : ℕ) (out′ work′ : List Float) (marks′ : List ℕ) : Type 0 where
+    (out work : List Float) (marks : List ℕ) (high low r : ℕ) (out′ work′ : List Float) (marks′ : List ℕ) (high′ low′ : ℕ) : Type 0 where
   pub answer : Created
   pub says : CreateSays (streamOf v masked threshold none gvOn weight) widths coefs records ds gv switches out work marks answer out′ work′ marks′
-  pub gives : r ≡ createdNumber answer
+  pub gives : HandsTwo (created answer) high low r high′ low′
 
 -- `hejmirov_place`
 pub record PlaceCallSays (frame component v place r place′ : ℕ) : Type 0 where

@@ -4,6 +4,7 @@
 ghost use mathlib.Core.Path.{_≡_};
 ghost use Rattle.duration.specs.Promise.{fitted, aligned};
 ghost use Rattle.lists.specs.Ends.{filled};
+ghost use Rattle.mlpg_adjust.specs.Promise.{created};
 ghost use Rattle.spool.specs.Promise.{placed, spanned};
 ghost use Rattle.settings.specs.Promise.{counted};
 ghost use Rattle.read_along.specs.Promise.{countedAs, writtenAs, partedAs};
@@ -16,6 +17,7 @@ use duration::Aligned;
 use duration::Fitted;
 use job::Answered;
 use lists::Filled;
+use mlpg_adjust::Created;
 use mlpg_adjust::GlobalVariance;
 use mlpg_adjust::Stream;
 use read_along::Part;
@@ -178,9 +180,12 @@ pub extern "C" fn hejmirov_trajectory(
     out: &mut [f64],
     work: &mut [f64],
     marks: &mut [u32],
+    clamped_high: &mut u32,
+    clamped_low: &mut u32,
 ) -> u32
     ensures { λ r. ⌜ TrajectoryCallSays v masked threshold fill «gv_on» «gv_weight» (now (widths .entry)) (now (coefficients .entry)) (now (records .entry)) (now (durations .entry)) (now (gv .entry)) (now (switches .entry))
-        (now (out .entry)) (now (work .entry)) (now (marks .entry)) r (now (out .exit)) (now (work .exit)) (now (marks .exit)) ⌝ }
+        (now (out .entry)) (now (work .entry)) (now (marks .entry)) (now («clamped_high» .entry)) (now («clamped_low» .entry))
+        r (now (out .exit)) (now (work .exit)) (now (marks .exit)) (now («clamped_high» .exit)) (now («clamped_low» .exit)) ⌝ }
 {
     let stream = Stream {
         v,
@@ -201,7 +206,23 @@ pub extern "C" fn hejmirov_trajectory(
         work,
         marks,
     );
-    answer.number() as u32
+    hand_out_created(answer, clamped_high, clamped_low)
+}
+
+fn hand_out_created(answer: Created, high: &mut u32, low: &mut u32) -> u32
+    ensures { λ r. ⌜ HandsTwo (created answer) (now (high .entry)) (now (low .entry)) r (now (high .exit)) (now (low .exit)) ⌝ }
+{
+    match answer {
+        Created::Done {
+            high: above,
+            low: below,
+        } => {
+            *high = above;
+            *low = below;
+            0
+        }
+        Created::Refused(number) => number as u32,
+    }
 }
 
 fn variance_of(on: u32, weight: f64) -> GlobalVariance

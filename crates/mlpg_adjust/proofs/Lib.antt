@@ -5,6 +5,8 @@ pub mod Doors
 pub mod Components
 pub mod Columns
 pub mod Calls
+pub mod Clamps
 pub mod Keeping
 pub mod Marks
 pub mod RecordPairs
+pub mod ByStates

@@ -1,5 +1,5 @@
 -- The numbers that a trajectory reads of a state's record are the pairs that `from_linear` says.
-use mathlib.Core.Path.{_≡_, sym, _∙_}
+use mathlib.Core.Path.{_≡_, _∙_}
 use mathlib.Core.Bool.{Bool, true, false}
 use mathlib.Core.List.{List}
 use Prim.Native.Nat.{ℕ, _+_, _*_, _/_, _<_, _≤_}
@@ -29,7 +29,7 @@ module _ (size : ℕ) (records : List Float) (s n k : ℕ) (half : size / 2 ≡ 
       ∙ rw (long, half, ← part-elem (s * size) size n records (omega arith), ← part-elem (s * size) size (k + n) records (omega arith))
 
 -- a record's means are half of its numbers, with a weight behind them or without
-means-half : (v windows : ℕ) (masked : Bool) → recordSize v windows masked / 2 ≡ v * windows
+pub means-half : (v windows : ℕ) (masked : Bool) → recordSize v windows masked / 2 ≡ v * windows
 means-half v windows true = omega (arith, mul-comm v windows)
 means-half v windows false = omega (arith, mul-comm v windows)
 

@@ -21,10 +21,12 @@ use Rattle.model.specs.Windows.{widthsFit, allFinite, windowRefusal}
 use Rattle.model.proofs.Windows.{fit-few}
 use Rattle.mlpg_adjust.specs.Trajectory.{recordSize, gvOn, stateSize, trajectory, numbersOf}
 use Rattle.lists.specs.Answers.{written}
+use Rattle.mlpg_adjust.specs.Clamps.{clampedHigh, clampedLow}
 use Rattle.mlpg_adjust.specs.Promise.{lengthsOf, outOfRange, gvDisagrees, disagree, short, createRefusal, zeroFloats, zeroMarks, CreateSays}
 use Rattle.mlpg_adjust.specs.Inner.Groups.{Shaped, GvFits, Room}
 use Rattle.mlpg_adjust.specs.declared.Stream.{Stream}
 use Rattle.mlpg_adjust.specs.declared.refusing.Lengths.{Lengths}
+use Rattle.mlpg_adjust.specs.declared.Created.{Created}
 use Rattle.mlpg_adjust.specs.declared.Created.the-variants.{Done, Refused}
 use Rattle.band.proofs.Ways.{band-narrow}
 
@@ -223,5 +225,5 @@ module _ (s : Stream) (ws : List ℕ) (cs rs : List Float) (ds : List ℕ) (gv :
 
   pub create-done : (out′ work′ : List Float) (marks′ : List ℕ) → createRefusal s ws cs ds (lengthsOf rs gv switches out work marks) ≡ 0
       → out′ ≡ written 0 (numbersOf s ws cs rs ds gv switches) out → work′ ≡ written 0 (zeroFloats (total ds)) work → marks′ ≡ written 0 (zeroMarks (total ds)) marks
-      → CreateSays s ws cs rs ds gv switches out work marks Done out′ work′ marks′
-  create-done out′ work′ marks′ z a b m = record { number = sym z; answer = refl; numbers = a; space = b; counts = m }
+      → (r : Created) → r ≡ Done (clampedHigh s ws rs ds) (clampedLow s ws rs ds) → CreateSays s ws cs rs ds gv switches out work marks r out′ work′ marks′
+  create-done out′ work′ marks′ z a b m r e = rw e (record { number = sym z; answer = refl; numbers = a; space = b; counts = m })

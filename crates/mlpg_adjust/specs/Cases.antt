@@ -1,18 +1,20 @@
 -- RULES, Cases: case 10 from the records: windows (1) and (-0.5, 0, 0.5), three states of one frame each, first means 1, 2, 3, all other means and all variances 1.
--- Computed from the definitions.
+-- And clamped pairs. Computed from the definitions.
 use mathlib.Core.Path.{_≡_, refl}
-use mathlib.Core.Bool.{false}
+use mathlib.Core.Bool.{true, false}
 use mathlib.Core.List.{List, [], _∷_, map}
 use Prim.Native.Nat.{ℕ}
-use lib.Ieee.{Float, binary64, ofBits, toBits, lt, eq, add, mul, div}
+use lib.Ieee.{Float, nan, binary64, ofBits, toBits, lt, eq, add, mul, div}
 use Rattle.floats.specs.Numbers.{one}
 use Rattle.floats.specs.Order.{absOf}
-use Rattle.model.specs.Pair.{ivarOf}
+use Rattle.model.specs.Pair.{ivarOf, clampOf}
 use Rattle.model.specs.Record.{fromLinear}
 use Rattle.model.specs.Windows.{longest}
+use Rattle.model.specs.Clamps.{isHigh, isLow, clampedIn}
 use Rattle.lists.specs.Frames.{count}
 use Rattle.voicing.specs.Mask.{maskOf, weightsOf}
 use Rattle.mlpg_adjust.specs.Trajectory.{recordSize, matrix, side}
+use Rattle.mlpg_adjust.specs.Clamps.{clampedOver}
 
 -- 1, 2, 3, -0.5, 0.5 and 0
 abbrev f : ℕ → Float
@@ -34,3 +36,21 @@ case-10-rows = refl
 pub case-10-right : map (toBits binary64) (side (recordSize 1 2 false) records (f 0) (1 ∷ 1 ∷ 1 ∷ []) 1 (1 ∷ 3 ∷ []) taps 0) ≡ 0x3fe0_0000_0000_0000 ∷ 0x4000_0000_0000_0000 ∷ 0x400c_0000_0000_0000 ∷ []
 unfolding side count maskOf weightsOf lt ofBits fromLinear toBits eq add mul ivarOf absOf div
 case-10-right = refl
+
+-- RULES, Clamps: states of 2, 3, 1 and no frames, the second unvoiced, with the variances 0 and 1e20, 1e20 and 1e20, NaN and 1e-20, 0 and 0. The runs are so short that a second
+-- window of three is zeroed in all of their frames
+abbrev large : Float
+large = f 0x4415_af1d_78b5_8c40
+
+abbrev clampedRecords : List Float
+clampedRecords = one ∷ one ∷ f 0 ∷ large ∷ one ∷ one ∷ one ∷ large ∷ large ∷ f 0 ∷ one ∷ one ∷ nan ∷ f 0x3bc7_9ca1_0c92_4223 ∷ one ∷ one ∷ one ∷ f 0 ∷ f 0 ∷ one ∷ []
+
+-- 1e20 in two frames
+pub clamped-high : clampedOver (recordSize 1 2 true) clampedRecords (f 0) (2 ∷ 3 ∷ 1 ∷ 0 ∷ []) 1 (1 ∷ 3 ∷ []) isHigh ≡ 2
+unfolding clampedOver clampedIn clampOf count maskOf weightsOf lt ofBits fromLinear absOf
+clamped-high = refl
+
+-- 0 in two frames, and 1e-20 in one
+pub clamped-low : clampedOver (recordSize 1 2 true) clampedRecords (f 0) (2 ∷ 3 ∷ 1 ∷ 0 ∷ []) 1 (1 ∷ 3 ∷ []) isLow ≡ 3
+unfolding clampedOver clampedIn clampOf count maskOf weightsOf lt ofBits fromLinear absOf
+clamped-low = refl

@@ -1,7 +1,7 @@
 -- What the call for a trajectory promises.
 use mathlib.Core.Path.{_≡_}
 use mathlib.Core.Bool.{Bool, cond, not, _||_, _&&_}
-use mathlib.Core.List.{List}
+use mathlib.Core.List.{List, [], _∷_}
 use Prim.Native.Nat.{ℕ, zero, suc, _*_}
 use lib.ListN.{length, replicate}
 use lib.Dec.{ltb, eqb}
@@ -9,24 +9,28 @@ use lib.Ieee.{Float}
 use Rattle.lists.specs.Sizes.{mostStates, mostFrames, outside}
 use Rattle.lists.specs.Totals.{total}
 use Rattle.lists.specs.Refusals.{orElse}
-use Rattle.lists.specs.Answers.{written}
+use Rattle.lists.specs.Answers.{Answer, accepting, refusing, written}
 use Rattle.floats.specs.Numbers.{nought}
 use Rattle.model.specs.Windows.{widthsFit, allFinite}
 use Rattle.mlpg_adjust.specs.Trajectory.{gvOn, stateSize, numbersOf}
+use Rattle.mlpg_adjust.specs.Clamps.{clampedHigh, clampedLow}
 use Rattle.mlpg_adjust.specs.declared.Stream.{Stream}
 use Rattle.mlpg_adjust.specs.declared.refusing.Lengths.{Lengths}
 use Rattle.mlpg_adjust.specs.declared.Created.{Created}
 use Rattle.mlpg_adjust.specs.declared.Created.the-variants.{Done, Refused}
 
--- RULES, Forms: the number of each answer, 0 for none
-abbrev pub createdNumber : Created → ℕ
-createdNumber Done = 0
-createdNumber (Refused k) = k
+-- RULES, Forms: the number of each answer, 0 for none; and how many pairs are clamped high, and how many low
+abbrev pub created : Created → Answer
+created (Done high low) = accepting (high ∷ low ∷ [])
+created (Refused k) = refusing k
 
--- and the answer of each number: a refusal's is not 0
-abbrev pub createdOf : ℕ → Created
-createdOf zero = Done
-createdOf (suc k) = Refused (suc k)
+abbrev pub createdNumber : Created → ℕ
+createdNumber r = created r .number
+
+-- the answer of each number, with so many pairs clamped: a refusal's is not 0, and has no counts
+abbrev pub createdOf : ℕ → ℕ → ℕ → Created
+createdOf zero high low = Done high low
+createdOf (suc k) high low = Refused (suc k)
 
 -- RULES, Sizes: a trajectory's work space is 48 floats and 4 whole numbers a frame
 abbrev pub floatsAFrame : ℕ
@@ -75,11 +79,11 @@ createRefusal s widths coefs ds n =
     (orElse (cond (ltb mostFrames (total ds)) 5 0)
     (cond (short (s .v) (total ds) n) 6 0)))))
 
--- `create`: the number, the trajectory, and the work space zeroed
+-- `create`: the number, how many pairs are clamped, the trajectory, and the work space zeroed, its floats (`space`) and its whole numbers (`counts`)
 pub record CreateSays (s : Stream) (widths : List ℕ) (coefs records : List Float) (ds : List ℕ) (gv : List Float) (switches : List ℕ) (out work : List Float) (marks : List ℕ)
     (r : Created) (out′ work′ : List Float) (marks′ : List ℕ) : Type 0 where
   pub number : createdNumber r ≡ createRefusal s widths coefs ds (lengthsOf records gv switches out work marks)
-  pub answer : r ≡ createdOf (createdNumber r)
+  pub answer : r ≡ createdOf (createdNumber r) (clampedHigh s widths records ds) (clampedLow s widths records ds)
   pub numbers : out′ ≡ written (createdNumber r) (numbersOf s widths coefs records ds gv switches) out
   pub space : work′ ≡ written (createdNumber r) (zeroFloats (total ds)) work
   pub counts : marks′ ≡ written (createdNumber r) (zeroMarks (total ds)) marks

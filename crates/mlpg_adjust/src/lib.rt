@@ -8,6 +8,7 @@ ghost use Rattle.mlpg_adjust.specs.Trajectory.{recordSize, numbersOf};
 ghost use Rattle.mlpg_adjust.specs.Promise.{createdNumber, lengthsOf, zeroFloats, zeroMarks, CreateSays};
 ghost use Rattle.mlpg_adjust.specs.Inner.Groups.{Shaped, GvFits, Room};
 
+mod counting;
 mod group;
 mod refusing;
 mod render;
@@ -43,9 +44,9 @@ impl Stream {
     }
 }
 
-// Whether the trajectory is written, or the number of why not.
+// Whether the trajectory is written, and how many pairs of its voiced frames were clamped high and low, or the number of why not.
 pub enum Created {
-    Done,
+    Done { high: u32, low: u32 },
     Refused(u8),
 }
 
@@ -55,13 +56,13 @@ impl Created {
         ensures { λ r. ⌜ r ≡ createdNumber self ⌝ }
     {
         match self {
-            Created::Done => 0,
+            Created::Done { high: _, low: _ } => 0,
             Created::Refused(number) => number,
         }
     }
 }
 
-// `MlpgAdjust::create`: the trajectory of a stream. With GV off its two lists are no input.
+// `MlpgAdjust::create`: the trajectory of a stream, and how many pairs are clamped. With GV off its two lists are no input.
 pub fn create(
     stream: Stream,
     widths: &[u32],
@@ -89,6 +90,8 @@ pub fn create(
     if refused != 0 {
         return Created::Refused(refused);
     }
+    // Before the trajectory, whose closing up then finds the records in the cache.
+    let answer = counting::report(stream, widths, records, durations);
     write(
         stream,
         widths,
@@ -101,7 +104,7 @@ pub fn create(
         work,
         marks,
     );
-    Created::Done
+    answer
 }
 
 // The trajectory in front of the output, and the work space zeroed, where nothing is refused.

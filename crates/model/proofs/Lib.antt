@@ -3,6 +3,7 @@ pub mod Pairs
 pub mod Windows
 pub mod Accepted
 pub mod Records
+pub mod Clamps
 pub mod Scaling
 pub mod Adding
 pub mod Promises

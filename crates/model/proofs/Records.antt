@@ -44,7 +44,7 @@ pairs-means [] vs h = refl
 pairs-means (m ∷ ms) [] h = absurd (omega arith)
 pairs-means (m ∷ ms) (v ∷ vs) h = ap (λ (l : List Float). m ∷ l) (pairs-means ms vs (omega arith))
 
-pairs-varis : (ms vs : List Float) → length ms ≡ length vs → map (λ (q : MeanVari). q .1) (pairsOf ms vs) ≡ vs
+pub pairs-varis : (ms vs : List Float) → length ms ≡ length vs → map (λ (q : MeanVari). q .1) (pairsOf ms vs) ≡ vs
 unfolding pairsOf
 pairs-varis [] [] h = refl
 pairs-varis [] (v ∷ vs) h = absurd (omega arith)

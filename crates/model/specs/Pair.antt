@@ -8,6 +8,9 @@ use Rattle.lists.specs.Build.{foldFrom}
 use Rattle.floats.specs.Numbers.{nought, one}
 use Rattle.floats.specs.Order.{absOf}
 use Rattle.model.specs.declared.mean_vari.MeanVari.{MeanVari}
+use Rattle.model.specs.declared.mean_vari.Clamp.{Clamp}
+use Rattle.model.specs.declared.mean_vari.Clamp.the-variants.{High, Low, No}
+use Rattle.model.specs.declared.mean_vari.Inverted.{Inverted}
 
 -- a mean and a variance
 abbrev pub pair : Float → Float → MeanVari
@@ -43,6 +46,20 @@ ivarOf v = cond (lt highBound (absOf v)) nought (cond (lt (absOf v) lowBound) la
 -- RULES, Pairs: the pair with the inverse of its variance
 abbrev pub withIvar : MeanVari → MeanVari
 withIvar p = pair (p .0) (ivarOf (p .1))
+
+-- RULES, Clamps: high where the variance's size is above 1e19, low where it is below 1e-19, and else neither: NaN is above and below nothing
+unfoldable pub clampOf : Float → Clamp
+clampOf v = cond (lt highBound (absOf v)) High (cond (lt (absOf v) lowBound) Low No)
+
+-- the inverse of a variance that is clamped so
+abbrev pub inverseBy : Clamp → Float → Float
+inverseBy High v = nought
+inverseBy Low v = largestIvar
+inverseBy No v = div binary64 one v
+
+-- RULES, Clamps: the pair with its inverse variance, and whether that was clamped
+abbrev pub inverted : MeanVari → Inverted
+inverted p = record { pair = withIvar p; clamp = clampOf (p .1) }
 
 -- RULES, Mask: the pair of a frame near a boundary, with inverse variance 0
 abbrev pub with0 : MeanVari → MeanVari

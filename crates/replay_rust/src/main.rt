@@ -31,7 +31,7 @@ fn agrees(kind: u32, head: &[u32], numbers: &[u32], floats: &[f64], bytes: &[u8]
 
 // The tally with the next case of a kind.
 fn next(kind: u32, tally: Tally) -> Tally {
-    let mut head = [0; 10];
+    let mut head = [0; 12];
     let mut numbers = [0; 100];
     let mut floats = [0.0; 500];
     let mut bytes = [0u8; 300];

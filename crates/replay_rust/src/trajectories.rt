@@ -36,7 +36,8 @@ fn is_cleared(frames: usize, work: &[f64; 1160], marks: &[u32; 100]) -> bool {
     replay::holds_f64(work, &floats, WORK_F64) & replay::holds_u32(marks, &counts, WORK)
 }
 
-// Whether the numbers are those that are stored. Head: v, masked, GV on, windows, coefficients, records' numbers, states, GV's numbers, states, numbers.
+// Whether the numbers and counts are those that are stored. Head: v, masked, GV on, windows, coefficients, records' numbers, states, GV's numbers, states, numbers, and the pairs
+// that are clamped high and low.
 pub fn agrees(head: &[u32], numbers: &[u32], floats: &[f64], switches: &[u8]) -> bool {
     let windows = case::count(head, 3);
     let taps = case::count(head, 4);
@@ -61,9 +62,10 @@ pub fn agrees(head: &[u32], numbers: &[u32], floats: &[f64], switches: &[u8]) ->
         &mut work,
         &mut marks,
     );
-    let Created::Done = answer else {
+    let Created::Done { high, low } = answer else {
         return false;
     };
+    let counted = (high == case::number(head, 10)) & (low == case::number(head, 11));
     let frames = lists::total_u32(durations) as usize;
-    replay::holds_f64(&out, right, OUT_F64) & is_cleared(frames, &work, &marks)
+    counted & replay::holds_f64(&out, right, OUT_F64) & is_cleared(frames, &work, &marks)
 }

@@ -1,4 +1,4 @@
--- Numbers of states' records, and a window's inverse variances where nothing is set to 0.
+-- Numbers of states' records, and a window's variances and inverse variances where nothing is set to 0.
 use mathlib.Core.Path.{_≡_, refl, sym, ap, _∙_}
 use mathlib.Core.Bool.{Bool}
 use mathlib.Core.List.{List, [], _∷_, map}
@@ -8,15 +8,17 @@ use borrow.Author.Tests.{le-ltb}
 use lib.ListN.{length, getD, length-map, List·getD-map}
 use lib.Ieee.{Float, nan}
 use Rattle.lists.specs.Totals.{total}
-use Rattle.lists.specs.Frames.{expand, select}
+use Rattle.lists.specs.Frames.{expand, select, count}
 use Rattle.lists.proofs.Builds.{build-at}
-use Rattle.lists.proofs.Expansions.{expand-length}
+use Rattle.lists.proofs.Chosen.{select-map}
+use Rattle.lists.proofs.Counts.{select-length}
+use Rattle.lists.proofs.Expansions.{map-expand, expand-length}
 use Rattle.lists.proofs.Fills.{build-length}
 use Rattle.model.specs.Pair.{ivarOf}
 use Rattle.model.specs.Record.{pairNumber}
 use Rattle.voicing.specs.Mask.{column}
 use Rattle.voicing.specs.Boundaries.{lefts, rights, shutAll}
-use Rattle.voicing.specs.Windows.{ivarsIn}
+use Rattle.voicing.specs.Windows.{variancesIn, ivarsIn}
 use Rattle.voicing.proofs.Theory.{lefts-length, rights-length}
 
 module _ (size : ℕ) (records : List Float) (j n : ℕ) where
@@ -50,3 +52,17 @@ unfolding ivarsIn
 first-window size records v component widths mask ds e =
     let n : length (lefts 0 mask) ≡ total ds = lefts-length 0 mask ∙ e in
     ap (select mask) (shut-nothing (lefts 0 mask) (rights mask) _ (rights-length mask ∙ e ∙ sym n) (expand-length ds _ (inverses-length size records (v * length widths + pairNumber v 0 component) (length ds)) ∙ sym n))
+
+-- a window's variances of the voiced frames: one a frame, and of the first window the equations take just their inverses
+module _ (size : ℕ) (records : List Float) (v component : ℕ) (widths : List ℕ) (mask : List Bool) (ds : List ℕ) (e : length mask ≡ total ds) where
+  pub variances-long : (i : ℕ) → length (variancesIn size records v component widths mask ds i) ≡ count mask
+  unfolding variancesIn
+  variances-long i =
+      let column-of = column size records (v * length widths + pairNumber v i component) (length ds) in
+      select-length mask (expand ds column-of) (expand-length ds column-of (column-length size records (v * length widths + pairNumber v i component) (length ds)) ∙ sym e)
+
+  pub first-inverses : ivarsIn size records v component widths mask ds 0 ≡ map ivarOf (variancesIn size records v component widths mask ds 0)
+  unfolding variancesIn
+  first-inverses =
+      let column-of = column size records (v * length widths + pairNumber v 0 component) (length ds) in
+      first-window size records v component widths mask ds e ∙ sym (select-map ivarOf mask (expand ds column-of) ∙ ap (select mask) (map-expand ivarOf ds column-of))

@@ -31,3 +31,8 @@ unfolding column expand select lefts rights shutAll
 ivarsIn size records v component widths mask ds i =
     select mask (shutAll (reachBefore widths i) (reachAfter widths i) (lefts 0 mask) (rights mask)
     (expand ds (map ivarOf (column size records (v * length widths + pairNumber v i component) (length ds)))))
+
+-- RULES, Clamps: window i's variances of the voiced frames, as the records give them: none is zeroed
+unfoldable pub variancesIn : ℕ → List Float → ℕ → ℕ → List ℕ → List Bool → List ℕ → ℕ → List Float
+unfolding column expand select
+variancesIn size records v component widths mask ds i = select mask (expand ds (column size records (v * length widths + pairNumber v i component) (length ds)))

@@ -113,8 +113,8 @@ fn close_window(records: &[f64], p: Plan, mean: usize, at: usize, e: Ends, work:
     let mut from = 0;
     while l < lanes {
         let to = from + size;
-        let pair = MeanVari(records[mean + l], records[vari + l]).with_ivar();
-        put_pair(pair, e, at, ivars, &mut work[from..to]);
+        let inverted = MeanVari(records[mean + l], records[vari + l]).with_ivar();
+        put_pair(inverted.pair, e, at, ivars, &mut work[from..to]);
         from = to;
         l += 1;
     }

@@ -4,7 +4,9 @@ use Rattle.hejmirov.proofs.hejmirov_trajectory.Statement.{statement}
 use Rattle.hejmirov.proofs.hejmirov_trajectory.Tie as tie
 
 returns : tie.Need-returns
-returns c = let k = c .before .before .before .before .before .before .before in record { answer = k .create .result; says = rw (← (k .before .before .before .before .variance-of .ensures)) (k .create .ensures); gives = c .number .ensures }
+returns c =
+    let k = c .before .before .before .before .before .before .before .before .before in
+    record { answer = k .create .result; says = rw (← (k .before .before .before .before .variance-of .ensures)) (k .create .ensures); gives = c .hand-out-created .ensures }
 
 pub hejmirov-trajectory-spec : {M : Type 1} → statement M
 hejmirov-trajectory-spec =
@@ -13,7 +15,6 @@ hejmirov-trajectory-spec =
     (λ c κs. search needs)
     (λ c κs. search needs)
     (λ c κs. search needs)
-    (λ c. search needs)
     (λ c. search needs)
     (λ c. search needs)
     (λ c. search needs)

@@ -1,9 +1,12 @@
 // A state's record: its means, then as many variances, then in a masked stream one weight.
 ghost use mathlib.Core.Path.{_≡_};
+ghost use mathlib.Core.Bool.{true};
 ghost use Rattle.model.specs.Weight.{valueOf, voicedAt};
 ghost use Rattle.model.specs.Record.{pairNumber, pairAt, fromLinear};
+ghost use Rattle.model.specs.Clamps.{variancesOf, clampsIn};
 ghost use Rattle.model.specs.Mixing.{moreBy, overShorter};
 ghost use Rattle.model.specs.Promise.{MulSays, MulAddSays};
+use crate::mean_vari::Clamp;
 use crate::mean_vari::MeanVari;
 
 // A voicing weight.
@@ -69,6 +72,53 @@ pub fn msd(lin: &[f64]) -> Weight
         return Weight::Given(lin[lin.len() - 1]);
     }
     Weight::Absent
+}
+
+// How many variances are clamped high, and how many low.
+pub struct Clamps {
+    pub high: usize,
+    pub low: usize,
+}
+
+// Those of a record's pairs.
+pub fn clamped(lin: &[f64]) -> Clamps
+    ensures { λ r. ⌜ r ≡ clampsIn (variancesOf (fromLinear (now (lin .entry)))) ⌝ }
+{
+    let pairs = lin.len() / 2;
+    let end = pairs + pairs;
+    if all_between(&lin[pairs..end]) {
+        return Clamps { high: 0, low: 0 };
+    }
+    count_clamped(&lin[pairs..end])
+}
+
+// Whether all variances lie between the bounds, as those of a voice mostly do: then there is none to count.
+fn all_between(varis: &[f64]) -> bool
+    ensures { λ r. ⌜ (r ≡ true → clampsIn (now (varis .entry)) ≡ record { high = 0; low = 0 }) ⌝ }
+{
+    let mut between = true;
+    let mut i = 0;
+    while i < varis.len() {
+        let vari = varis[i];
+        between = between & (vari > 1e-19) & (vari < 1e19);
+        i += 1;
+    }
+    between
+}
+
+fn count_clamped(varis: &[f64]) -> Clamps
+    ensures { λ r. ⌜ r ≡ clampsIn (now (varis .entry)) ⌝ }
+{
+    let mut high = 0;
+    let mut low = 0;
+    let mut i = 0;
+    while i < varis.len() {
+        let clamp = Clamp::of(varis[i]);
+        high += clamp.high();
+        low += clamp.low();
+        i += 1;
+    }
+    Clamps { high, low }
 }
 
 // Every number of a record times the weight, over the first numbers of out; what is beyond stays.

@@ -6,7 +6,7 @@ use borrow.Rule.Slice.PartMut.{midOf}
 use lib.ListN.{length, getD}
 use lib.Ieee.{nan}
 use Rattle.model.specs.Pair.{ivarOf}
-use Rattle.model.specs.declared.mean_vari.MeanVari.{MeanVari}
+use Rattle.model.specs.declared.mean_vari.Inverted.{Inverted}
 use Rattle.voicing.specs.Inner.States.{putPair}
 use Rattle.region.proofs.Across.{Passing, passing-none, passing-fits, passing-long, passing-next, passing-done}
 use borrow.Author.Needs.{needs}
@@ -41,7 +41,7 @@ loop-again c =
     let l = i .before .loop in
     passing-next (l .inv) (i .loop-test .taken) _ (c .before .before .put-pair .kept .1 .1 .1 .1 .0)
     (c .before .before .put-pair .ensures
-    ∙ ap (λ (x : MeanVari). putPair (s .e) (s .at) (s .p .ivars + s .at) (x .0) (x .1) (midOf (l .from) (l .from + s .p .size - l .from) (l .work))) (c .before .before .before .before .with-ivar .ensures))
+    ∙ ap (λ (x : Inverted). putPair (s .e) (s .at) (s .p .ivars + s .at) (x .pair .0) (x .pair .1) (midOf (l .from) (l .from + s .p .size - l .from) (l .work))) (c .before .before .before .before .with-ivar .ensures))
 
 pub close-window-spec : {M : Type 1} → statement M
 close-window-spec =
