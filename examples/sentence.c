@@ -196,11 +196,13 @@ static double *render(const Sentence *s, const uint32_t *durations, uint32_t fra
     double *out = room_for(n_out, sizeof *out);
     double *work = room_for(n_work, sizeof *work);
     uint32_t *marks = room_for(n_marks, sizeof *marks);
+    uint32_t high, low; /* clamped pairs, which clamps.c is about */
     check("trajectory",
           hejmirov_trajectory(s->v, 1, s->threshold, s->fill, gv_on, s->gv_weight, s->widths,
                               s->windows, s->coefficients, s->n_coefficients, s->records,
                               s->n_records, durations, s->states, s->gv, 2 * (size_t)s->v,
-                              s->switches, s->states, out, n_out, work, n_work, marks, n_marks));
+                              s->switches, s->states, out, n_out, work, n_work, marks, n_marks,
+                              &high, &low));
     free(work);
     free(marks);
     return out;

@@ -83,11 +83,12 @@ static double *render(const Utterance *u, uint32_t *frames) {
     size_t n_marks = (size_t)*frames * HEJMIROV_WORK_MARKS_A_FRAME;
     double *out = room_for(n_out, sizeof *out), *floats = room_for(n_floats, sizeof *floats);
     uint32_t *marks = room_for(n_marks, sizeof *marks);
+    uint32_t high, low; /* clamped pairs: no variance of the book is so large or so small */
     check("trajectory", hejmirov_trajectory(V, 0, 0.0, 0.0, 1, 1.0, widths, WINDOWS, coefficients,
                                             sizeof coefficients / sizeof *coefficients, u->records,
                                             (size_t)u->states * RECORD, durations, u->states, u->gv,
                                             2 * V, u->switches, u->states, out, n_out, floats,
-                                            n_floats, marks, n_marks));
+                                            n_floats, marks, n_marks, &high, &low));
     free(floats);
     free(marks);
     return out;
