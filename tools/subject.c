@@ -43,7 +43,7 @@ uint32_t hejmirov_trajectory(uint32_t v, uint32_t masked, double threshold, doub
                              uint32_t gv_on, double gv_weight, WHOLES(widths),
                              DOUBLES(coefficients), DOUBLES(records), WHOLES(durations),
                              DOUBLES(gv), BYTES(switches), OUT_DOUBLES(out), OUT_DOUBLES(work),
-                             OUT_WHOLES(marks));
+                             OUT_WHOLES(marks), uint32_t *clamped_high, uint32_t *clamped_low);
 #pragma weak hejmirov_place
 uint32_t hejmirov_place(uint32_t frame, uint32_t component, uint32_t v, uint64_t *place);
 #pragma weak hejmirov_excerpt
@@ -352,12 +352,16 @@ static void run_trajectory(void) {
     List *widths = input(4), *coefficients = input(8), *records = input(8), *durations = input(4);
     List *gv = input(8), *switches = input(1);
     List *out = lent(8), *work = lent(8), *marks = lent(4);
+    uint32_t high = untouched, low = untouched;
     put_u32(hejmirov_trajectory(v, masked, threshold, fill, gv_on, gv_weight, IN_W(widths),
                                 IN_D(coefficients), IN_D(records), IN_W(durations), IN_D(gv),
-                                IN_B(switches), OUT_D(out), OUT_D(work), OUT_W(marks)));
+                                IN_B(switches), OUT_D(out), OUT_D(work), OUT_W(marks), &high,
+                                &low));
     put_list(out);
     put_list(work);
     put_list(marks);
+    put_u32(high);
+    put_u32(low);
 }
 
 static void run_place(void) {

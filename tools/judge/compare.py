@@ -77,6 +77,10 @@ class Tally:
     refusals: Counter = field(default_factory=Counter)
     # Accepted alignments with a tail, which is not compared with the Rust.
     tails: int = 0
+    # Accepted trajectories with clamped pairs, and such pairs in all, each once a voiced frame.
+    clamped: int = 0
+    high: int = 0
+    low: int = 0
     # Damaged jobs, over links too: by number, how many at each place.
     damaged: dict[int, Counter] = field(default_factory=lambda: {number: Counter() for number in jobs.DAMAGES})
     # Over links: jobs that came to their end, those of them that were accepted, and calls that were refused.
@@ -99,6 +103,8 @@ class Tally:
         line = f"{judged}; refused {numbered(self.refusals)}"
         if self.tails:
             line += f"; {self.tails} tails not compared with the Rust"
+        if self.clamped:
+            line += f"; {self.clamped} trajectories with clamped pairs, {self.high} high and {self.low} low"
         if any(self.damaged.values()):
             line += f"; damaged jobs {', '.join(placed(number, at) for number, at in self.damaged.items() if at)}"
         if self.jobs:
@@ -156,6 +162,10 @@ class Comparison:
                 self.tally.judged["the reading alone"] += 1
             if case.kind == "align" and refusal == 0:
                 self.tally.tails += bool(tail_of(case))
+            if case.kind == "trajectory" and values:
+                self.tally.clamped += bool(values["high"] or values["low"])
+                self.tally.high += values["high"]
+                self.tally.low += values["low"]
             if case.kind == "job":
                 self.count_damage(case, refusal)
             if case.kind == "link":

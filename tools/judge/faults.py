@@ -17,6 +17,21 @@ class Fault:
 
 
 HALF = "    if abs(x) - whole >= 0.5:  # the difference is exact"
+CLAMP = "    return HIGH if size > 1e19 else LOW if size < 1e-19 else NOT_CLAMPED"
+CLAMP_WITH_PAIR = '    clamped = clamp(vari) if case["operation"] == WITH_IVAR else NOT_CLAMPED'
+CLAMPS_OF_STATES = "    states = [[pairs.clamp(vari) for vari in pairs.split_record(record)[1]] for record in records]"
+CLAMPS_OF_FRAMES = "    return [clamp for frame in select(expand(states, durations), voiced) for clamp in frame]"
+CLAMPS = "    clamped = clamps(records, durations, voiced)"
+CLAMPS_BY_PLACE = "    clamped = [clamp for at, clamp in enumerate(clamps(records, durations, voiced)) if {keeps}]"
+CLAMPS_AFTER_ZEROING = (
+    "    left, right = distances(voiced); kept = zip(*[zeroed([1.0] * frames, window, left, right) if number"
+    " else [1.0] * frames for number, window in enumerate(split_windows(case))]);"
+    " kept = [keep for frame in select(list(kept), voiced) for keep in frame for _ in range(v)];"
+    " clamped = [clamp if keep else {zeroed} for clamp, keep in zip(clamps(records, durations, voiced), kept)]"
+)
+CLAMPED = '    return {"out": out, "high": clamped.count(pairs.HIGH), "low": clamped.count(pairs.LOW)}'
+HIGH_LEFT = '        "high": values["high"],'
+NO_CALL = "a pair's operations are no C call; the operations show it"
 TAIL = "    tail = estimate(means[fitted:], varis[fitted:], 0.0)"
 FIELD = "    for place, size, least, most, number in FIELDS:"
 ENDS = "        if len(data) < place + size:"
@@ -123,6 +138,29 @@ FAULTS = [
     Fault("inclusive 1e19", PAIRS, "    if abs(vari) > 1e19:", "    if abs(vari) >= 1e19:"),
     Fault("inclusive 1e-19", PAIRS, "    if abs(vari) < 1e-19:", "    if abs(vari) <= 1e-19:"),
     Fault("bounds of the variance itself", PAIRS, "    if abs(vari) < 1e-19:", "    if vari < 1e-19:"),
+    Fault("a NaN variance counted high", PAIRS, CLAMP, CLAMP.replace("size > 1e19", "not size <= 1e19")),
+    Fault("a NaN variance counted low", PAIRS, CLAMP, CLAMP.replace("size < 1e-19", "not size >= 1e-19")),
+    Fault("a NaN variance of other bits counted high", PAIRS, CLAMP,
+          CLAMP.replace("size > 1e19", "size > 1e19 or size != size"
+                        " and (pack := __import__('struct').pack)('<d', vari) != pack('<d', ieee.NAN)")),
+    Fault("a variance of 1e19 counted high", PAIRS, CLAMP, CLAMP.replace("size > 1e19", "size >= 1e19")),
+    Fault("a variance of 1e-19 counted low", PAIRS, CLAMP, CLAMP.replace("size < 1e-19", "size <= 1e-19")),
+    Fault("large variances below zero not counted", PAIRS, CLAMP, CLAMP.replace("size > 1e19", "vari > 1e19")),
+    Fault("large variances below zero counted low", PAIRS, CLAMP,
+          CLAMP.replace("size > 1e19", "vari > 1e19").replace("size < 1e-19", "size < 1e-19 or vari < -1e19")),
+    Fault("all variances below zero counted low", PAIRS, CLAMP, CLAMP.replace("size < 1e-19", "vari < 1e-19")),
+    Fault("small variances below zero not counted", PAIRS, CLAMP, CLAMP.replace("size < 1e-19", "0 <= vari < 1e-19")),
+    Fault("a variance of 0 not counted", PAIRS, CLAMP, CLAMP.replace("size < 1e-19", "0 < size < 1e-19")),
+    Fault("an infinite variance not counted", PAIRS, CLAMP,
+          CLAMP.replace("size > 1e19", "1e19 < size <= ieee.LARGEST")),
+    Fault("denormal variances not counted", PAIRS, CLAMP,
+          CLAMP.replace("size < 1e-19", "size == 0 or 2.0**-1022 <= size < 1e-19")),
+    Fault("high and low the other way round", PAIRS, CLAMP,
+          "    return LOW if size > 1e19 else HIGH if size < 1e-19 else NOT_CLAMPED"),
+    Fault("no clamp with its pair", PAIRS, CLAMP_WITH_PAIR, "    clamped = NOT_CLAMPED", NO_CALL),
+    Fault("a clamp with every operation's pair", PAIRS, CLAMP_WITH_PAIR, "    clamped = clamp(vari)", NO_CALL),
+    Fault("the clamp of the inverse variance", PAIRS, CLAMP_WITH_PAIR,
+          CLAMP_WITH_PAIR.replace("clamp(vari)", "clamp(inverse_variance(vari))"), NO_CALL),
     Fault("absent weight as infinity", PAIRS,
           "    return ieee.LARGEST if weight is None else weight",
           '    return float("inf") if weight is None else weight'),
@@ -192,6 +230,47 @@ FAULTS = [
     Fault("inclusive boundaries", TRAJECTORY,
           "        0.0 if left[frame] < half or right[frame] < rest else ivar",
           "        0.0 if left[frame] <= half or right[frame] < rest else ivar"),
+    Fault("clamped pairs counted after the zeroing, zeroed ones high", TRAJECTORY, CLAMPS,
+          CLAMPS_AFTER_ZEROING.format(zeroed="pairs.HIGH")),
+    Fault("clamped pairs counted after the zeroing, zeroed ones not", TRAJECTORY, CLAMPS,
+          CLAMPS_AFTER_ZEROING.format(zeroed="pairs.NOT_CLAMPED")),
+    Fault("clamped pairs counted once a state", TRAJECTORY, CLAMPS_OF_FRAMES,
+          "    return [clamp for state in set(select(expand(list(range(len(states))), durations), voiced))"
+          " for clamp in states[state]]"),
+    Fault("clamped pairs of unvoiced frames counted", TRAJECTORY, CLAMPS_OF_FRAMES,
+          "    return [clamp for frame in expand(states, durations) for clamp in frame]"),
+    Fault("clamped pairs of states of no frames counted", TRAJECTORY, CLAMPS_OF_FRAMES,
+          "    return [clamp for frame in select(expand(states, durations), voiced)"
+          " + [state for state, duration in zip(states, durations) if duration == 0] for clamp in frame]"),
+    Fault("frames with clamped pairs counted", TRAJECTORY, CLAMPS_OF_FRAMES,
+          CLAMPS_OF_FRAMES.replace("for clamp in frame]", "for clamp in set(frame)]")),
+    Fault("clamped pairs of the first window alone", TRAJECTORY, CLAMPS,
+          CLAMPS_BY_PLACE.format(keeps='at // v % len(case["widths"]) == 0')),
+    Fault("clamped pairs of the first window not counted", TRAJECTORY, CLAMPS,
+          CLAMPS_BY_PLACE.format(keeps='at // v % len(case["widths"]) > 0')),
+    Fault("clamped pairs of the last window alone", TRAJECTORY, CLAMPS,
+          CLAMPS_BY_PLACE.format(keeps='at // v % len(case["widths"]) == len(case["widths"]) - 1')),
+    Fault("clamped pairs of the first component alone", TRAJECTORY, CLAMPS, CLAMPS_BY_PLACE.format(keeps="at % v == 0")),
+    Fault("clamped pairs of the last component alone", TRAJECTORY, CLAMPS, CLAMPS_BY_PLACE.format(keeps="at % v == v - 1")),
+    Fault("clamped pairs counted once a component", TRAJECTORY, CLAMPS, CLAMPS + " * v"),
+    Fault("clamped pairs counted once a window", TRAJECTORY, CLAMPS, CLAMPS + ' * len(case["widths"])'),
+    Fault("means counted for variances", TRAJECTORY, CLAMPS_OF_STATES,
+          CLAMPS_OF_STATES.replace("split_record(record)[1]", "split_record(record)[0]")),
+    Fault("a voicing weight counted as a variance", TRAJECTORY, CLAMPS_OF_STATES,
+          CLAMPS_OF_STATES.replace("pairs.split_record(record)[1]", "record[len(record) // 2 :]")),
+    Fault("clamped GV variances counted", TRAJECTORY, CLAMPS,
+          CLAMPS + ' + [pairs.clamp(vari) for vari in case["gv"][v:] if case["gv_on"]]'),
+    Fault("clamped pairs of switched frames alone", TRAJECTORY, CLAMPS,
+          '    clamped = clamps(records, durations, [one and byte != 0 for one, byte in'
+          ' zip(voiced, expand(list(case["switches"]), durations))] if case["gv_on"] else voiced)'),
+    Fault("both counts the other way round", TRAJECTORY, CLAMPED,
+          '    return {"out": out, "high": clamped.count(pairs.LOW), "low": clamped.count(pairs.HIGH)}'),
+    Fault("both counts of all clamped pairs", TRAJECTORY, CLAMPED,
+          '    return {"out": out} | dict.fromkeys(["high", "low"], len(clamped) - clamped.count(pairs.NOT_CLAMPED))'),
+    Fault("counts of clamped pairs in 8 bits", TRAJECTORY, CLAMPED,
+          CLAMPED.replace("HIGH)", "HIGH) % 2**8").replace("LOW)", "LOW) % 2**8")),
+    Fault("counts of clamped pairs in 16 bits", TRAJECTORY, CLAMPED,
+          CLAMPED.replace("HIGH)", "HIGH) % 2**16").replace("LOW)", "LOW) % 2**16")),
     Fault("the Rust's break", TRAJECTORY,
           "                    if window[tap + j] != 0 and t + j < length:",
           "                    if t + max(k for k, c in enumerate(window[tap:]) if c) < length and window[tap + j]:"),
@@ -693,6 +772,13 @@ FAULTS = [
           'out=case["out"] + case["nstate"]'
           ' * next((i for i, e in enumerate(case["ends"][::-1]) if e >= 0), len(case["ends"])))'),
     Fault("work space untouched at 8", EXITS, "ZEROING_REFUSALS = (7, 8)", "ZEROING_REFUSALS = (7,)"),
+    Fault("a refused trajectory's counts set to 0", EXITS, "    fields = untouched(case)",
+          '    fields = untouched(case) | ({"high": 0, "low": 0} if refusal else {})'),
+    Fault("a trajectory's counts set to 0 before 6", EXITS, "    fields = untouched(case)",
+          '    fields = untouched(case) | ({"high": 0, "low": 0} if refusal == 6 else {})'),
+    Fault("a count of 0 not written", EXITS, HIGH_LEFT, '        "high": values["high"] or UNTOUCHED_U32,'),
+    Fault("counts added to what stood there", EXITS, HIGH_LEFT,
+          '        "high": (values["high"] + UNTOUCHED_U32) % 2**32,'),
     Fault("a place for 9 alone", EXITS,
           "    elif refusal in jobs.DAMAGES:", "    elif refusal == jobs.WRONG_LENGTH:"),
     Fault("the place written for 6", EXITS,

@@ -51,6 +51,8 @@ PAIRS = [("means", "f64s"), ("varis", "f64s")]
 FIT_ROOM = [("out", ROOM), ("work", ROOM)]
 FIT_EXIT = [("out", "u32s"), ("work", "u32s")]
 REFUSAL = ("refusal", "u32")
+# How many pairs were clamped, each once a voiced frame.
+CLAMPED = [("high", "u32"), ("low", "u32")]
 STORE = [("voices", "u32s"), ("settings", "u64s")]
 # A refusal a call; of every get three patterns, count and write the values through pointers; the writes' lists joined.
 STORE_EXIT = [("refusals", "u32s"), ("got", "u64s"), ("held", "u32s"), ("written", "u64s"), ("out", "u8s"), *STORE]
@@ -65,7 +67,7 @@ KINDS = {
     "pair": Kind(
         1,
         [("operation", "u8")] + [(name, "f64") for name in ("mean", "vari", "mean2", "vari2", "weight")],
-        [("mean", "f64"), ("vari", "f64")],
+        [("mean", "f64"), ("vari", "f64"), ("clamp", "u32")],
     ),
     "record": Kind(
         2,
@@ -109,8 +111,8 @@ KINDS = {
         + [("gv_on", "u32"), ("gv_weight", "f64"), *WINDOWS, ("records", "f64s")]
         + [("durations", "u32s"), ("gv", "f64s"), ("switches", "u8s")]
         + [("out", ROOM), ("work", ROOM), ("marks", ROOM)],
-        [("out", "f64s")],
-        [REFUSAL, ("out", "f64s"), ("work", "f64s"), ("marks", "u32s")],
+        [("out", "f64s"), *CLAMPED],
+        [REFUSAL, ("out", "f64s"), ("work", "f64s"), ("marks", "u32s"), *CLAMPED],
     ),
     "place": Kind(
         9,

@@ -24,6 +24,10 @@ ODD_NANS = [
     for bits in (0x7FF8000000000001, 0xFFF8000000000000, 0x7FFFFFFFFFFFFFFF, 0x7FF0000000000001)
 ]
 
+# Variances of which some are clamped: around both bounds, far beyond them, and NaNs, of the rules' bits and of three others.
+BEYOND = [sign * size for size in (1e30, LARGEST, math.inf, 0.0, 5e-324, 1e-310, 1e-30) for sign in (1.0, -1.0)]
+CLAMPING = [*CLAMPS, *BEYOND, NAN, *ODD_NANS[1:]]
+
 # How often a number is special, in each mood of a case.
 MOODS = {"tame": 0.0, "tied": 0.0, "decimal": 0.0, "spiced": 0.08, "wild": 0.5}
 

@@ -3,7 +3,8 @@
 from random import Random
 
 from ..formats import Case
-from ..numbers import LENGTHS, mood, number, numbers, special
+from ..numbers import CLAMPING, LENGTHS, mood, number, numbers, special
+from ..reading.pairs import WITH_IVAR
 
 
 def float_case(rng: Random, small: bool) -> Case:
@@ -24,7 +25,10 @@ def pair_case(rng: Random, small: bool) -> Case:
     if rng.random() < 0.3:
         # An estimate near a half or near the limit.
         fields |= {"mean": rng.choice([*LENGTHS, 2.5, 0.5]), "vari": rng.choice([0.0, 0.5, -0.5, 1.0])}
-    return Case("pair", {"operation": rng.randint(0, 5), **fields})
+    operation = rng.randint(0, 5)
+    if operation == WITH_IVAR and rng.random() < 0.5:
+        fields["vari"] = rng.choice(CLAMPING)
+    return Case("pair", {"operation": operation, **fields})
 
 
 def record_case(rng: Random, small: bool) -> Case:

@@ -3,9 +3,9 @@
 from random import Random
 
 from ..formats import Case
-from ..numbers import mood, number, numbers, positive, positives, special
+from ..numbers import BEYOND, CLAMPING, mood, number, numbers, positive, positives, special
 from ..reading.ieee import LARGEST, MAX_FRAMES, NAN
-from ..reading.refusals import WORK_FLOATS, WORK_MARKS, band_width
+from ..reading.refusals import MAX_V, MAX_WINDOWS, WORK_FLOATS, WORK_MARKS, band_width, record_size
 from .common import durations_for, room, state_count, to_the_limit
 
 
@@ -101,7 +101,34 @@ def switches_for(rng: Random, states: int) -> bytes:
     return bytes(rng.choice([0, 1, 1, 2, 128, 255]) for _ in range(states))
 
 
+def crowded(rng: Random) -> Case:
+    """About as many clamped pairs as 16 bits count; few taps, so that Python is quick."""
+    coefficients = numbers(rng, "decimal", MAX_WINDOWS)
+    durations = [rng.choice([0, 1]), rng.choice([255, 256, 256, 257]), rng.choice([0, 1])]
+    case = stream_case(rng, MAX_V, [1] * MAX_WINDOWS, coefficients, durations)
+    return with_variances(rng, case, [rng.choice(BEYOND)], 1.0)
+
+
+def unsolved(rng: Random, case: Case) -> Case:
+    """A value that isn't finite where GV is off: the objective is NaN, the other values aren't."""
+    records, switches, state = list(case["records"]), case["switches"], rng.randrange(len(case["durations"]))
+    records[state * record_size(case)] = rng.choice([float("inf"), -float("inf"), 1e200])
+    return case.with_fields(records=records, switches=switches[:state] + bytes(1) + switches[state + 1 :])
+
+
+def with_variances(rng: Random, case: Case, others: list[float], share: float) -> Case:
+    """The same stream, a share of its variances replaced."""
+    size, count, records = record_size(case), len(case["widths"]) * case["v"], list(case["records"])
+    for state in range(len(case["durations"])):
+        for place in range(state * size + count, state * size + 2 * count):
+            if rng.random() < share:
+                records[place] = rng.choice(others)
+    return case.with_fields(records=records)
+
+
 def trajectory_case(rng: Random, small: bool) -> Case:
+    if not small and rng.random() < 0.01:
+        return crowded(rng)
     v = rng.choice([1, 1, 1, 2, 2, 3])
     states = min(state_count(rng, small), 16)
     if not small and rng.random() < 0.04:
@@ -111,6 +138,19 @@ def trajectory_case(rng: Random, small: bool) -> Case:
         v, states = rng.choice([(1, 4095), (1, 4096), (2, 1500), (13, 300), (64, 60)])  # the Rust judges
     widths, coefficients = windows_for(rng, small or v > 3 or states > 16)
     durations = trajectory_durations(rng, small, states, v)
+    if durations and rng.random() < 0.08:
+        return unsolved(rng, stream_case(rng, v, [1], [1.0], durations))  # no other value follows
+    case = stream_case(rng, v, widths, coefficients, durations)
+    if case["gv_on"] and durations and rng.random() < 0.2:
+        return unsolved(rng, case)
+    return with_variances(rng, case, CLAMPING, rng.choice([0.0, 0.0, 0.0, 0.1, 0.3, 1.0]))
+
+
+def stream_case(
+    rng: Random, v: int, widths: list[int], coefficients: list[float], durations: list[int]
+) -> Case:
+    """Any stream of such a shape."""
+    states = len(durations)
     masked = rng.choice([0, 1, 1, 1, 0x80000000])
     gv_on = rng.choice([0, 0, 1, 1, 0x100])
     threshold = threshold_for(rng)
@@ -122,11 +162,6 @@ def trajectory_case(rng: Random, small: bool) -> Case:
         records += numbers(rng, tone, count, 3.0) + positives(rng, tone, count, 2.0)
         records += [weights[state]] if masked else []
     switches = switches_for(rng, states)
-    if gv_on and states and rng.random() < 0.25:
-        # A value that isn't finite where GV is off: the objective is NaN, the other values aren't.
-        state = rng.randrange(states)
-        records[state * len(records) // states] = rng.choice([float("inf"), -float("inf"), 1e200])
-        switches = switches[:state] + bytes(1) + switches[state + 1 :]
     frames = sum(durations)
     return Case("trajectory", {
         "v": v,

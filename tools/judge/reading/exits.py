@@ -58,6 +58,8 @@ def trajectory_exit(case: Case, values: Fields) -> Fields:
         "out": written_f64(values["out"], case["out"]),
         "work": written_f64([0.0] * (WORK_FLOATS * frames), case["work"]),
         "marks": written_u32([0] * (WORK_MARKS * frames), case["marks"]),
+        "high": values["high"],
+        "low": values["low"],
     }
 
 

@@ -1,9 +1,12 @@
-"""RULES, Pairs: with_ivar, a state's record, mul, mul_add_assign."""
+"""RULES, Pairs, Clamps: with_ivar and its clamp, a state's record, mul, mul_add_assign."""
 
 from ..formats import Case, Fields
 from . import ieee
 
 Pair = tuple[float, float]
+
+WITH_IVAR = 0  # of the operations
+NOT_CLAMPED, HIGH, LOW = range(3)
 
 
 def inverse_variance(vari: float) -> float:
@@ -12,6 +15,12 @@ def inverse_variance(vari: float) -> float:
     if abs(vari) < 1e-19:
         return 1e38
     return ieee.divide(1.0, vari)
+
+
+def clamp(vari: float) -> int:
+    """The bound that the variance's size is beyond; NaN's is beyond neither."""
+    size = abs(vari)
+    return HIGH if size > 1e19 else LOW if size < 1e-19 else NOT_CLAMPED
 
 
 def split_record(record: list[float]) -> tuple[list[float], list[float], float | None]:
@@ -47,8 +56,9 @@ def pair_operation(case: Case) -> Fields:
         lambda: (ieee.total([mean, mean2]), ieee.total([vari, vari2])),
         lambda: (float(ieee.frames(mean + weight * vari)), 0.0),
     ]
+    clamped = clamp(vari) if case["operation"] == WITH_IVAR else NOT_CLAMPED
     mean, vari = operations[case["operation"]]()
-    return {"mean": mean, "vari": vari}
+    return {"mean": mean, "vari": vari, "clamp": clamped}
 
 
 def scaled(record: list[float], weight: float) -> list[float]:

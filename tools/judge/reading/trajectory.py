@@ -1,4 +1,4 @@
-"""RULES, Mask, Band rows, Global variance."""
+"""RULES, Mask, Band rows, Global variance, and Clamps: how many pairs are clamped."""
 
 from ..formats import Case, Fields
 from . import ieee, pairs
@@ -216,6 +216,12 @@ def component_values(
     return with_gv(rows, side, values, switched, len(windows), target, vari_weight)
 
 
+def clamps(records: list[list[float]], durations: list[int], voiced: list[bool]) -> list[int]:
+    """How each pair of every voiced frame is clamped, whatever is zeroed later."""
+    states = [[pairs.clamp(vari) for vari in pairs.split_record(record)[1]] for record in records]
+    return [clamp for frame in select(expand(states, durations), voiced) for clamp in frame]
+
+
 def mask_values(case: Case) -> Fields:
     frames = mask(case["weights"], case["threshold"], case["durations"])
     left, right = distances(frames)
@@ -247,4 +253,5 @@ def trajectory_values(case: Case) -> Fields:
         values = component_values(case, component, records, voiced)
         for place, value in zip(places, values):
             out[place + component] = value
-    return {"out": out}
+    clamped = clamps(records, durations, voiced)
+    return {"out": out, "high": clamped.count(pairs.HIGH), "low": clamped.count(pairs.LOW)}

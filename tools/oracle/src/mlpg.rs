@@ -1,5 +1,8 @@
-//! Mask with distances, band rows, trajectory.
+//! Mask with distances, band rows, trajectory with its clamped pairs.
 
+use std::iter;
+
+use clamps::Taken;
 use jbonsai::constants::NODATA;
 use jbonsai::mlpg_adjust::{MlpgAdjust, mask::Mask, mlpg::MlpgMatrix};
 use jbonsai::model::voice::{
@@ -84,6 +87,18 @@ fn model(parameters: Vec<ModelParameter>) -> Model {
     Model::new(vec![tree(parameters.len())], vec![parameters])
 }
 
+/// The branches that clamp, over the pairs of every frame that the Rust's mask says is voiced.
+/// `create` itself takes them once a state, voiced or not.
+fn clamped(stream: &StreamParameter, durations: &[usize], mask: &Mask) -> Taken {
+    clamps::taken(); // by another case
+    let states = stream.iter().zip(durations);
+    let frames = states.flat_map(|((pairs, _), &duration)| iter::repeat_n(pairs, duration));
+    for (pairs, _) in frames.zip(mask.mask()).filter(|&(_, &voiced)| voiced) {
+        pairs.iter().for_each(|pair| drop(pair.with_ivar()));
+    }
+    clamps::taken()
+}
+
 pub fn trajectory(reader: &mut Reader, writer: &mut Writer) {
     let v = reader.u32() as usize;
     let masked = reader.u32() != 0;
@@ -121,6 +136,7 @@ pub fn trajectory(reader: &mut Reader, writer: &mut Writer) {
 
     let stream = models.model_stream(0);
     let voiced = Mask::create(&stream.stream, threshold, &durations);
+    let Taken { high, low } = clamped(&stream.stream, &durations, &voiced);
     let frames = MlpgAdjust::new(gv_weight, threshold, stream).create(&durations);
     let mut filled = Vec::new();
     for (values, &voiced) in frames.iter().zip(voiced.mask()) {
@@ -128,4 +144,6 @@ pub fn trajectory(reader: &mut Reader, writer: &mut Writer) {
         filled.extend(values.iter().map(|&value| if voiced { value } else { fill }));
     }
     writer.f64s(&filled);
+    writer.u32(high);
+    writer.u32(low);
 }

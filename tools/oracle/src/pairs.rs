@@ -1,5 +1,6 @@
 //! Operations on floats, pairs and records.
 
+use clamps::Taken;
 use jbonsai::duration::DurationEstimator;
 use jbonsai::model::{MeanVari, voice::model::ModelParameter};
 
@@ -25,6 +26,7 @@ pub fn pair(reader: &mut Reader, writer: &mut Writer) {
     let a = MeanVari(reader.f64(), reader.f64());
     let b = MeanVari(reader.f64(), reader.f64());
     let weight = reader.f64();
+    clamps::taken(); // by another case
     let MeanVari(mean, vari) = match operation {
         0 => a.with_ivar(),
         1 => a.with_0(),
@@ -37,8 +39,10 @@ pub fn pair(reader: &mut Reader, writer: &mut Writer) {
         }
         _ => panic!("no pair operation {operation}"),
     };
+    let Taken { high, low } = clamps::taken();
     writer.f64(mean);
     writer.f64(vari);
+    writer.u32(high + 2 * low); // one branch at most
 }
 
 pub fn record(reader: &mut Reader, writer: &mut Writer) {
