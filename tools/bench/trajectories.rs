@@ -15,6 +15,7 @@ unsafe extern "C" {
         records: *const f64, n_records: usize, durations: *const u32, n_durations: usize,
         gv: *const f64, n_gv: usize, switches: *const u8, n_switches: usize,
         out: *mut f64, n_out: usize, work: *mut f64, n_work: usize, marks: *mut u32, n_marks: usize,
+        clamped_high: *mut u32, clamped_low: *mut u32,
     ) -> u32;
 }
 
@@ -115,7 +116,8 @@ impl Utterance {
 
     fn render(&mut self) {
         let shape = &self.shape;
-        // Every list comes with its own length and outlives the call.
+        let (mut high, mut low) = (1, 1);
+        // Every list comes with its own length and outlives the call; so do both counts.
         let refusal = unsafe {
             hejmirov_trajectory(
                 shape.v as u32, u32::from(shape.masked), THRESHOLD, FILL, u32::from(shape.gv), 1.0,
@@ -123,10 +125,11 @@ impl Utterance {
                 self.records.as_ptr(), self.records.len(), self.lengths.as_ptr(), self.lengths.len(),
                 self.gv.as_ptr(), self.gv.len(), self.switches.as_ptr(), self.switches.len(),
                 self.out.as_mut_ptr(), self.out.len(), self.work.as_mut_ptr(), self.work.len(),
-                self.marks.as_mut_ptr(), self.marks.len(),
+                self.marks.as_mut_ptr(), self.marks.len(), &mut high, &mut low,
             )
         };
-        assert_eq!(refusal, 0);
+        // No variance is clamped; that is counted on this side alone, as the Rust has no such counts.
+        assert_eq!((refusal, high, low), (0, 0, 0));
     }
 }
 
