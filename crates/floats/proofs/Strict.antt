@@ -8,14 +8,14 @@ use lib.IntN.{ℤ}
 use lib.Ieee.{Float, nan, inf, fin, up, down, below, lt}
 use Rattle.floats.specs.Order.{absOf}
 
--- the same of signs and sizes
+-- of two numbers, each a sign and a size, one at most is below the other
 below-asym : (s : Bool) (a : ℕ) (t : Bool) (b : ℕ) → below s a t b ≡ true → below t b s a ≡ false
 below-asym false a false b h = le-ltb b a (omega (arith, ltb-true a b h))
 below-asym false a true b h = absurd (let q : _≡_ {A = ℕ} 0 1 = cc in omega arith)
 below-asym true a false b h = refl
 below-asym true a true b h = le-ltb a b (omega (arith, ltb-true b a h))
 
--- of two floats one at most is below the other
+-- and so of two floats
 pub lt-asym : (x y : Float) → lt x y ≡ true → lt y x ≡ false
 unfolding lt
 lt-asym nan y h = absurd (let q : _≡_ {A = ℕ} 0 1 = cc in omega arith)

@@ -2,7 +2,7 @@
 -- And clamped pairs. Computed from the definitions.
 use mathlib.Core.Path.{_≡_, refl}
 use mathlib.Core.Bool.{true, false}
-use mathlib.Core.List.{List, [], _∷_, map}
+use mathlib.Core.List.{List, [], _∷_, _++_, map}
 use Prim.Native.Nat.{ℕ}
 use lib.Ieee.{Float, nan, binary64, ofBits, toBits, lt, eq, add, mul, div}
 use Rattle.floats.specs.Numbers.{one}
@@ -10,11 +10,14 @@ use Rattle.floats.specs.Order.{absOf}
 use Rattle.model.specs.Pair.{ivarOf, clampOf}
 use Rattle.model.specs.Record.{fromLinear}
 use Rattle.model.specs.Windows.{longest}
-use Rattle.model.specs.Clamps.{isHigh, isLow, clampedIn}
+use Rattle.model.specs.Clamps.{clampedIn}
 use Rattle.lists.specs.Frames.{count}
 use Rattle.voicing.specs.Mask.{maskOf, weightsOf}
 use Rattle.mlpg_adjust.specs.Trajectory.{recordSize, matrix, side}
-use Rattle.mlpg_adjust.specs.Clamps.{clampedOver}
+use Rattle.mlpg_adjust.specs.Clamps.{clampedOver, clampedHigh, clampedLow}
+use Rattle.mlpg_adjust.specs.Promise.{created, createdOf}
+use Rattle.mlpg_adjust.specs.declared.Stream.{Stream}
+use Rattle.mlpg_adjust.specs.declared.GlobalVariance.the-variants.{Off}
 
 -- 1, 2, 3, -0.5, 0.5 and 0
 abbrev f : ℕ → Float
@@ -37,20 +40,45 @@ pub case-10-right : map (toBits binary64) (side (recordSize 1 2 false) records (
 unfolding side count maskOf weightsOf lt ofBits fromLinear toBits eq add mul ivarOf absOf div
 case-10-right = refl
 
--- RULES, Clamps: states of 2, 3, 1 and no frames, the second unvoiced, with the variances 0 and 1e20, 1e20 and 1e20, NaN and 1e-20, 0 and 0. The runs are so short that a second
--- window of three is zeroed in all of their frames
+-- RULES, Clamps: a stream of v 2 in windows of one and three, of states of 2, 3, 1 and no frames, of which the second is unvoiced. The runs are so short that the second window is
+-- zeroed in all of their frames
+abbrev clampedStream : Stream
+clampedStream = record { v = 2; masked = true; threshold = f 0; fill = f 0; gv = Off }
+
+-- 1e20 and 1e-20
 abbrev large : Float
 large = f 0x4415_af1d_78b5_8c40
 
-abbrev clampedRecords : List Float
-clampedRecords = one ∷ one ∷ f 0 ∷ large ∷ one ∷ one ∷ one ∷ large ∷ large ∷ f 0 ∷ one ∷ one ∷ nan ∷ f 0x3bc7_9ca1_0c92_4223 ∷ one ∷ one ∷ one ∷ f 0 ∷ f 0 ∷ one ∷ []
+abbrev small : Float
+small = f 0x3bc7_9ca1_0c92_4223
 
--- 1e20 in two frames
-pub clamped-high : clampedOver (recordSize 1 2 true) clampedRecords (f 0) (2 ∷ 3 ∷ 1 ∷ 0 ∷ []) 1 (1 ∷ 3 ∷ []) isHigh ≡ 2
+-- a record of means of 1 and these variances, those of the first window before those of the second, with a weight
+abbrev stateOf : Float → Float → Float → Float → Float → List Float
+stateOf x y z w weight = one ∷ one ∷ one ∷ one ∷ x ∷ y ∷ z ∷ w ∷ weight ∷ []
+
+abbrev clampedRecords : List Float
+clampedRecords = stateOf (f 0) one one large one ++ (stateOf large large large large (f 0) ++ (stateOf nan small small one one ++ stateOf (f 0) (f 0) (f 0) (f 0) one))
+
+abbrev high : ℕ
+high = clampedHigh clampedStream (1 ∷ 3 ∷ []) clampedRecords (2 ∷ 3 ∷ 1 ∷ 0 ∷ [])
+
+abbrev low : ℕ
+low = clampedLow clampedStream (1 ∷ 3 ∷ []) clampedRecords (2 ∷ 3 ∷ 1 ∷ 0 ∷ [])
+
+-- 1e20 in two frames of the second window
+pub clamped-high : high ≡ 2
 unfolding clampedOver clampedIn clampOf count maskOf weightsOf lt ofBits fromLinear absOf
 clamped-high = refl
 
--- 0 in two frames, and 1e-20 in one
-pub clamped-low : clampedOver (recordSize 1 2 true) clampedRecords (f 0) (2 ∷ 3 ∷ 1 ∷ 0 ∷ []) 1 (1 ∷ 3 ∷ []) isLow ≡ 3
+-- 0 in two frames, and 1e-20 twice in one
+pub clamped-low : low ≡ 4
 unfolding clampedOver clampedIn clampOf count maskOf weightsOf lt ofBits fromLinear absOf
 clamped-low = refl
+
+-- so a call that is accepted answers, high before low, and one that is refused has no counts
+pub clamped-answer : created (createdOf 0 high low) .values ≡ 2 ∷ 4 ∷ []
+unfolding clampedOver clampedIn clampOf count maskOf weightsOf lt ofBits fromLinear absOf
+clamped-answer = refl
+
+pub refused-answer : created (createdOf 6 high low) .values ≡ []
+refused-answer = refl
