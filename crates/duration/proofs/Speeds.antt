@@ -2,22 +2,22 @@
 use mathlib.Core.Path.{_≡_, refl, sym, ap, _∙_}
 use mathlib.Core.Bool.{Bool, true, false, cond, _&&_, _||_}
 use mathlib.Core.List.{List}
-use Prim.Native.Nat.{ℕ, zero, suc, _+_, _-_, _*_, _/_, _%_, _^_, _≤_, _<_, suc-le-suc, compare}
-use native.Mathlib.Nat.{mul-one, mul-pos, le-trans, mul-lt-mul-of-pos-right}
-use lib.Pow.{pow-add, pow-pos}
-use native.Mathlib.Bridge.{le-by-compare, IsLe}
+use Prim.Native.Nat.{ℕ, _*_, _≤_, _<_}
+use native.Mathlib.Nat.{mul-pos, le-trans}
 use native.Mathlib.Omega.{arith}
-use lib.Dec.{ltb, eqb}
-use lib.IntN.{ℤ, pos, negℤ}
+use lib.Dec.{eqb, lit≤}
+use lib.IntN.{ℤ}
 use lib.ListN.{length, replicate}
-use lib.Ieee.{Float, nan, inf, fin, binary64, prec, low, emax, up, down, size, nearest, odd, units, round, ofInt, ofBits, div, eq, level}
-use lib.Ieee.Exact.{HasValue, round-exact}
+use lib.Ieee.{Float, nan, inf, fin, binary64, up, down, round, ofBits, div, eq, level}
+use lib.Ieee.Exact.{HasValue}
 use lib.Ieee.Fits.{down-pos}
 use borrow.Author.Tests.{le-ltb, le-leb, ne-eqb, eqb-true}
 use Rattle.lists.specs.Sizes.{mostFrames}
 use Rattle.lists.specs.Totals.{total}
-use Rattle.floats.specs.Rounding.{whole, nearestHalf, toIntegral, framesOf, roundedOf}
+use Rattle.floats.specs.Rounding.{nearestHalf, toIntegral, framesOf, roundedOf}
 use Rattle.floats.specs.Numbers.{nought, one, number}
+use Rattle.floats.proofs.Below.{nan-one, endless-below, cond-below, round-below}
+use Rattle.floats.proofs.Differences.{number-value}
 use Rattle.steps.specs.Steps.{shortest, unchanged}
 use Rattle.duration.specs.Fit.{fitTo, refusalTo}
 use Rattle.duration.specs.Estimate.{naturals}
@@ -27,52 +27,7 @@ use Rattle.steps.proofs.Settling.{Positive}
 use Rattle.steps.proofs.Settling.Positive.{none, more}
 use Rattle.duration.proofs.Fairness.{estimates-positive}
 
--- ---- below zero all counts of frames are 1
-
-frames-below : (n : ℕ) → framesOf (whole (negℤ (pos n))) ≡ 1
-unfolding framesOf
-frames-below zero = refl
-frames-below (suc n) = refl
-
-rounded-below : (m : ℕ) (e : ℤ) → roundedOf (fin true m e) ≡ 1
-unfolding roundedOf toIntegral
-rounded-below m e = frames-below (nearestHalf (m * up e) (down e))
-
-odd-below : (d q k l : ℕ) → roundedOf (odd d true q k l) ≡ 1
-unfolding odd
-odd-below d zero k l = rounded-below zero (pos zero)
-odd-below d (suc q) k l = rounded-below _ _
-
-endless-below : roundedOf (inf true) ≡ 1
-unfolding roundedOf toIntegral framesOf
-endless-below = refl
-
-cond-below : (b : Bool) (x y : Float) → roundedOf x ≡ 1 → roundedOf y ≡ 1 → roundedOf (cond b x y) ≡ 1
-cond-below true x y e f = e
-cond-below false x y e f = f
-
-units-below : (q k : ℕ) → roundedOf (units binary64 true q k) ≡ 1
-unfolding units
-units-below q k = cond-below (ltb (q * 2 ^ k) (2 ^ (low binary64 + suc (emax binary64)))) (odd (suc (prec binary64)) true q k (low binary64)) (inf true) (odd-below (suc (prec binary64)) q k (low binary64)) endless-below
-
-round-below : (a b : ℕ) → roundedOf (round binary64 true a b) ≡ 1
-unfolding round
-round-below a b =
-    let n : ℕ = a * 2 ^ low binary64 in
-    let k : ℕ = size (n / b) - prec binary64 in
-    let u : ℕ = b * 2 ^ k in
-    units-below (nearest (n / u) (compare (n % u * 2) u)) k
-
--- ---- a count of frames as a float
-
-fine : (n a b : ℕ) → n < 2 ^ a → n * 2 ^ b < 2 ^ (b + a)
-fine n a b h = rw (let e : b + a ≡ a + b = omega arith in e, pow-add 2 a b) (mul-lt-mul-of-pos-right h (pow-pos b))
-
-frames-value : (n : ℕ) → n ≤ mostFrames → HasValue (number n) false n 1
-unfolding ofInt IsLe
-frames-value n h = round-exact binary64 false n 1 n 1074 (omega arith) (omega arith) (fine n 1024 1074 (le-trans (suc-le-suc h) (le-by-compare 65537 (2 ^ 1024) tt))) (sym (mul-one (n * 2 ^ 1074)))
-
--- ---- their quotients
+-- ---- what a count of frames comes to over such a speed
 
 module _ (n : ℕ) where
   by-zero : (x : Float) (e : ℤ) → HasValue x false n 1 → 0 < n → roundedOf (div binary64 x (fin false 0 e)) ≡ 65537
@@ -90,7 +45,7 @@ module _ (n : ℕ) where
   by-below (inf s) m e v = absurd v
   by-below (fin true a k) m e v = absurd (let q = v .0 in let r : _≡_ {A = ℕ} 0 1 = cc in omega arith)
   by-below (fin false a k) m e v =
-      cond-below (eqb m 0) (cond (eqb a 0) nan (inf true)) (round binary64 true (a * up k * down e) (m * up e * down k)) (cond-below (eqb a 0) nan (inf true) (unfold roundedOf toIntegral framesOf in refl) endless-below)
+      cond-below (eqb m 0) (cond (eqb a 0) nan (inf true)) (round binary64 true (a * up k * down e) (m * up e * down k)) (cond-below (eqb a 0) nan (inf true) nan-one endless-below)
       (round-below (a * up k * down e) (m * up e * down k))
 
   by-infinite : (x : Float) (s : Bool) → HasValue x false n 1 → roundedOf (div binary64 x (inf s)) ≡ 1
@@ -134,7 +89,7 @@ total-some (more p ps) h = omega arith
 
 module _ (ms vs : List Float) (some : 0 < length ms) (agree : length vs ≡ length ms) (small : total (naturals ms vs) ≤ mostFrames) where
   value : HasValue (number (total (naturals ms vs))) false (total (naturals ms vs)) 1
-  value = frames-value (total (naturals ms vs)) small
+  value = number-value (total (naturals ms vs)) (le-trans small (lit≤ tt))
 
   -- every state gets one frame, with no change
   pub OneEach : Float → Type 0

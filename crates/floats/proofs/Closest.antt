@@ -1,20 +1,21 @@
 -- The correctly rounded root is nearest among the format's values, said by squares of whole numbers.
 use mathlib.Core.Path.{_≡_, sym, ap, _∙_, subst}
-use mathlib.Core.Bool.{Bool, false, _&&_}
+use mathlib.Core.Bool.{false}
 use mathlib.Core.Logic.{⊎-elim}
-use Prim.Native.Nat.{ℕ, zero, suc, _+_, _-_, _*_, _%_, _^_, _≤_, _<_}
+use Prim.Native.Nat.{ℕ, zero, suc, _+_, _-_, _*_, _^_, _≤_, _<_}
 use native.Mathlib.Nat.{zero-mul, mul-one, mul-assoc, mul-left-comm, add-mul, mul-pos, le-trans, le-of-eq, lt-of-lt-of-le, lt-of-le-of-lt, lt-of-not-le, not-le-of-lt, le-of-lt, lt-irrefl, mul-le-mul-left, mul-le-mul-right, mul-lt-mul-of-pos-right, le-of-suc-le-suc, eq-of-mul-eq-mul-right, pow-succ', suc-mul, le-antisymm}
 use native.Mathlib.Omega.{arith}
 use lib.IntN.{ℤ, pos, negsuc}
-use lib.Dec.{T, leb, ltb, eqb, leb→le, ltb→lt, lit<}
-use lib.Pow.{pow-add, pow-pos, pow-mono, pow-lt, shl-lt}
+use lib.Dec.{T, lit<}
+use lib.Pow.{pow-add, pow-pos, pow-mono, shl-lt}
 use lib.Ieee.{Float, nan, inf, fin, binary64, up, down, fits}
-use lib.Ieee.Fits.{and-l, and-r, down-pos}
+use lib.Ieee.Fits.{down-pos}
 use lib.Ieee.Exact.{HasValue}
 use lib.Ieee.Positive.{positive}
 use Rattle.lists.proofs.Numbers.{le-or-lt}
 use Rattle.lists.proofs.Rows.{row-fits}
 use Rattle.floats.specs.Root.{Closest, sqrtOf}
+use Rattle.floats.proofs.Format.{in-format, few-places}
 use Rattle.floats.proofs.Squares.{sq-mono}
 use Rattle.floats.proofs.Unique.{value-times}
 use Rattle.floats.proofs.Claims.{claim}
@@ -32,18 +33,10 @@ spread m k l e = sym (mul-one l) ∙ sym e ∙ mul-assoc m (2 ^ k) (2 ^ 1074) �
 
 shrink : (m k l : ℕ) → 2 ^ suc k ≤ 2 ^ 1074 → m * 1 * 2 ^ 1074 ≡ l * 2 ^ suc k → l ≡ m * 2 ^ (1074 - suc k)
 shrink m k l h e =
-    let n : suc k ≤ 1074 = le-of-suc-le-suc (lt-of-not-le (λ (g : 1075 ≤ suc k). not-le-of-lt (lt-of-lt-of-le (pow-lt {i = 1074} {j = 1075} (omega arith)) (pow-mono g)) h)) in
+    let n : suc k ≤ 1074 = few-places (suc k) h in
     let s : 1074 ≡ 1074 - suc k + suc k = omega arith in
     eq-of-mul-eq-mul-right (2 ^ suc k) (pow-pos (suc k)) l (m * 2 ^ (1074 - suc k))
     (sym e ∙ ap (λ (z : ℕ). z * 2 ^ 1074) (mul-one m) ∙ ap (λ (z : ℕ). m * 2 ^ z) s ∙ ap (λ (z : ℕ). m * z) (pow-add 2 (1074 - suc k) (suc k)) ∙ sym (mul-assoc m (2 ^ (1074 - suc k)) (2 ^ suc k)))
-
-few-digits : (s : Bool) (m : ℕ) (e : ℤ) → T (fits binary64 (fin s (suc m) e)) → (suc m < 2 ^ 53) × (down e ≤ 2 ^ 1074)
-unfolding fits
-few-digits s m e F =
-    let short = ltb (suc m) (2 ^ 53) in
-    let near = leb (down e) (2 ^ 1074) in
-    let a = and-l (eqb (suc m % 2) 1 && short && near) _ F in
-    (ltb→lt (suc m) (2 ^ 53) (and-r (eqb (suc m % 2) 1) short (and-l (eqb (suc m % 2) 1 && short) near a)), leb→le (down e) (2 ^ 1074) (and-r (eqb (suc m % 2) 1 && short) near a))
 
 none : (e : ℤ) (l : ℕ) → 0 * up e * 2 ^ 1074 ≡ l * down e → l ≡ 0
 none e l h = eq-of-mul-eq-mul-right (down e) (down-pos e) l 0 (sym h ∙ ap (λ (z : ℕ). z * 2 ^ 1074) (zero-mul (up e)) ∙ zero-mul (2 ^ 1074) ∙ sym (zero-mul (down e)))
@@ -52,9 +45,9 @@ pub digits-of : (y : Float) (l : ℕ) → T (fits binary64 y) → HasValue y fal
 digits-of nan l F h = absurd h
 digits-of (inf s) l F h = absurd h
 digits-of (fin s zero e) l F h = record { m = 0; k = 0; is = none e l (h .1); few = pow-pos 53 }
-digits-of (fin s (suc m) (pos k)) l F h = record { m = suc m; k = k + 1074; is = spread (suc m) k l (h .1); few = few-digits s m (pos k) F .0 }
+digits-of (fin s (suc m) (pos k)) l F h = record { m = suc m; k = k + 1074; is = spread (suc m) k l (h .1); few = in-format s (suc m) (pos k) F .0 }
 digits-of (fin s (suc m) (negsuc k)) l F h =
-    let d = few-digits s m (negsuc k) F in
+    let d = in-format s (suc m) (negsuc k) F in
     record { m = suc m; k = 1074 - suc k; is = shrink (suc m) k l (d .1) (h .1); few = d .0 }
 
 -- from 2 ^ 52 * 2 ^ a on it is a multiple of 2 ^ a

@@ -1,7 +1,7 @@
 -- Rounding to the nearest whole number, halves upward.
 use mathlib.Core.Path.{_≡_, refl, sym, ap, _∙_}
-use Prim.Native.Nat.{ℕ, zero, suc, _+_, _*_, _/_, _^_, _≤_, _<_}
-use native.Mathlib.Nat.{mul-assoc, mul-comm, mul-left-comm, add-mul, mul-pos, add-div-right, div-div-eq-div-mul, div-eq-of-lt, div-le-self, le-div-iff-mul-le, le-of-eq, lt-of-le-of-lt, lt-of-lt-of-le, pow-succ'}
+use Prim.Native.Nat.{ℕ, zero, suc, _+_, _-_, _*_, _/_, _^_, _≤_, _<_}
+use native.Mathlib.Nat.{mul-assoc, mul-comm, mul-left-comm, add-mul, mul-pos, suc-mul, add-div-right, add-mul-div-right, div-div-eq-div-mul, div-eq-of-lt, div-le-self, div-lt-iff-lt-mul, le-div-iff-mul-le, le-of-eq, le-of-suc-le-suc, lt-of-le-of-lt, lt-of-lt-of-le, pow-succ'}
 use native.Mathlib.Omega.{arith}
 use lib.Pow.{pow-mono, shl-lt}
 use lib.Ieee.Nearest.{div-same}
@@ -44,6 +44,28 @@ unfolding nearestHalf
 half-large n a c C h =
     let e : n * (2 * c) ≡ 2 * (n * c) = simp mul-left-comm in
     le-div-iff-mul-le (mul-pos two-pos C) .1 (omega arith)
+
+-- it commutes with adding a whole number
+half-more : (b c k : ℕ) → 0 < c → nearestHalf (b + k * c) c ≡ nearestHalf b c + k
+unfolding nearestHalf
+half-more b c k C =
+    let t : k * (2 * c) ≡ 2 * (k * c) = mul-left-comm k 2 c in
+    let e : 2 * (b + k * c) + c ≡ 2 * b + c + k * (2 * c) = omega arith in
+    ap (λ (z : ℕ). z / (2 * c)) e ∙ add-mul-div-right (2 * b + c) k (mul-pos two-pos C)
+
+-- the nearest whole number to a / c - k, halves upward, is that to a / c, less k
+pub half-less : (a c k : ℕ) → 0 < c → k * c ≤ a → nearestHalf (a - k * c) c ≡ nearestHalf a c - k
+half-less a c k C h =
+    let e : a ≡ a - k * c + k * c = omega arith in
+    let q : nearestHalf a c ≡ nearestHalf (a - k * c) c + k = ap (λ (z : ℕ). nearestHalf z c) e ∙ half-more (a - k * c) c k C in
+    omega arith
+
+-- up to n it is at most n
+pub half-few : (n a c : ℕ) → 0 < c → a ≤ n * c → nearestHalf a c ≤ n
+unfolding nearestHalf
+half-few n a c C h =
+    let t : suc n * (2 * c) ≡ 2 * (n * c) + 2 * c = suc-mul n (2 * c) ∙ ap (λ (z : ℕ). z + 2 * c) (mul-left-comm n 2 c) in
+    le-of-suc-le-suc (div-lt-iff-lt-mul (mul-pos two-pos C) .1 (let q : 2 * a + c < suc n * (2 * c) = omega arith in q))
 
 -- it is worked out from twice the number, cut: one more of that, halved
 pub half-cut : (a c : ℕ) → 0 < c → nearestHalf a c ≡ (2 * a / c + 1) / 2

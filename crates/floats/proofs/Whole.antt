@@ -4,22 +4,21 @@ use mathlib.Core.Bool.{Bool, true, false, cond, true≢false}
 use Prim.Native.Nat.{ℕ, zero, suc, _+_, _-_, _*_, _/_, _%_, _^_, _≤_, _<_}
 use native.Mathlib.Nat.{mod-lt, mod-eq-of-lt, mul-assoc, le-trans, le-of-eq, lt-of-le-of-lt, mul-le-mul-right, le-add-right}
 use native.Mathlib.Omega.{arith}
-use lib.IntN.{ℤ, pos}
 use lib.Dec.{T, leb, eqb, le→leb, lit≤}
 use lib.Arith.{lt→nleb}
 use lib.Pow.{pow-pos, pow-mono, pow-add}
 use lib.Bits.{bitAnd, bitOr, and-mask, or-shifted-r}
-use lib.Count.{trailingZeros}
-use lib.Ieee.{Float, nan, inf, fin, binary64, up, down, minus, odd, fits, isNan, ofFields, toBits}
+use lib.Ieee.{Float, nan, inf, fin, binary64, up, down, odd, fits, isNan, ofFields, toBits}
 use lib.Ieee.Fits.{down-pos}
 use lib.Ieee.Bits.{ofBits-toBits, is-true, is-false}
 use lib.Ieee.Exact.{HasValue, odd-sign}
 use Rattle.floats.specs.Rounding.{roundedOf, toIntegral, framesOf, nearestHalf}
-use Rattle.floats.proofs.Halves.{half-same, half-small, under-half, half-large, half-some, frames, frames-none, frames-many, frames-below}
+use Rattle.floats.proofs.Halves.{half-same, half-small, under-half, half-large, half-some, frames, frames-none, frames-many}
+use Rattle.floats.proofs.Below.{nan-one, endless-below, odd-below, cond-below}
 use Rattle.floats.proofs.Fields.{by-fields, normal-is}
 
 -- `roundedOf` sees only the value
-value-rounded : (v : Float) (a c : ℕ) → 0 < c → HasValue v false a c → roundedOf v ≡ frames (nearestHalf a c)
+pub value-rounded : (v : Float) (a c : ℕ) → 0 < c → HasValue v false a c → roundedOf v ≡ frames (nearestHalf a c)
 unfolding roundedOf toIntegral
 value-rounded nan a c C h = absurd h
 value-rounded (inf s) a c C h = absurd h
@@ -31,25 +30,10 @@ odd-rounded q k = value-rounded (odd 53 false q k 1074) (q * 2 ^ k) (2 ^ 1074) (
 
 -- ---- the sign set
 
-below-zero : (m : ℕ) (e : ℤ) → roundedOf (fin true m e) ≡ 1
-unfolding roundedOf toIntegral
-below-zero m e = frames-below (nearestHalf (m * up e) (down e))
-
-odd-negative : (d q k l : ℕ) → roundedOf (odd d true q k l) ≡ 1
-unfolding odd
-odd-negative d zero k l = below-zero zero (pos zero)
-odd-negative d (suc q) k l = let t = trailingZeros d (suc q) in below-zero (suc q / 2 ^ t) (minus (k + t) l)
-
-cond-negative : (a b : Bool) (v : Float) → roundedOf v ≡ 1 → roundedOf (cond a (cond b (inf true) nan) v) ≡ 1
-unfolding roundedOf toIntegral framesOf
-cond-negative true true v h = refl
-cond-negative true false v h = refl
-cond-negative false b v h = h
-
 negative : (x t : ℕ) → roundedOf (ofFields binary64 true x t) ≡ 1
 unfolding ofFields
-negative zero t = odd-negative 53 t 0 1074
-negative (suc x) t = cond-negative (eqb (suc x) 2047) (eqb t 0) (odd 53 true (2 ^ 52 + t) x 1074) (odd-negative 53 (2 ^ 52 + t) x 1074)
+negative zero t = odd-below 53 t 0 1074
+negative (suc x) t = cond-below (eqb (suc x) 2047) (cond (eqb t 0) (inf true) nan) (odd 53 true (2 ^ 52 + t) x 1074) (cond-below (eqb t 0) (inf true) nan endless-below nan-one) (odd-below 53 (2 ^ 52 + t) x 1074)
 
 -- ---- the sign clear
 

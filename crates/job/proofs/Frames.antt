@@ -2,7 +2,7 @@
 use mathlib.Core.Path.{_≡_, refl}
 use mathlib.Core.Bool.{true, false, cond}
 use mathlib.Core.List.{List}
-use Prim.Native.Nat.{ℕ, zero, suc, _≤_, _<_}
+use Prim.Native.Nat.{ℕ, _≤_, _<_}
 use native.Mathlib.Omega.{arith}
 use lib.Dec.{leb, ltb, eqb}
 use lib.ListN.{length, replicate, length-replicate}
@@ -11,6 +11,7 @@ use borrow.Author.Tests.{eqb-false, leb-false, ltb-false}
 use Rattle.lists.specs.Sizes.{mostFrames}
 use Rattle.lists.specs.Totals.{total}
 use Rattle.lists.proofs.Flags.{neither}
+use Rattle.lists.proofs.Sums.{total-same}
 use Rattle.floats.specs.Numbers.{nought, one}
 use Rattle.steps.specs.Steps.{shortest, Outcome, unchanged}
 use Rattle.duration.specs.Fit.{startOf, atShortest, fitTo, refusalTo}
@@ -24,14 +25,9 @@ pub record Bounded (n : ℕ) (o : Outcome) : Type 0 where
   pub count : length (o .durations) ≡ n
   pub few : total (o .durations) ≤ mostFrames
 
-total-ones : (n : ℕ) → total (replicate n 1) ≡ n
-unfolding total
-total-ones zero = refl
-total-ones (suc n) = omega (arith, total-ones n)
-
 module _ (ms vs : List Float) (few : length ms ≤ 4096) (agree : length vs ≡ length ms) where
   ones : Bounded (length ms) (unchanged (replicate (length ms) shortest))
-  ones = record { count = length-replicate (length ms) shortest; few = omega (arith, total-ones (length ms)) }
+  ones = record { count = length-replicate (length ms) shortest; few = omega (arith, total-same (length ms) shortest) }
 
   -- the target is above the count
   module _ (t : ℕ) (e : refusalTo ms vs t ≡ 0) where

@@ -4,12 +4,12 @@ use mathlib.Core.List.{List, [], _++_, append-assoc, append-nil}
 use mathlib.Core.Logic.{⊎-elim}
 use Prim.Native.Nat.{ℕ, zero, suc, _+_, _*_, _/_, _%_, _<_, _≤_}
 use native.Mathlib.Omega.{arith}
-use lib.Dec.{T}
 use lib.ListN.{length, take, drop, getD, take-append-drop, drop-of-length-le, List·getD-eq-default}
 use lib.Seq.{drop-drop}
 use lib.Ieee.{Float, nan, binary64, fits, toBits}
 use lib.Ieee.Bits.{toBits-lt, ofBits-fits}
 use Rattle.lists.specs.Build.{build}
+use Rattle.floats.specs.Numbers.{Held}
 use Rattle.lists.specs.Bytes.{little, bytesOf, wordAt, patternAt}
 use Rattle.lists.proofs.Builds.{build-first, build-at}
 use Rattle.lists.proofs.Bytes.{little-bytes}
@@ -106,7 +106,7 @@ floats-at : (bytes : List ℕ) (at n i : ℕ) → i < n → getD (floatsAt bytes
 unfolding floatsAt
 floats-at bytes at n i h = build-at (λ (k : ℕ). floatAt bytes (at + 16 * k)) n i nan h
 
-floats-fit : (bytes : List ℕ) (at n i : ℕ) → T (fits binary64 (getD (floatsAt bytes at n) i nan))
+floats-fit : (bytes : List ℕ) (at n : ℕ) → Held (floatsAt bytes at n)
 unfolding fits
 floats-fit bytes at n i = ⊎-elim
     (λ (g : n ≤ i). let l : length (floatsAt bytes at n) ≤ i = omega (arith, floats-long bytes at n) in rw (List·getD-eq-default (floatsAt bytes at n) nan l) tt)

@@ -3,10 +3,11 @@ use mathlib.Core.Path.{_≡_}
 use mathlib.Core.List.{List, [], _∷_, _++_}
 use Prim.Native.Nat.{ℕ, _+_, _*_, _%_, _^_, _≤_, _<_}
 use lib.Dec.{T}
-use lib.ListN.{length, getD}
-use lib.Ieee.{Float, nan, binary64, fits, toBits}
+use lib.ListN.{length}
+use lib.Ieee.{Float, binary64, fits, toBits}
 use Rattle.lists.specs.Sizes.{mostJobStates}
 use Rattle.lists.specs.Bytes.{bytesOf, Bytes, patternAt}
+use Rattle.floats.specs.Numbers.{Held}
 use Rattle.job.specs.Format.{mark, version, countOf, Job}
 
 -- RULES, Job file: a float stands as its pattern
@@ -31,8 +32,8 @@ pub record Writable (j : Job) : Type 0 where
   pub few : length (j .means) ≤ mostJobStates
   pub agree : length (j .varis) ≡ length (j .means)
   pub speed : T (fits binary64 (j .speed))
-  pub means : (i : ℕ) → T (fits binary64 (getD (j .means) i nan))
-  pub varis : (i : ℕ) → T (fits binary64 (getD (j .varis) i nan))
+  pub means : Held (j .means)
+  pub varis : Held (j .varis)
 
 -- a pattern is no NaN's, which are those above infinity's, the sign aside; or it is the one that is written for every NaN
 abbrev pub OneNan : ℕ → Type 0

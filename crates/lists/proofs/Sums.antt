@@ -1,11 +1,11 @@
 -- Laws of totals and of folds.
-use mathlib.Core.Path.{_≡_, ap, _∙_}
+use mathlib.Core.Path.{_≡_, sym, ap, _∙_}
 use mathlib.Core.List.{List, [], _∷_, _++_}
 use Prim.Native.Nat.{ℕ, zero, suc, _+_, _*_, _^_, _<_, _≤_, zero-le}
-use native.Mathlib.Nat.{not-suc-le-zero}
+use native.Mathlib.Nat.{not-suc-le-zero, zero-mul, suc-mul}
 use native.Mathlib.Numerals.{add-one}
 use native.Mathlib.Omega.{arith}
-use lib.ListN.{length, take, drop, getD, set, take-append-drop, drop-of-length-le}
+use lib.ListN.{length, take, drop, getD, set, replicate, take-append-drop, drop-of-length-le}
 use lib.Seq.{drop-cons, take-suc, take-add, take-all}
 use Rattle.lists.specs.Totals.{total}
 use Rattle.lists.specs.Build.{foldFrom}
@@ -56,6 +56,12 @@ pub total-under : (b : ℕ) (xs : List ℕ) → ((i : ℕ) → getD xs i 0 ≤ b
 unfolding total
 total-under b [] h = omega arith
 total-under b (x ∷ xs) h = omega (arith, h 0, total-under b xs (λ i. h (suc i)))
+
+-- one number, over and over
+pub total-same : (n x : ℕ) → total (replicate n x) ≡ n * x
+unfolding total
+total-same zero x = sym (zero-mul x)
+total-same (suc n) x = omega (arith, total-same n x, suc-mul n x)
 
 -- the total of a list that is not endlessly long
 pub total-whole : (xs : List ℕ) → length xs ≤ 4294967296 → total (take (2 ^ 32) xs) ≡ total xs
