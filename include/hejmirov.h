@@ -216,6 +216,9 @@ uint32_t hejmirov_speed(const double *means, size_t n_means,
  * given, get their estimates, as hejmirov_speed gives them at speed 1.0, and add no changes. With
  * no labels written and changes are 0.
  *
+ * Rounding does not add up over labels. At a given end the durations up to it total the end, rounded
+ * with halves up, or one frame a state more than the total before its group, whichever is more.
+ *
  * Refused with 3: n above 4,096, or nstate out of range. 4: n is not n_ends x nstate, or n_varis is
  * not n. 6: n_out or n_work below n. 7, 8: as hejmirov_fit, group after group; 8 also where the
  * frames so far and the group's own are above 65,536. Then 8: the frames so far and the estimates

@@ -194,6 +194,9 @@ pub fn speed_into(
 /// given end, all of them where none is given, get their estimates, as at [`speed`] 1, and add no
 /// changes.
 ///
+/// Rounding does not add up over labels. At a given end the durations up to it total the end, rounded
+/// with halves up, or one frame a state more than the total before its group, whichever is more.
+///
 /// # Errors
 ///
 /// [`BadSize`](Refusal::BadSize): more than 4,096 states, or `nstate` is not 1 to 16.
@@ -212,6 +215,8 @@ pub fn speed_into(
 /// assert_eq!(both.durations, [3, 5]);
 /// let tail = hejmirov::align(&means, &varis, 1, &[4.0, OPEN_END])?;
 /// assert_eq!(tail.durations, [4, 3]);
+/// let even = hejmirov::align(&means, &varis, 1, &[2.4, 4.8])?;
+/// assert_eq!(even.durations, [2, 3]);
 /// # Ok::<(), hejmirov::Refusal>(())
 /// ```
 pub fn align(means: &[f64], varis: &[f64], nstate: u32, ends: &[f64]) -> Result<Fitted, Refusal> {

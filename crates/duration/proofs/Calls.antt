@@ -17,7 +17,7 @@ use Rattle.duration.specs.declared.Aligned.the-variants as align
 use Rattle.lists.specs.Refusals.{orElse}
 use Rattle.duration.specs.Inner.Asked.{outputAfter, HandsOut}
 use Rattle.lists.specs.Answers.{Answer, refusing, answerOf}
-use Rattle.duration.specs.Promise.{fitted, aligned, clears, workOf, Says, FitSays, SpeedSays, AlignSays}
+use Rattle.duration.specs.Promise.{fitted, aligned, clears, workOf, Says, FitSays, SpeedSays, AlignOnTime}
 
 pub handed : (r : Fitted) (c : ℕ) (new out out′ : List ℕ) → r ≡ fit.Done c → out′ ≡ new → out′ ≡ outputAfter r new out
 handed r c new out out′ e f = rw e f
@@ -103,5 +103,5 @@ module _ (ms vs : List Float) (x : Float) (out work o₁ o₂ w₁ w₂ : List �
   pub speed-says-one : SpeedSays ms vs x out work r o₁ w₁ → SpeedSays ms vs x out work s o₂ w₂ → (r ≡ s) × (o₁ ≡ o₂) × (w₁ ≡ w₂)
   speed-says-one f g = fitted-says-one _ _ _ _ out work o₁ o₂ w₁ w₂ r s f g
 
-pub align-says-one : (ms vs : List Float) (nstate : ℕ) (ends : List Float) (out work o₁ o₂ w₁ w₂ : List ℕ) (r s : Aligned) → AlignSays ms vs nstate ends out work r o₁ w₁ → AlignSays ms vs nstate ends out work s o₂ w₂ → (r ≡ s) × (o₁ ≡ o₂) × (w₁ ≡ w₂)
-align-says-one ms vs nstate ends out work o₁ o₂ w₁ w₂ r s f g = aligned-says-one _ _ _ _ out work o₁ o₂ w₁ w₂ r s f g
+pub align-says-one : (ms vs : List Float) (nstate : ℕ) (ends : List Float) (out work o₁ o₂ w₁ w₂ : List ℕ) (r s : Aligned) → AlignOnTime ms vs nstate ends out work r o₁ w₁ → AlignOnTime ms vs nstate ends out work s o₂ w₂ → (r ≡ s) × (o₁ ≡ o₂) × (w₁ ≡ w₂)
+align-says-one ms vs nstate ends out work o₁ o₂ w₁ w₂ r s f g = aligned-says-one _ _ _ _ out work o₁ o₂ w₁ w₂ r s (f .says) (g .says)

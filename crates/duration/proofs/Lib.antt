@@ -7,6 +7,9 @@ pub mod Closing
 pub mod Along
 pub mod Fairness
 pub mod Aligning
+pub mod OnTime
+pub mod Drift
+pub mod Chapters
 pub mod Speeds
 pub mod Roundings
 pub mod Uncapped

@@ -1,14 +1,15 @@
--- Worked calls beside the table's, by computation: ends about zero, groups whose target is not above their count, the tail, and which of the refusals 7
--- and 8 comes first. Each call is made with an output of sevens and a work space of nines.
+-- Worked calls beside the table's, by computation: ends about zero, groups whose target is not above their count, chapters that do not drift, the
+-- tail, and which of the refusals 7 and 8 comes first. Each call is made with an output of sevens and a work space of nines.
 use mathlib.Core.Path.{_≡_, refl}
 use mathlib.Core.Bool.{false}
 use mathlib.Core.List.{List, [], _∷_}
-use Prim.Native.Nat.{ℕ}
+use Prim.Native.Nat.{ℕ, _-_, _*_, _^_}
+use native.Mathlib.Omega.{arith}
 use lib.IntN.{negsuc}
 use lib.Ieee.{Float, nan, inf, fin, binary64, ofBits, ofInt, add, sub, mul, div, neg, lt, le, eq, isNan}
-use Rattle.lists.specs.Totals.{total}
+use Rattle.lists.specs.Totals.{total, gap}
 use Rattle.lists.specs.Build.{foldFrom}
-use Rattle.floats.specs.Rounding.{roundedOf}
+use Rattle.floats.specs.Rounding.{nearestHalf, roundedOf}
 use Rattle.floats.specs.Order.{absOf, costBelow}
 use Rattle.floats.specs.Numbers.{number}
 use Rattle.model.specs.Pair.{pairsOf, sumOf}
@@ -20,6 +21,7 @@ use Rattle.steps.specs.Steps.{keyOf, keys, leastOf, step, settle}
 use Rattle.duration.specs.Fit.{startOf, fitTo, refusalTo}
 use Rattle.duration.specs.Speed.{targetAt, fitAt, refusalAt}
 use Rattle.duration.specs.Align.{endOf, groups, fitAlong, refusalOf, refusalAlong}
+use Rattle.duration.specs.Drift.{endRounded, closedBefore, groupStates, NoDrift}
 use Rattle.duration.specs.Promise.{workOf, refusalOfLists, refusalOfLabels, FitSays, SpeedSays, AlignSays}
 use Rattle.duration.specs.Fitting.{lastFrom}
 use Rattle.duration.specs.Inputs.{two-three, one-one, sevens, nines, cleared, halves, unset}
@@ -95,6 +97,54 @@ end-above-count = record { answer = refl; output = refl; workspace = refl }
 pub end-passed : AlignSays means varis 2 (number 8 ∷ number 4 ∷ []) output workspace (align.Done 4 1) (3 ∷ 5 ∷ 1 ∷ 1 ∷ 7 ∷ []) all-cleared
 unfolding workOf refusalOfLists refusalOfLabels groups refusalAlong refusalOf fitAlong naturals neg le eq refusalTo fitTo settle step keys keyOf leastOf costBelow absOf total startOf estimates roundedOf sumOf foldFrom pairsOf ofBits ofInt add sub mul div lt isNan
 end-passed = record { answer = refl; output = refl; workspace = refl }
+
+-- ---- no drift: four labels of one state each
+
+-- 2.4, 4.8, 7.2 and 9.6: each label has 2.4 frames, which alone would be 2; the totals are 2, 5, 7 and 10
+pub chapter-on-time : AlignSays means varis 1 (ofBits binary64 0x4003_3333_3333_3333 ∷ ofBits binary64 0x4013_3333_3333_3333 ∷ ofBits binary64 0x401c_cccc_cccc_cccd ∷ ofBits binary64 0x4023_3333_3333_3333 ∷ []) output workspace (align.Done 4 0) (2 ∷ 3 ∷ 2 ∷ 3 ∷ 7 ∷ []) all-cleared
+unfolding workOf refusalOfLists refusalOfLabels groups refusalAlong refusalOf fitAlong naturals neg le eq refusalTo fitTo settle step keys keyOf leastOf costBelow absOf total startOf estimates roundedOf sumOf foldFrom pairsOf ofBits ofInt add sub mul div lt isNan
+chapter-on-time = record { answer = refl; output = refl; workspace = refl }
+
+-- 2.5, 2.6, 2.7 and 7.5: the second and the third have no room, so their totals are 4 and 5; the fourth's is right again, 8
+pub chapter-right-again : AlignSays means varis 1 (halves 5 ∷ ofBits binary64 0x4004_cccc_cccc_cccd ∷ ofBits binary64 0x4005_9999_9999_999a ∷ halves 15 ∷ []) output workspace (align.Done 4 0) (3 ∷ 1 ∷ 1 ∷ 3 ∷ 7 ∷ []) all-cleared
+unfolding workOf refusalOfLists refusalOfLabels groups refusalAlong refusalOf fitAlong naturals neg le eq refusalTo fitTo settle step keys keyOf leastOf costBelow absOf total startOf estimates roundedOf sumOf foldFrom pairsOf ofBits ofInt add sub mul div lt isNan
+chapter-right-again = record { answer = refl; output = refl; workspace = refl }
+
+-- an end rounded: 2.5 goes up, the float below it down, and -0 is 0; a tie is as far as the claim allows
+pub end-rounded : (endRounded (halves 5) ≡ 3) × (endRounded (ofBits binary64 0x4003_ffff_ffff_ffff) ≡ 2) × (endRounded minus-zero ≡ 0) × (2 * gap (3 * 2) 5 ≡ 2)
+unfolding nearestHalf ofBits
+end-rounded = (refl, refl, refl, refl)
+
+-- 6.5 less 2 ^ -80, which no f64 is: 5 frames are taken off it with an error, and the total is 7, where 6 is the nearest
+abbrev near-tie : Float
+near-tie = fin false (13 * 2 ^ 79 - 1) (negsuc 79)
+
+pub beyond-f64 : AlignSays two-three one-one 1 (number 5 ∷ near-tie ∷ []) sevens nines (align.Done 2 0) (5 ∷ 2 ∷ 7 ∷ []) cleared × (endRounded near-tie ≡ 6)
+unfolding workOf refusalOfLists refusalOfLabels groups refusalAlong refusalOf fitAlong naturals neg le eq refusalTo fitTo settle step keys keyOf leastOf costBelow absOf total startOf estimates roundedOf sumOf foldFrom pairsOf ofBits ofInt add sub mul div lt isNan nearestHalf
+beyond-f64 = (record { answer = refl; output = refl; workspace = refl }, refl)
+
+-- labels of two states with the ends 8, open, open and 20: the last closes the six states of three labels
+abbrev open-between : List Float
+open-between = number 8 ∷ unset ∷ nan ∷ number 20 ∷ []
+
+pub closed-states : (closedBefore 2 open-between 0 ≡ 0) × (closedBefore 2 open-between 1 ≡ 2) × (closedBefore 2 open-between 3 ≡ 2) × (groupStates 2 open-between 3 ≡ 6) × (closedBefore 2 open-between 4 ≡ 8)
+unfolding closedBefore le neg ofInt ofBits
+closed-states = (refl, refl, refl, refl, refl)
+
+-- what the statement shuts out: lengths that are rounded one by one, 2 and 2 for 2.4 and 4.8
+pub naive-drifts : NoDrift 1 (ofBits binary64 0x4003_3333_3333_3333 ∷ ofBits binary64 0x4013_3333_3333_3333 ∷ []) (2 ∷ 2 ∷ []) → ⊥
+unfolding closedBefore le ofBits nearestHalf total
+naive-drifts d = let r : _≡_ {A = ℕ} 4 5 = d 1 (omega arith) refl .larger in omega arith
+
+-- lateness that is carried on: the totals 8, 10 and 21 for 8, 4 and 20
+pub lateness-carried : NoDrift 2 (number 8 ∷ number 4 ∷ number 20 ∷ []) (4 ∷ 4 ∷ 1 ∷ 1 ∷ 5 ∷ 6 ∷ []) → ⊥
+unfolding closedBefore le ofInt ofBits nearestHalf total
+lateness-carried d = let r : _≡_ {A = ℕ} 21 20 = d 2 (omega arith) refl .larger in omega arith
+
+-- a half that goes down
+pub half-down : NoDrift 1 (halves 5 ∷ []) (2 ∷ []) → ⊥
+unfolding closedBefore le ofBits nearestHalf total
+half-down d = let r : _≡_ {A = ℕ} 2 3 = d 0 (omega arith) refl .larger in omega arith
 
 -- ---- the tail
 

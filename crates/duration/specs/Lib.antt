@@ -3,6 +3,7 @@ pub mod Estimate  -- a state's estimate
 pub mod Fit  -- the fit to a length
 pub mod Speed  -- the fit at a speed
 pub mod Align  -- the fit to given ends
+pub mod Drift  -- where the running total stands at given ends
 pub mod Promise  -- what the three calls promise
 pub mod Fitting  -- the theorem of the fit
 pub mod Inputs  -- what worked cases are called with

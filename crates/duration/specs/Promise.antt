@@ -17,6 +17,7 @@ use Rattle.lists.specs.Refusals.{orElse}
 use Rattle.lists.specs.Answers.{Answer, accepting, refusing, answerOf, written}
 use Rattle.duration.specs.Speed.{fitAt, refusalAt}
 use Rattle.duration.specs.Align.{groups, fitAlong, refusalAlong}
+use Rattle.duration.specs.Drift.{NoDrift}
 
 -- of a fit or a speed: the unit changes
 abbrev pub fitted : Fitted → Answer
@@ -66,9 +67,15 @@ SpeedSays ms vs speed out work r =
     let o = fitAt ms vs speed in
     Says (orElse (refusalOfLists (length ms) (length vs) (length out) (length work)) (refusalAt ms vs speed)) (o .changes ∷ []) (o .durations) (length ms) out work (fitted r)
 
--- `create_with_alignment`: one duration a state
+-- an alignment: one duration a state
 abbrev pub AlignSays : List Float → List Float → ℕ → List Float → List ℕ → List ℕ → Aligned → List ℕ → List ℕ → Type 0
 AlignSays ms vs nstate ends out work r =
     let gs = groups nstate 0 0 ends in
     let o = fitAlong ms vs gs 0 in
     Says (orElse (refusalOfLabels nstate (length ends) (length ms) (length vs) (length out) (length work)) (refusalAlong ms vs gs 0)) (length ms ∷ o .changes ∷ []) (o .durations) (length ms) out work (aligned r)
+
+-- `create_with_alignment`: and no call that is accepted drifts, since every end is an f64, off which the frames so far are taken with no error
+-- where it is not below them
+pub record AlignOnTime (ms vs : List Float) (nstate : ℕ) (ends : List Float) (out work : List ℕ) (r : Aligned) (out′ work′ : List ℕ) : Type 0 where
+  pub says : AlignSays ms vs nstate ends out work r out′ work′
+  pub on-time : aligned r .number ≡ 0 → NoDrift nstate ends out′

@@ -1,7 +1,7 @@
 // The durations of states: fitted to a length, to a speed, or to given ends.
 ghost use mathlib.Core.Path.{_≡_};
 ghost use Rattle.duration.specs.Inner.Asked.{HandsOut};
-ghost use Rattle.duration.specs.Promise.{fitted, refusalOfLists, refusalOfLabels, FitSays, SpeedSays, AlignSays};
+ghost use Rattle.duration.specs.Promise.{fitted, refusalOfLists, refusalOfLabels, FitSays, SpeedSays, AlignOnTime};
 
 mod align;
 mod fit;
@@ -133,7 +133,7 @@ pub fn create_with_alignment(
     out: &mut [u32],
     work: &mut [u32],
 ) -> Aligned
-    ensures { λ r. ⌜ AlignSays (now (means .entry)) (now (varis .entry)) nstate (now (ends .entry)) (now (out .entry)) (now (work .entry)) r (now (out .exit)) (now (work .exit)) ⌝ }
+    ensures { λ r. ⌜ AlignOnTime (now (means .entry)) (now (varis .entry)) nstate (now (ends .entry)) (now (out .entry)) (now (work .entry)) r (now (out .exit)) (now (work .exit)) ⌝ }
 {
     let n = means.len();
     let width = nstate as usize;

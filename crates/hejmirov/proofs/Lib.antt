@@ -2,6 +2,7 @@
 pub mod One
 pub mod Rendering
 pub mod Timing
+pub mod Drift
 pub mod Telling
 pub mod Old
 pub mod Keeping

@@ -34,7 +34,7 @@ ready s widths coefs records gv switches out work marks n frames r =
 module _ (ms vs : List Float) (nstate : ℕ) (ends : List Float) (out work : List ℕ) (written changes : ℕ) (out′ work′ : List ℕ) (written′ changes′ : ℕ)
     (a : AlignCallSays ms vs nstate ends out work written changes 0 out′ work′ written′ changes′) where
   accepted : AcceptedAlong ms vs (groups nstate 0 0 ends) out (a .answer) out′
-  accepted = align-theorem ms vs nstate ends out work (a .answer) out′ work′ (sym (a .gives .answers)) (a .says)
+  accepted = align-theorem ms vs nstate ends out work (a .answer) out′ work′ (sym (a .gives .answers)) (a .says .says)
 
   -- as many durations as states
   pub align-written : written′ ≡ length ms

@@ -16,7 +16,7 @@ module _ (ms vs : List Float) (nstate : ℕ) (ends : List Float) (out work : Lis
     (a : AlignCallSays ms vs nstate ends out work written changes 0 out′ work′ written′ changes′) where
   pub align-timed : (words : List ℕ) → length words ≤ mostWords → total words ≡ length ends → timingRefusal words nstate (take written′ out′) ≡ 0
   align-timed words few labels =
-      let l = align-labels ms vs nstate ends out work (a .answer) out′ work′ (sym (a .gives .answers)) (a .says) in
+      let l = align-labels ms vs nstate ends out work (a .answer) out′ work′ (sym (a .gives .answers)) (a .says .says) in
       let d = align-durations ms vs nstate ends out work written changes out′ work′ written′ changes′ a in
       let cover : total words * nstate ≡ length (take written′ out′) = ap (λ (n : ℕ). n * nstate) labels ∙ l .cover ∙ sym (d .0) in
       timed-0 words nstate (take written′ out′) (l .some) (record { few = few; narrow = l .narrow; agree = cover; states = d .1; short = d .2 })

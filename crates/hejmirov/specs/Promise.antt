@@ -7,7 +7,7 @@ use lib.Dec.{eqb}
 use lib.ListN.{getD}
 use lib.Ieee.{Float}
 use Rattle.lists.specs.Answers.{Answer}
-use Rattle.duration.specs.Promise.{fitted, aligned, FitSays, SpeedSays, AlignSays}
+use Rattle.duration.specs.Promise.{fitted, aligned, FitSays, SpeedSays, AlignOnTime}
 use Rattle.duration.specs.declared.Fitted.{Fitted}
 use Rattle.duration.specs.declared.Aligned.{Aligned}
 use Rattle.lists.specs.Ends.{filled}
@@ -70,7 +70,7 @@ pub record SpeedCallSays (ms vs : List Float) (speed : Float) (out work : List �
 -- `hejmirov_align`
 pub record AlignCallSays (ms vs : List Float) (nstate : ℕ) (ends : List Float) (out work : List ℕ) (written changes r : ℕ) (out′ work′ : List ℕ) (written′ changes′ : ℕ) : Type 0 where
   pub answer : Aligned
-  pub says : AlignSays ms vs nstate ends out work answer out′ work′
+  pub says : AlignOnTime ms vs nstate ends out work answer out′ work′
   pub gives : HandsTwo (aligned answer) written changes r written′ changes′
 
 -- `hejmirov_mask`

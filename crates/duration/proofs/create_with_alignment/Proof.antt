@@ -6,11 +6,13 @@ use native.Mathlib.Omega.{arith}
 use borrow.Author.Needs.{needs}
 use lib.ListN.{length}
 use lib.Seq.{length-take-le}
+use Rattle.floats.specs.Numbers.{Held}
 use Rattle.duration.specs.Promise.{fitted, refusalOfLabels, Says}
 use Rattle.duration.specs.Align.{groups, fitAlong, refusalAlong}
 use Rattle.duration.proofs.Refusals.{Labels, Fitting, labelled, labels-early}
 use Rattle.duration.proofs.Closing.{along-clears}
 use Rattle.duration.proofs.Calls.{says-early, says-handed, aligned-done, aligned-refused}
+use Rattle.duration.proofs.Drift.{on-time-kept}
 use Rattle.duration.proofs.create_with_alignment.Statement.{statement}
 use Rattle.duration.proofs.create_with_alignment.Tie as tie
 
@@ -25,6 +27,10 @@ module _ (c : tie.Else1) where
   lists : Labels (entry .args .nstate) (length (entry .args .ends .now)) (length (entry .args .means .now)) × Fitting (length (entry .args .means .now)) (length (entry .args .varis .now)) (length (entry .args .out .now)) (length (entry .args .work .now))
   lists = labelled _ _ _ _ _ _ none
 
+-- what lending a list of `f64` tells: the format holds each
+held : (c : tie.After-shared-slice-known3) → Held (c .before .before .before .args .ends .now)
+held c i = c .shared-slice-known3 .given i
+
 -- the front of the work space, as the alignment leaves it
 module _ (c : tie.After-fit-along) where
   abbrev W : List ℕ
@@ -36,7 +42,7 @@ module _ (c : tie.After-fit-along) where
 returns : tie.Need-returns
 returns c =
     let e = c .before .refusal-of-labels .ensures in
-    rw (← e) (says-early _ _ _ _ _ _ _ (c .if1 .taken) (subst (λ (k : ℕ). k ≤ 6) (sym e) (labels-early _ _ _ _ _ _)))
+    on-time-kept _ _ _ _ _ _ _ _ _ (held (c .before .before .before .before)) (rw (← e) (says-early _ _ _ _ _ _ _ (c .if1 .taken) (subst (λ (k : ℕ). k ≤ 6) (sym e) (labels-early _ _ _ _ _ _))))
 
 slice-relend-prefix-fit-along : tie.Need-slice-relend-prefix-fit-along
 slice-relend-prefix-fit-along c = lists c .1 .workspace
@@ -57,18 +63,21 @@ module _ (c : tie.After-hand-out) where
   says : let a = entry (run .before .before) .args in let gs = groups (a .nstate) 0 0 (a .ends .now) in let o = fitAlong (a .means .now) (a .varis .now) gs 0 in Says (refusalAlong (a .means .now) (a .varis .now) gs 0) (o .changes ∷ []) (o .durations) (length (a .means .now)) (a .out .now) (a .work .now) (fitted (c .hand-out .result)) (c .hand-out .last .1 .1 .0) (c .hand-out .last .1 .1 .1 .0)
   says = says-handed _ _ _ _ _ (W run) (W-length run) (along-clears _ _ _ _) _ _ _ _ _ (run .fit-along .ensures .answer) (run .fit-along .ensures .output) (lists (run .before .before) .1 .output) (c .hand-out .ensures)
 
+  ends-held : Held (entry (run .before .before) .args .ends .now)
+  ends-held = held (run .before .before .before .before .before .before)
+
 cast-t25 : tie.Need-cast-t25
 cast-t25 c = omega (arith, lists (run (c .before .before .before .before .before .before .before) .before .before) .1 .few)
 
 returns-2 : tie.Need-returns-2
 returns-2 c =
     let h = c .before .before .before .before .before .before .before in
-    rw (none (run h .before .before)) (aligned-refused _ _ _ _ _ _ _ _ _ (says h) _ _ (c .before .enum-told .given .1) (c .number .ensures))
+    on-time-kept _ _ _ _ _ _ _ _ _ (ends-held h) (rw (none (run h .before .before)) (aligned-refused _ _ _ _ _ _ _ _ _ (says h) _ _ (c .before .enum-told .given .1) (c .number .ensures)))
 
 returns-3 : tie.Need-returns-3
 returns-3 c =
     let h = c .before .before .before .before .before .before .before in
-    rw (none (run h .before .before)) (aligned-done _ _ _ _ _ _ _ _ _ (says h) _ (c .before .answer .given .1))
+    on-time-kept _ _ _ _ _ _ _ _ _ (ends-held h) (rw (none (run h .before .before)) (aligned-done _ _ _ _ _ _ _ _ _ (says h) _ (c .before .answer .given .1)))
 
 pub create-with-alignment-spec : {M : Type 1} → statement M
 create-with-alignment-spec =

@@ -1,0 +1,100 @@
+-- What no drift comes to over many labels.
+use mathlib.Core.Path.{_≡_, refl, sym, ap, _∙_}
+use mathlib.Core.Bool.{true, false, cond}
+use mathlib.Core.List.{List, [], _∷_, _++_, append-assoc}
+use Prim.Native.Nat.{ℕ, zero, suc, _+_, _-_, _*_, _^_, _≤_, _<_, max}
+use native.Mathlib.Nat.{le-of-lt, lt-of-le-of-lt, lt-of-mul-lt-mul-right, zero-mul}
+use native.Mathlib.Omega.{arith}
+use lib.Dec.{T}
+use lib.ListN.{length, getD, drop}
+use lib.Ieee.{Float, nan, binary64, fits, ofBits, le}
+use lib.Ieee.Positive.{num, den, den-pos, value→cross}
+use Rattle.lists.specs.Totals.{gap}
+use Rattle.floats.specs.Rounding.{nearestHalf}
+use Rattle.floats.specs.Numbers.{nought, number}
+use Rattle.floats.proofs.Differences.{number-value, exact-less}
+use Rattle.floats.proofs.Halves.{half-same, half-less, half-few}
+use Rattle.duration.specs.Align.{Group, given, groups, targetOf}
+use Rattle.duration.specs.Drift.{Fraction, HalvesUp, endRounded, OnTime, closedBefore, upTo, framesBefore, groupStates, totalAt, NoDrift, Stands, PartEnd}
+use Rattle.duration.specs.Drift.PartEnd.{ahead, behind}
+use Rattle.duration.proofs.Drift.{groups-given, groups-open}
+
+-- ---- the group that a label closes is one of the alignment's
+
+module _ (k : ℕ) (ends : List Float) where
+  -- those before label i, and those from there on
+  groups-split : (i : ℕ) → i ≤ length ends → (front : List Group) × (groups k 0 0 ends ≡ front ++ groups k (closedBefore k ends i) (i * k) (drop i ends))
+  unfolding closedBefore
+  groups-split zero h = ([], rw (zero-mul k))
+  groups-split (suc i) h =
+      (elim (le nought (getD ends i nan)) as (λ s. le nought (getD ends i nan) ≡ s → (front : List Group) × (groups k 0 0 ends ≡ front ++ groups k (cond s (suc i * k) (closedBefore k ends i)) (suc i * k) (drop (suc i) ends))) [
+        | true ↦ λ at.
+            let w = groups-split i (omega arith) in
+            let g : Group = given (closedBefore k ends i) (suc i * k) (getD ends i nan) in
+            (w .0 ++ (g ∷ []), w .1 ∙ ap (λ (l : List Group). w .0 ++ l) (groups-given k ends i (closedBefore k ends i) h at) ∙ sym (append-assoc (w .0) (g ∷ []) _))
+        | false ↦ λ at. (let w = groups-split i (omega arith) in (w .0, w .1 ∙ ap (λ (l : List Group). w .0 ++ l) (groups-open k ends i (closedBefore k ends i) h at)))
+      ])
+      refl
+
+  pub label-group : (i : ℕ) → i < length ends → le nought (getD ends i nan) ≡ true → Stands (given (closedBefore k ends i) (suc i * k) (getD ends i nan)) (groups k 0 0 ends)
+  label-group i h at =
+      let w = groups-split i (omega arith) in
+      record { front = w .0; rest = groups k (suc i * k) (suc i * k) (drop (suc i) ends); is = w .1 ∙ ap (λ (l : List Group). w .0 ++ l) (groups-given k ends i (closedBefore k ends i) h at) }
+
+-- ---- many labels
+
+module _ (k : ℕ) (ends : List Float) (ds : List ℕ) (o : NoDrift k ends ds) where
+  -- With room at a label, twice the distance of its end, as a fraction, and the total is at most 1.
+  pub half-a-frame : (i : ℕ) → i < length ends → le nought (getD ends i nan) ≡ true → groupStates k ends i < targetOf (getD ends i nan) (framesBefore k ends ds i)
+      → (a : ℕ) × ((c : ℕ) × (Fraction (getD ends i nan) a c × (2 * gap (totalAt k ds i * c) a ≤ c)))
+  half-a-frame i h at b = let r = o i h at .right b in (num (getD ends i nan), (den (getD ends i nan), (r .fraction, r .near _ _ (r .fraction))))
+
+  -- Room, over whole numbers.
+  pub right-with-room : (i : ℕ) → i < length ends → le nought (getD ends i nan) ≡ true → framesBefore k ends ds i + groupStates k ends i < endRounded (getD ends i nan) → HalvesUp (getD ends i nan) (totalAt k ds i)
+  right-with-room i h at b = let w = o i h at in w .right (w .room .1 b)
+
+  -- Without room at a label the total is exactly that before its group and one frame a state; and at any later label with room it is right again.
+  pub right-again : (i j : ℕ) → i < j → j < length ends → le nought (getD ends i nan) ≡ true → le nought (getD ends j nan) ≡ true
+      → targetOf (getD ends i nan) (framesBefore k ends ds i) ≤ groupStates k ends i
+      → groupStates k ends j < targetOf (getD ends j nan) (framesBefore k ends ds j)
+      → (totalAt k ds i ≡ framesBefore k ends ds i + groupStates k ends i) × HalvesUp (getD ends j nan) (totalAt k ds j)
+  right-again i j l h p q a b = (o i (omega arith) p .short a, o j h q .right b)
+
+-- However labels are fitted: any durations without drift, over the same ends, have the same totals there.
+module _ (k : ℕ) (ends : List Float) (ds es : List ℕ) (o : NoDrift k ends ds) (p : NoDrift k ends es) where
+  next-same : (i : ℕ) → i < length ends → le nought (getD ends i nan) ≡ true → framesBefore k ends ds i ≡ framesBefore k ends es i → totalAt k ds i ≡ totalAt k es i
+  next-same i h at e = o i h at .larger ∙ ap (λ (n : ℕ). max (endRounded (getD ends i nan)) (n + groupStates k ends i)) e ∙ sym (p i h at .larger)
+
+  before-same : (i : ℕ) → i ≤ length ends → framesBefore k ends ds i ≡ framesBefore k ends es i
+  unfolding closedBefore
+  before-same zero h = refl
+  before-same (suc i) h =
+      (elim (le nought (getD ends i nan)) as (λ s. le nought (getD ends i nan) ≡ s → upTo (cond s (suc i * k) (closedBefore k ends i)) ds ≡ upTo (cond s (suc i * k) (closedBefore k ends i)) es) [
+        | true ↦ λ at. next-same i h at (before-same i (omega arith))
+        | false ↦ λ at. before-same i (omega arith)
+      ])
+      refl
+
+  pub totals-same : (i : ℕ) → i < length ends → le nought (getD ends i nan) ≡ true → totalAt k ds i ≡ totalAt k es i
+  totals-same i h at = next-same i h at (before-same i (omega arith))
+
+-- ---- a chapter in parts
+
+nought-rounded : endRounded nought ≡ 0
+unfolding ofBits nearestHalf
+nought-rounded = refl
+
+-- it is rounded to what is left of the chapter's
+left-of : (x y : Float) (frames : ℕ) → T (fits binary64 x) → PartEnd x frames y → endRounded y ≡ endRounded x - frames
+left-of x y frames held (ahead a c q small under) =
+    let C = q .some in
+    let few : frames ≤ 2 ^ 53 = le-of-lt (lt-of-mul-lt-mul-right c (lt-of-le-of-lt under small)) in
+    let v = exact-less x (number frames) a c frames held C (q .is) (number-value frames few) small under in
+    half-same (num y) (den y) (a - frames * c) c (den-pos y) C (value→cross y (a - frames * c) c v)
+    ∙ half-less a c frames C under
+    ∙ ap (λ (n : ℕ). n - frames) (half-same a c (num x) (den x) C (den-pos x) (sym (value→cross x a c (q .is))))
+left-of x y frames held (behind h) = omega (arith, nought-rounded, half-few frames (num x) (den x) (den-pos x) (le-of-lt h))
+
+-- A total that is on time in a part is, with the frames of all parts before it, what it would be in the whole chapter.
+pub part-total : (x y : Float) (frames before count reached : ℕ) → T (fits binary64 x) → PartEnd x frames y → OnTime y before count reached → frames + reached ≡ max (endRounded x) (frames + before + count)
+part-total x y frames before count reached held e o = omega (arith, left-of x y frames held e, o .larger)

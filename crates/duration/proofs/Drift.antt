@@ -1,0 +1,142 @@
+-- No drift: at each given end of an alignment that is accepted the running total is the end rounded, or one frame a state more than before its group, whatever came before.
+use mathlib.Core.Path.{_≡_, refl, sym, ap, _∙_, subst}
+use mathlib.Core.Bool.{true, false, cond}
+use mathlib.Core.List.{List, _∷_, _++_}
+use Prim.Native.Nat.{ℕ, zero, suc, _+_, _-_, _*_, _≤_, _<_}
+use native.Mathlib.Nat.{le-trans, zero-mul, mul-one, suc-mul, mul-le-mul-right}
+use native.Mathlib.Omega.{arith}
+use lib.ListN.{length, getD, drop}
+use lib.Seq.{drop-cons, drop-drop, take-at, drop-at, take-append-le}
+use lib.Ieee.{Float, nan, le}
+use borrow.Rule.Slice.PartMut.{mid-len}
+use Rattle.lists.specs.Sizes.{mostFrames}
+use Rattle.lists.specs.Totals.{total}
+use Rattle.lists.proofs.Sums.{total-part, total-front, total-same}
+use Rattle.floats.specs.Numbers.{nought, Held}
+use Rattle.steps.specs.Steps.{shortest, Outcome}
+use Rattle.duration.specs.declared.Aligned.{Aligned}
+use Rattle.duration.specs.Align.{Group, given, groups, within}
+use Rattle.duration.specs.Drift.{OnTime, closedBefore, upTo, NoDrift}
+use Rattle.duration.specs.Fitting.{FairGroup, FairAlong, AcceptedAlong}
+use Rattle.duration.specs.Fitting.FairAlong.{next}
+use Rattle.duration.specs.Promise.{aligned, AlignSays, AlignOnTime}
+use Rattle.duration.proofs.Refusals.{Labels}
+use Rattle.duration.proofs.Aligning.{align-labels, align-theorem}
+use Rattle.duration.proofs.OnTime.{on-time}
+
+-- the first group of those that are fair
+record Opened (ms vs : List Float) (g : Group) (gs : List Group) (frames : ℕ) (ds : List ℕ) : Type 0 where
+  own : List ℕ
+  rest : List ℕ
+  changes : ℕ
+  later : ℕ
+  is : ds ≡ own ++ rest
+  group : FairGroup ms vs g frames (record { durations = own; changes = changes })
+  after : FairAlong ms vs gs (frames + total own) rest later
+
+opened : {ms vs : List Float} {g : Group} {gs : List Group} {frames c : ℕ} {ds : List ℕ} → FairAlong ms vs (g ∷ gs) frames ds c → Opened ms vs g gs frames ds
+opened (next f a) = record { own = _; rest = _; changes = _; later = _; is = refl; group = f; after = a }
+
+-- no more states are closed than labels have come
+closed-most : (k : ℕ) (ends : List Float) (i : ℕ) → closedBefore k ends i ≤ i * k
+unfolding closedBefore
+closed-most k ends zero = omega arith
+closed-most k ends (suc i) = elim (le nought (getD ends i nan)) as (λ s. cond s (suc i * k) (closedBefore k ends i) ≤ suc i * k) [ true ↦ omega arith | false ↦ omega (arith, closed-most k ends i, suc-mul i k) ]
+
+-- the groups from label i on
+module _ (k : ℕ) (ends : List Float) (i done : ℕ) (here : i < length ends) where
+  pub groups-given : le nought (getD ends i nan) ≡ true → groups k done (i * k) (drop i ends) ≡ given done (suc i * k) (getD ends i nan) ∷ groups k (suc i * k) (suc i * k) (drop (suc i) ends)
+  unfolding groups
+  groups-given at = rw (drop-cons ends i nan here, at, suc-mul i k)
+
+  pub groups-open : le nought (getD ends i nan) ≡ false → groups k done (i * k) (drop i ends) ≡ groups k done (suc i * k) (drop (suc i) ends)
+  unfolding groups
+  groups-open at = rw (drop-cons ends i nan here, at, suc-mul i k)
+
+module _ (ms vs : List Float) (k : ℕ) (ends : List Float) (ds : List ℕ) (some : 1 ≤ k) (cover : length ends * k ≡ length ms) (few : total ds ≤ mostFrames) (held : Held ends) where
+  -- the groups from label i on are fair, after the states before `done`
+  record FairFrom (i done : ℕ) : Type 0 where
+    changes : ℕ
+    fair : FairAlong ms vs (groups k done (i * k) (drop i ends)) (upTo done ds) (drop done ds) changes
+
+  -- a label with an end
+  module _ (i done : ℕ) (here : i < length ends) (at : le nought (getD ends i nan) ≡ true) (early : done ≤ i * k) (w : FairFrom i done) where
+    abbrev x : Float
+    x = getD ends i nan
+
+    abbrev g : Group
+    g = given done (suc i * k) x
+
+    first : Opened ms vs g (groups k (suc i * k) (suc i * k) (drop (suc i) ends)) (upTo done ds) (drop done ds)
+    first = opened (subst (λ (gs : List Group). FairAlong ms vs gs (upTo done ds) (drop done ds) (w .changes)) (groups-given k ends i done here at) (w .fair))
+
+    within-states : suc i * k ≤ length ms
+    within-states = rw (← cover) (mul-le-mul-right k here)
+
+    states : length (within g ms) ≡ suc i * k - done
+    states = mid-len done (suc i * k) ms within-states
+
+    own-length : length (first .own) ≡ suc i * k - done
+    own-length = first .group .count ∙ states
+
+    join : done + (suc i * k - done) ≡ suc i * k
+    join = omega (arith, suc-mul i k)
+
+    total-here : upTo (suc i * k) ds ≡ upTo done ds + total (first .own)
+    total-here = ap (λ (n : ℕ). upTo n ds) (sym join) ∙ total-part ds done (suc i * k - done) ∙ rw (first .is, take-at (first .own) (first .rest) (suc i * k - done) own-length)
+
+    rest-here : drop (suc i * k) ds ≡ first .rest
+    rest-here = ap (λ (n : ℕ). drop n ds) (sym join) ∙ sym (drop-drop (suc i * k - done) done ds) ∙ rw (first .is, drop-at (first .own) (first .rest) (suc i * k - done) own-length)
+
+    fair-next : FairFrom (suc i) (suc i * k)
+    fair-next = record { changes = first .later; fair = rw (total-here, rest-here) (first .after) }
+
+    on-time-here : OnTime x (upTo done ds) (suc i * k - done) (upTo (suc i * k) ds)
+    on-time-here =
+        subst (λ (n : ℕ). OnTime x (upTo done ds) (suc i * k - done) n) (sym total-here)
+        (on-time x (upTo done ds) (suc i * k - done) (total (first .own)) (held i) at
+        (le-trans (rw (← total-here) (total-front ds (suc i * k))) few)
+        (omega (arith, suc-mul i k))
+        (λ h. first .group .by-end .above (rw states h) .sum)
+        (λ h. ap (λ (o : Outcome). total (o .durations)) (first .group .by-end .otherwise (rw states h)) ∙ total-same (length (within g ms)) shortest ∙ mul-one (length (within g ms)) ∙ states))
+
+  module _ (c : ℕ) (f : FairAlong ms vs (groups k 0 0 ends) 0 ds c) where
+    fair-from : (i : ℕ) → i ≤ length ends → FairFrom i (closedBefore k ends i)
+    unfolding closedBefore total
+    fair-from zero h = record { changes = c; fair = rw (zero-mul k) f }
+    fair-from (suc i) h =
+        (elim (le nought (getD ends i nan)) as (λ s. le nought (getD ends i nan) ≡ s → FairFrom (suc i) (cond s (suc i * k) (closedBefore k ends i))) [
+          | true ↦ λ at. fair-next i (closedBefore k ends i) h at (closed-most k ends i) (fair-from i (omega arith))
+          | false ↦ λ at. (let w = fair-from i (omega arith) in record { changes = w .changes; fair = rw (← groups-open k ends i (closedBefore k ends i) h at) (w .fair) })
+        ])
+        refl
+
+    no-drift-of : NoDrift k ends ds
+    no-drift-of i h at = on-time-here i (closedBefore k ends i) h at (closed-most k ends i) (fair-from i (omega arith))
+
+-- the same of a list that begins with them
+upTo-front : (n : ℕ) (ds rest : List ℕ) → n ≤ length ds → upTo n (ds ++ rest) ≡ upTo n ds
+upTo-front n ds rest h = ap total (take-append-le n ds rest h)
+
+-- The theorem, of every outcome that an alignment's promise allows with an accepted answer
+module _ (ms vs : List Float) (nstate : ℕ) (ends : List Float) (out work : List ℕ) (r : Aligned) (out′ work′ : List ℕ) (held : Held ends) (z : aligned r .number ≡ 0) (f : AlignSays ms vs nstate ends out work r out′ work′) where
+  labels : Labels nstate (length ends) (length ms)
+  labels = align-labels ms vs nstate ends out work r out′ work′ z f
+
+  fair : AcceptedAlong ms vs (groups nstate 0 0 ends) out r out′
+  fair = align-theorem ms vs nstate ends out work r out′ work′ z f
+
+  same-total : (n : ℕ) → n ≤ length ms → upTo n out′ ≡ upTo n (fair .outcome .durations)
+  same-total n h = ap (upTo n) (fair .output) ∙ upTo-front n (fair .outcome .durations) (drop (length ms) out) (rw (fair .count) h)
+
+  pub no-drift : NoDrift nstate ends out′
+  no-drift i h at =
+      let ds = fair .outcome .durations in
+      let o = no-drift-of ms vs nstate ends ds (labels .some) (labels .cover) (fair .frames) held (fair .outcome .changes) (fair .fair) i h at in
+      let n : suc i * nstate ≤ length ms = rw (← labels .cover) (mul-le-mul-right nstate h) in
+      let d : closedBefore nstate ends i ≤ length ms = omega (arith, closed-most nstate ends i, suc-mul i nstate) in
+      rw (same-total (closedBefore nstate ends i) d, same-total (suc i * nstate) n) o
+
+-- so what the call promises, with ends that were lent as f64
+pub on-time-kept : (ms vs : List Float) (nstate : ℕ) (ends : List Float) (out work : List ℕ) (r : Aligned) (out′ work′ : List ℕ) → Held ends → AlignSays ms vs nstate ends out work r out′ work′ → AlignOnTime ms vs nstate ends out work r out′ work′
+on-time-kept ms vs nstate ends out work r out′ work′ held f = record { says = f; on-time = λ z. no-drift ms vs nstate ends out work r out′ work′ held z f }
