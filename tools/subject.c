@@ -113,7 +113,8 @@ enum {
     STORE,
     SETTINGS_FILE,
     SPOKEN_WORDS,
-    TIMING_FILE
+    TIMING_FILE,
+    CHAPTER
 };
 enum { ANSWERED = 0, NO_SUCH_CALL = 3, STRAYED = 4, PARTED = 5, LOST = 6, MISTIMED = 7 };
 
@@ -791,7 +792,8 @@ static bool there(uint8_t kind) {
     switch (kind) {
     case FIT: return hejmirov_fit;
     case SPEED: return hejmirov_speed;
-    case ALIGN: return hejmirov_align;
+    case ALIGN:
+    case CHAPTER: return hejmirov_align;
     case MASK: return hejmirov_mask;
     case BAND: return hejmirov_band_rows;
     case TRAJECTORY: return hejmirov_trajectory;
@@ -818,7 +820,8 @@ static void run(uint8_t kind) {
     switch (kind) {
     case FIT:
     case SPEED: run_fit(kind); break;
-    case ALIGN: run_align(); break;
+    case ALIGN:
+    case CHAPTER: run_align(); break;
     case MASK: run_mask(); break;
     case BAND: run_band(); break;
     case TRAJECTORY: run_trajectory(); break;
@@ -936,8 +939,9 @@ static void print_kinds(void) {
                                   [JOB] = "job",     [LINK] = "link",
                                   [OLD_NUMBER] = "old_number",
                                   [STORE] = "store", [SETTINGS_FILE] = "settings_file",
-                                  [SPOKEN_WORDS] = "words", [TIMING_FILE] = "timing_file"};
-    for (uint8_t kind = FIT; kind <= TIMING_FILE; kind++)
+                                  [SPOKEN_WORDS] = "words", [TIMING_FILE] = "timing_file",
+                                  [CHAPTER] = "chapter"};
+    for (uint8_t kind = FIT; kind <= CHAPTER; kind++)
         if (there(kind)) puts(names[kind]);
 }
 

@@ -6,9 +6,9 @@ from collections.abc import Iterable, Iterator
 from dataclasses import dataclass, field
 from itertools import groupby
 
-from . import reading
+from . import drift, reading
 from .domain import Judge, answered, judge_of, oracle_answers, tail_of
-from .formats import KINDS, READ, Case, Fields, decode, encode, encode_case, store_calls
+from .formats import ALIGNMENTS, KINDS, READ, Case, Fields, decode, encode, encode_case, store_calls
 from .programs import ANSWERED, LOST, MISTIMED, PANICKED, PARTED, STRAYED, Program
 from .reading import jobs, links
 from .reading.durations import TooLong
@@ -77,6 +77,8 @@ class Tally:
     refusals: Counter = field(default_factory=Counter)
     # Accepted alignments with a tail, which is not compared with the Rust.
     tails: int = 0
+    # Accepted chapters whose totals were held to the claim.
+    chapters: drift.Held = field(default_factory=drift.Held)
     # Accepted trajectories with clamped pairs, and such pairs in all, each once a voiced frame.
     clamped: int = 0
     high: int = 0
@@ -103,6 +105,8 @@ class Tally:
         line = f"{judged}; refused {numbered(self.refusals)}"
         if self.tails:
             line += f"; {self.tails} tails not compared with the Rust"
+        if self.chapters.chapters:
+            line += f"; {self.chapters}"
         if self.clamped:
             line += f"; {self.clamped} trajectories with clamped pairs, {self.high} high and {self.low} low"
         if any(self.damaged.values()):
@@ -144,7 +148,8 @@ class Comparison:
         answers = [self.read(case) for case in cases]
         found = self.against_oracles(cases, answers)
         self.count(cases, answers)
-        return found + self.against_subject(cases, answers)
+        found += self.against_subject(cases, answers)
+        return found + self.claim_without_calls(cases, answers)
 
     def read(self, case: Case) -> tuple[int, Fields | None]:
         """The reading's answer; the values are None where the Rust judges alone."""
@@ -160,7 +165,7 @@ class Comparison:
                 self.tally.refusals[refusal] += 1
             elif judge_of(case) == Judge.READING:
                 self.tally.judged["the reading alone"] += 1
-            if case.kind == "align" and refusal == 0:
+            if case.kind in ALIGNMENTS and refusal == 0:
                 self.tally.tails += bool(tail_of(case))
             if case.kind == "trajectory" and values:
                 self.tally.clamped += bool(values["high"] or values["low"])
@@ -218,7 +223,7 @@ class Comparison:
                 found.append(Difference(case, oracle.name, values, failure(failed[0])))
                 continue
             schema, got = KINDS[case.kind].values, answered(case, [answer[1:] for answer in given])
-            if case.kind == "align" and got["written"] != len(case["means"]):
+            if case.kind in ALIGNMENTS and got["written"] != len(case["means"]):
                 found.append(Difference(case, oracle.name, values, "does not end at the last given end"))
             elif alone:
                 answers[place] = 0, got
@@ -240,8 +245,29 @@ class Comparison:
             expected = reading.at_exit(case, refusal, values)
             if answer is None or answer[0] != ANSWERED:
                 found.append(Difference(case, self.subject.name, expected, failure(answer)))
-            elif answer[1:] != encode(schema, expected):
+                continue
+            if case.kind == "chapter":
+                left = decode(schema, answer[1:])
+                if left["refusal"] == 0:
+                    found += self.against_claim(case, self.subject.name, left["out"][: len(case["means"])])
+            if answer[1:] != encode(schema, expected):
                 found.append(Difference(case, self.subject.name, expected, decode(schema, answer[1:])))
+        return found
+
+    def against_claim(self, case: Case, whose: str, durations: list[int]) -> list[Difference]:
+        """Holds the totals of an accepted chapter to what is claimed of them."""
+        try:
+            self.tally.chapters.add(drift.held(case["nstate"], case["ends"], durations))
+        except drift.Drift as drifted:
+            return [Difference(case, f"the totals of {whose}", None, str(drifted))]
+        return []
+
+    def claim_without_calls(self, cases: list[Case], answers: Answers) -> list[Difference]:
+        """Chapters that no C call answers: the claim on the reading's answers."""
+        found = []
+        for case, (refusal, values) in zip(cases, answers):
+            if case.kind == "chapter" and case.kind not in self.kinds_there and refusal == 0 and values is not None:
+                found += self.against_claim(case, "the reading", values["durations"])
         return found
 
 

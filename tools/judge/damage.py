@@ -238,6 +238,7 @@ BY_KIND: dict[str, list[Damage]] = {
     "settings_file": [short_room, changed_bytes],
     "words": [*GENERAL, too_many_states, too_many_frames, longer_trajectory, other_words, other_words],
     "timing_file": [short_room, changed_bytes],
+    "chapter": [*GENERAL, too_many_states],
 }
 
 

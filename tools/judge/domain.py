@@ -4,7 +4,7 @@ from collections.abc import Iterator
 from enum import Enum, auto
 from itertools import islice
 
-from .formats import KINDS, Case, Fields, decode, encode_case
+from .formats import ALIGNMENTS, KINDS, Case, Fields, decode, encode_case
 from .programs import Program
 from .reading import ieee, jobs, links
 from .reading.durations import estimate
@@ -17,7 +17,7 @@ class Judge(Enum):
     READING = auto()  # the second reading alone
 
 
-BY_RUST = ("float", "pair", "record", "fit", "speed", "align", "mask", "band", "trajectory", "job", "link")
+BY_RUST = ("float", "pair", "record", "fit", "speed", "align", "mask", "band", "trajectory", "job", "link", "chapter")
 
 
 def drops_nothing(case: Case) -> bool:
@@ -49,11 +49,14 @@ def speed_of(job: bytes) -> Case:
 
 
 def asked(case: Case) -> list[Case]:
-    """What the Rust is asked of an accepted case: mostly the case, of a link each accepted end; NaNs are one."""
+    """What the Rust is asked of an accepted case: mostly the case, of a link each accepted end, of a chapter its alignment;
+    NaNs are one."""
     if case.kind == "job":
         questions = [speed_of(case["bytes"])]
     elif case.kind == "link":
         questions = [speed_of(end.job["bytes"]) for end in links.followed(case).accepted()]
+    elif case.kind == "chapter":
+        questions = [Case("align", case.fields)]
     else:
         questions = [case]
     return [Case(question.kind, ieee.one_nan(question.fields)) for question in questions]
@@ -90,6 +93,6 @@ def answered(case: Case, answers: list[bytes]) -> Fields:
     if case.kind == "link":
         return links.joined([job_answered(answer) for answer in answers])
     (answer,) = answers
-    if case.kind == "align":
+    if case.kind in ALIGNMENTS:
         return align_answered(case, answer)
     return job_answered(answer) if case.kind == "job" else decode(KINDS[case.kind].values, answer)

@@ -14,6 +14,7 @@ class Fault:
     line: str  # stands in the file exactly once
     fault: str
     hidden: str = ""  # why no call can show it, if so
+    drifts: bool = False  # the claim on chapters refuses it by itself, with no answer beside it
 
 
 HALF = "    if abs(x) - whole >= 0.5:  # the difference is exact"
@@ -33,6 +34,11 @@ CLAMPED = '    return {"out": out, "high": clamped.count(pairs.HIGH), "low": cla
 HIGH_LEFT = '        "high": values["high"],'
 NO_CALL = "a pair's operations are no C call; the operations show it"
 TAIL = "    tail = estimate(means[fitted:], varis[fitted:], 0.0)"
+OPEN = "        if not end >= 0:"
+GROUP = "        group = fit(means[first:last], varis[first:last], end - sum(whole.durations))"
+LAST_END = "next((given for given in reversed(ends[:label]) if given >= 0), 0.0)"
+SHORTEST = "        return Fit([1] * len(means), 0)"
+STEPS = "    steps = target - sum(durations)"
 FIELD = "    for place, size, least, most, number in FIELDS:"
 ENDS = "        if len(data) < place + size:"
 WRONG = "            return Damage(number, place)"
@@ -109,11 +115,11 @@ READ_SPANS = '    return {"refusal": 0, "spans": spans_in(data) + marked_u32(2 *
 
 FAULTS = [
     Fault("rounding to even", IEEE, HALF,
-          "    if abs(x) - whole > 0.5 or abs(x) - whole == 0.5 and whole % 2:"),
+          "    if abs(x) - whole > 0.5 or abs(x) - whole == 0.5 and whole % 2:", drifts=True),
     Fault("adding 0.5 and cutting, for rounding", IEEE, HALF,
           "    if math.floor(abs(x) + 0.5) > whole:",
           "it differs at 0.49999999999999994 alone, which is at least 1 after both"),
-    Fault("the half cut off with the rest of the fraction", IEEE, HALF, "    if abs(x) - whole >= 1:"),
+    Fault("the half cut off with the rest of the fraction", IEEE, HALF, "    if abs(x) - whole >= 1:", drifts=True),
     Fault("negative halves rounded up", IEEE, HALF,
           "    if abs(x) - whole >= (0.5 if x > 0 else math.nextafter(0.5, 1)):",
           "negative numbers become 1 after both"),
@@ -190,14 +196,65 @@ FAULTS = [
     Fault("speed's target refused before its estimate", DURATIONS,
           "    durations = estimate(means, varis, 0.0)",
           "    durations = [ieee.frames(mean + 0.0 * vari) for mean, vari in zip(means, varis)]"),
-    Fault("minus zero as open", DURATIONS,
-          "        if not end >= 0:", '        if not end >= 0 or str(end) == "-0.0":'),
-    Fault("NaN end as given", DURATIONS, "        if not end >= 0:", "        if end < 0:"),
-    Fault("groups fitted to the end itself", DURATIONS,
-          "        group = fit(means[first:last], varis[first:last], end - sum(whole.durations))",
-          "        group = fit(means[first:last], varis[first:last], end)"),
+    Fault("minus zero as open", DURATIONS, OPEN, '        if not end >= 0 or str(end) == "-0.0":', drifts=True),
+    Fault("NaN end as given", DURATIONS, OPEN, "        if end < 0:"),
+    Fault("groups fitted to the end itself", DURATIONS, GROUP,
+          "        group = fit(means[first:last], varis[first:last], end)", drifts=True),
     Fault("running total checked at the end alone", DURATIONS,
           "        if sum(whole.durations) > MAX_FRAMES:", "        if False:"),
+    Fault("each label's own length rounded", DURATIONS, GROUP,
+          GROUP.replace("sum(whole.durations)", LAST_END), drifts=True),
+    Fault("each label's own length cut", DURATIONS, GROUP,
+          GROUP.replace("end - sum(whole.durations)", f"(end - {LAST_END}) // 1.0"), drifts=True),
+    Fault("the frames so far by the last end, rounded", DURATIONS, GROUP,
+          GROUP.replace("sum(whole.durations)", f"ieee.nearest({LAST_END})"), drifts=True),
+    Fault("an end rounded, less the last one cut", DURATIONS, GROUP,
+          GROUP.replace("end - sum(whole.durations)", f"ieee.nearest(end) - {LAST_END} // 1.0"), drifts=True),
+    Fault("an end cut", DURATIONS, GROUP, GROUP.replace("end - sum", "end // 1.0 - sum"), drifts=True),
+    Fault("an end rounded up", DURATIONS, GROUP, GROUP.replace("end - sum", "-(-end // 1.0) - sum"), drifts=True),
+    Fault("an end's half rounded down", DURATIONS, GROUP,
+          GROUP.replace("end - sum", "-((0.5 - end) // 1.0) - sum"), drifts=True),
+    Fault("an end's half rounded to even", DURATIONS, GROUP,
+          GROUP.replace("end - sum", "(round(end) if end < 1e9 else end) - sum"), drifts=True),
+    Fault("an end in 32 bits", DURATIONS, GROUP,
+          GROUP.replace("end - sum", "(__import__('ctypes').c_float(end).value) - sum"), drifts=True),
+    Fault("an end cut to whole milliseconds", DURATIONS, GROUP,
+          GROUP.replace("end - sum", "end * 5 // 1.0 / 5 - sum"), drifts=True),
+    Fault("the last group's frames for those so far", DURATIONS, GROUP,
+          GROUP.replace("sum(whole.durations)", "(sum(group.durations) if first else 0)"), drifts=True),
+    Fault("frames so far in 8 bits", DURATIONS, GROUP,
+          GROUP.replace("sum(whole.durations)", "sum(whole.durations) % 2**8"), drifts=True),
+    Fault("a group at its shortest not among the frames so far", DURATIONS, GROUP,
+          GROUP.replace("sum(whole.durations)", "getattr(whole, 'counted', 0)")
+          + "; whole.counted = getattr(whole, 'counted', 0)"
+          " + sum(group.durations) * (sum(group.durations) > len(group.durations))", drifts=True),
+    Fault("a tie's frame not among the frames so far", DURATIONS, GROUP,
+          GROUP.replace("sum(whole.durations)", "getattr(whole, 'counted', 0)")
+          + "; whole.counted = getattr(whole, 'counted', 0) + sum(group.durations) - (end % 1.0 == 0.5)", drifts=True),
+    Fault("open labels a frame a state beside their group", DURATIONS, GROUP,
+          "        own = label * nstate; group = fit(means[own:last], varis[own:last], end - sum(whole.durations));"
+          " group.durations[:0] = [1] * (own - first)", drifts=True),
+    Fault("open labels at their natural length, the label itself fitted to the rest", DURATIONS, GROUP,
+          "        own = label * nstate; open_ones = estimate(means[first:own], varis[first:own], 0.0);"
+          " group = fit(means[own:last], varis[own:last], end - sum(whole.durations) - sum(open_ones));"
+          " group.durations[:0] = open_ones", drifts=True),
+    Fault("open labels a frame a state, the label itself fitted to the rest", DURATIONS, GROUP,
+          "        own = label * nstate; group = fit(means[own:last], varis[own:last], end - sum(whole.durations)"
+          " - (own - first)); group.durations[:0] = [1] * (own - first)"),
+    Fault("an end that goes backward as open", DURATIONS, OPEN,
+          f"        if not end >= {LAST_END}:", drifts=True),
+    Fault("an end with a target at the shortest as open", DURATIONS, OPEN,
+          "        if not end >= 0 or ieee.frames(end - sum(whole.durations)) <= (label + 1) * nstate"
+          " - len(whole.durations):", drifts=True),
+    Fault("a target below the count kept, the last states without frames", DURATIONS, SHORTEST,
+          "        return Fit([1] * target + [0] * (len(means) - target), 0)", drifts=True),
+    Fault("a state's natural length at least, in a group at its shortest", DURATIONS, SHORTEST,
+          "        return Fit(estimate(means, varis, 0.0), 0)", drifts=True),
+    Fault("a step too few upwards", DURATIONS, STEPS,
+          "    steps = target - sum(durations) - (target > sum(durations))", drifts=True),
+    Fault("a step too few downwards", DURATIONS, STEPS,
+          "    steps = target - sum(durations) + (target < sum(durations))", drifts=True),
+    Fault("the start handed out", DURATIONS, STEPS, "    steps = 0", drifts=True),
     Fault("an alignment's tail dropped", DURATIONS, TAIL, "    tail = []"),
     Fault("a tail dropped where no end is given", DURATIONS, TAIL, TAIL + " if fitted else []"),
     Fault("a tail with the last group's rho", DURATIONS, TAIL,

@@ -49,8 +49,11 @@ class Kind:
 WINDOWS = [("widths", "u32s"), ("coefficients", "f64s")]
 PAIRS = [("means", "f64s"), ("varis", "f64s")]
 FIT_ROOM = [("out", ROOM), ("work", ROOM)]
+ALIGNED = [*PAIRS, ("nstate", "u32"), ("ends", "f64s"), *FIT_ROOM]
+ALIGNED_VALUES = [("written", "u32"), ("changes", "u32"), ("durations", "u32s")]
 FIT_EXIT = [("out", "u32s"), ("work", "u32s")]
 REFUSAL = ("refusal", "u32")
+ALIGNED_EXIT = [REFUSAL, ("written", "u32"), ("changes", "u32"), *FIT_EXIT]
 # How many pairs were clamped, each once a voiced frame.
 CLAMPED = [("high", "u32"), ("low", "u32")]
 STORE = [("voices", "u32s"), ("settings", "u64s")]
@@ -86,12 +89,7 @@ KINDS = {
         [("changes", "u32"), ("durations", "u32s")],
         [REFUSAL, ("changes", "u32"), *FIT_EXIT],
     ),
-    "align": Kind(
-        5,
-        [*PAIRS, ("nstate", "u32"), ("ends", "f64s"), *FIT_ROOM],
-        [("written", "u32"), ("changes", "u32"), ("durations", "u32s")],
-        [REFUSAL, ("written", "u32"), ("changes", "u32"), *FIT_EXIT],
-    ),
+    "align": Kind(5, ALIGNED, ALIGNED_VALUES, ALIGNED_EXIT),
     "mask": Kind(
         6,
         [("weights", "f64s"), ("threshold", "f64"), ("durations", "u32s")]
@@ -168,7 +166,11 @@ KINDS = {
         WORDS_EXIT,
     ),
     "timing_file": Kind(17, [("bytes", "u8s"), ("spans", ROOM)], TIMING_EXIT, TIMING_EXIT),
+    # An alignment whose totals are held to the claim that they don't drift, too.
+    "chapter": Kind(18, ALIGNED, ALIGNED_VALUES, ALIGNED_EXIT),
 }
+
+ALIGNMENTS = ("align", "chapter")
 
 
 @dataclass

@@ -16,6 +16,8 @@ SIMPLE = [0.0, 1.0, 2.0]
 
 # So many numbers of a store, records of a settings file, or words are tried one by one.
 FEW = 8
+# So many labels of a chapter are.
+FEW_LABELS = 40
 
 
 def without_states(case: Case) -> Iterator[Case]:
@@ -331,6 +333,39 @@ def smaller_timing(case: Case) -> Iterator[Case]:
     yield from (case.with_fields(bytes=less) for less in smaller)
 
 
+def fewer_labels(parts: int, case: Case) -> Iterator[Case]:
+    """A chapter without one of so many parts of its labels; the later ends stay, or come as many frames earlier."""
+    ends, nstate = case["ends"], case["nstate"]
+    size = len(ends) // parts
+    if len(case["means"]) != len(ends) * nstate:
+        return
+    for first in range(0, len(ends), size) if size else ():
+        last = min(first + size, len(ends))
+        fewer = drop_states(case, len(case["means"]), first * nstate, last * nstate, nstate)
+        yield fewer
+        gone = time_at(ends[:last]) - time_at(ends[:first])
+        if gone > 0 and first:
+            yield fewer.with_fields(ends=ends[:first] + [end - gone if end >= gone else end for end in ends[last:]])
+
+
+def time_at(ends: list[float]) -> float:
+    """The last given end, in whole frames."""
+    last = next((end for end in reversed(ends) if end >= 0), 0.0)
+    return float(round(last)) if last < 1e9 else 0.0
+
+
+def one_label_fewer(case: Case) -> Iterator[Case]:
+    if len(case["ends"]) <= FEW_LABELS:
+        yield from fewer_labels(max(1, len(case["ends"])), case)
+
+
+def one_state_a_label(case: Case) -> Iterator[Case]:
+    """A chapter with the first state of each label alone."""
+    nstate = case["nstate"]
+    if 1 < nstate and len(case["means"]) == len(case["varis"]) == len(case["ends"]) * nstate:
+        yield case.with_fields(nstate=1, means=case["means"][::nstate], varis=case["varis"][::nstate])
+
+
 GENERAL = (without_states, narrower, shorter_lists, smaller_numbers)
 BY_KIND = {
     "job": (smaller_job, smaller_numbers),
@@ -344,6 +379,13 @@ BY_KIND = {
     "settings_file": (smaller_settings_file, smaller_numbers),
     "words": (fewer_words, simpler_states, smaller_frames, shorter_lists, smaller_numbers),
     "timing_file": (smaller_timing, smaller_numbers),
+    "chapter": (
+        *[partial(fewer_labels, parts) for parts in (2, 4, 16, 64)],
+        one_label_fewer,
+        one_state_a_label,
+        shorter_lists,
+        smaller_numbers,
+    ),
 }
 
 

@@ -5,7 +5,7 @@ from random import Random
 
 from .. import damage
 from ..formats import Case
-from . import durations, links, operations, settings, spool, trajectories, words
+from . import chapters, durations, links, operations, settings, spool, trajectories, words
 from .common import with_odd_nan
 
 GENERATORS: dict[str, Callable[[Random, bool], Case]] = {
@@ -27,6 +27,7 @@ GENERATORS: dict[str, Callable[[Random, bool], Case]] = {
     "settings_file": settings.settings_file_case,
     "words": words.words_case,
     "timing_file": words.timing_case,
+    "chapter": chapters.chapter_case,
 }
 
 # Fits with many steps to take and many ties.

@@ -29,6 +29,7 @@ ANSWERS = {
     "settings_file": settings.store_values,
     "words": words.words_values,
     "timing_file": words.timing_values,
+    "chapter": durations.align_values,
 }
 
 

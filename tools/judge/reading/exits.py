@@ -96,6 +96,7 @@ EXITS = {
     "excerpt": lambda case, values: values,
     "job": duration_exit,
     "old_number": lambda case, values: values,
+    "chapter": duration_exit,
 }
 
 

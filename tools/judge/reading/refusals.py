@@ -145,6 +145,7 @@ CHECKS: dict[str, Callable[[Case], Checks]] = {
     "place": place_checks,
     "excerpt": excerpt_checks,
     "job": job_checks,
+    "chapter": align_checks,
 }
 
 
