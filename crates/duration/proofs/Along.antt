@@ -6,7 +6,7 @@ use native.Mathlib.Nat.{zero-add, sub-zero, zero-mul, suc-mul, mul-one, mul-le-m
 use native.Mathlib.Numerals.{add-one}
 use native.Mathlib.Omega.{arith}
 use lib.ListN.{length, take, drop, getD, length-append, length-drop, drop-of-length-le}
-use lib.Seq.{take-at, take-length, length-take-le, drop-cons}
+use lib.Seq.{take-at, take-length, length-take-le}
 use lib.Ieee.{Float, nan}
 use Rattle.lists.specs.Sizes.{mostFrames}
 use Rattle.lists.specs.Totals.{total}
@@ -25,6 +25,7 @@ use Rattle.duration.specs.Promise.{fitted}
 use Rattle.duration.specs.Inner.Asked.{InPlace, Lies, closed, grown, Closes, Labelled}
 use Rattle.lists.proofs.Answers.{refused, refused-is, accepted-is}
 use Rattle.lists.proofs.Refusals.{or-first}
+use Rattle.duration.proofs.Groups.{groups-next}
 use Rattle.duration.proofs.Closing.{accepted-group, fit-few}
 
 abbrev joined : List ℕ → ℕ → Outcome → Outcome
@@ -170,10 +171,7 @@ module _ (ms vs : List Float) (k : ℕ) (ends : List Float) where
 
       -- what is left from here on
       here : (end : End) → label .end ≡ end → left done first i ≡ closing done (label .first + k) end (λ d. groups k d (label .first + k) (drop (i + 1) ends))
-      unfolding groups
-      here end q =
-          ap (λ (es : List Float). groups k done first es) (drop-cons ends i nan h ∙ ap (λ (n : ℕ). getD ends i nan ∷ drop n ends) (sym (add-one i)))
-          ∙ rw (next, ← q, e)
+      here end q = groups-next k ends i done h first ∙ rw (add-one i, next, ← q, e)
 
       pub along-open : label .end ≡ Open → Along start work done (label .first + k) frames changes (i + 1)
       along-open q =

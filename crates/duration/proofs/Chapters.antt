@@ -1,45 +1,24 @@
 -- What no drift comes to over many labels.
 use mathlib.Core.Path.{_≡_, refl, sym, ap, _∙_}
 use mathlib.Core.Bool.{true, false, cond}
-use mathlib.Core.List.{List, [], _∷_, _++_, append-assoc}
+use mathlib.Core.Logic.{⊎-elim, _↔_}
+use mathlib.Core.List.{List}
 use Prim.Native.Nat.{ℕ, zero, suc, _+_, _-_, _*_, _^_, _≤_, _<_, max}
-use native.Mathlib.Nat.{le-of-lt, lt-of-le-of-lt, lt-of-mul-lt-mul-right, zero-mul}
+use native.Mathlib.Nat.{le-of-lt, lt-of-le-of-lt, lt-of-mul-lt-mul-right}
 use native.Mathlib.Omega.{arith}
 use lib.Dec.{T}
-use lib.ListN.{length, getD, drop}
+use lib.ListN.{length, getD}
 use lib.Ieee.{Float, nan, binary64, fits, ofBits, le}
 use lib.Ieee.Positive.{num, den, den-pos, value→cross}
 use Rattle.lists.specs.Totals.{gap}
+use Rattle.lists.proofs.Numbers.{le-or-lt}
 use Rattle.floats.specs.Rounding.{nearestHalf}
 use Rattle.floats.specs.Numbers.{nought, number}
 use Rattle.floats.proofs.Differences.{number-value, exact-less}
 use Rattle.floats.proofs.Halves.{half-same, half-less, half-few}
-use Rattle.duration.specs.Align.{Group, given, groups, targetOf}
-use Rattle.duration.specs.Drift.{Fraction, HalvesUp, endRounded, OnTime, closedBefore, upTo, framesBefore, groupStates, totalAt, NoDrift, Stands, PartEnd}
+use Rattle.duration.specs.Align.{targetOf}
+use Rattle.duration.specs.Drift.{Fraction, HalvesUp, endRounded, OnTime, closedBefore, upTo, framesBefore, groupStates, totalAt, NoDrift, PartEnd}
 use Rattle.duration.specs.Drift.PartEnd.{ahead, behind}
-use Rattle.duration.proofs.Drift.{groups-given, groups-open}
-
--- ---- the group that a label closes is one of the alignment's
-
-module _ (k : ℕ) (ends : List Float) where
-  -- those before label i, and those from there on
-  groups-split : (i : ℕ) → i ≤ length ends → (front : List Group) × (groups k 0 0 ends ≡ front ++ groups k (closedBefore k ends i) (i * k) (drop i ends))
-  unfolding closedBefore
-  groups-split zero h = ([], rw (zero-mul k))
-  groups-split (suc i) h =
-      (elim (le nought (getD ends i nan)) as (λ s. le nought (getD ends i nan) ≡ s → (front : List Group) × (groups k 0 0 ends ≡ front ++ groups k (cond s (suc i * k) (closedBefore k ends i)) (suc i * k) (drop (suc i) ends))) [
-        | true ↦ λ at.
-            let w = groups-split i (omega arith) in
-            let g : Group = given (closedBefore k ends i) (suc i * k) (getD ends i nan) in
-            (w .0 ++ (g ∷ []), w .1 ∙ ap (λ (l : List Group). w .0 ++ l) (groups-given k ends i (closedBefore k ends i) h at) ∙ sym (append-assoc (w .0) (g ∷ []) _))
-        | false ↦ λ at. (let w = groups-split i (omega arith) in (w .0, w .1 ∙ ap (λ (l : List Group). w .0 ++ l) (groups-open k ends i (closedBefore k ends i) h at)))
-      ])
-      refl
-
-  pub label-group : (i : ℕ) → i < length ends → le nought (getD ends i nan) ≡ true → Stands (given (closedBefore k ends i) (suc i * k) (getD ends i nan)) (groups k 0 0 ends)
-  label-group i h at =
-      let w = groups-split i (omega arith) in
-      record { front = w .0; rest = groups k (suc i * k) (suc i * k) (drop (suc i) ends); is = w .1 ∙ ap (λ (l : List Group). w .0 ++ l) (groups-given k ends i (closedBefore k ends i) h at) }
 
 -- ---- many labels
 
@@ -52,6 +31,15 @@ module _ (k : ℕ) (ends : List Float) (ds : List ℕ) (o : NoDrift k ends ds) w
   -- Room, over whole numbers.
   pub right-with-room : (i : ℕ) → i < length ends → le nought (getD ends i nan) ≡ true → framesBefore k ends ds i + groupStates k ends i < endRounded (getD ends i nan) → HalvesUp (getD ends i nan) (totalAt k ds i)
   right-with-room i h at b = let w = o i h at in w .right (w .room .1 b)
+
+  -- And it is seen in the output: with room, and only then, a group gets more than one frame a state.
+  pub room-seen : (i : ℕ) → i < length ends → le nought (getD ends i nan) ≡ true
+      → (groupStates k ends i < targetOf (getD ends i nan) (framesBefore k ends ds i)) ↔ (framesBefore k ends ds i + groupStates k ends i < totalAt k ds i)
+  room-seen i h at =
+      let w = o i h at in
+      let n : ℕ = groupStates k ends i in
+      let t : ℕ = targetOf (getD ends i nan) (framesBefore k ends ds i) in
+      (λ b. omega (arith, w .room .0 b, w .larger), λ b. ⊎-elim (λ (q : t ≤ n). absurd (omega (arith, w .short q))) (λ (q : n < t). q) (le-or-lt t n))
 
   -- Without room at a label the total is exactly that before its group and one frame a state; and at any later label with room it is right again.
   pub right-again : (i j : ℕ) → i < j → j < length ends → le nought (getD ends i nan) ≡ true → le nought (getD ends j nan) ≡ true

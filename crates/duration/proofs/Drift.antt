@@ -6,7 +6,7 @@ use Prim.Native.Nat.{ℕ, zero, suc, _+_, _-_, _*_, _≤_, _<_}
 use native.Mathlib.Nat.{le-trans, zero-mul, mul-one, suc-mul, mul-le-mul-right}
 use native.Mathlib.Omega.{arith}
 use lib.ListN.{length, getD, drop}
-use lib.Seq.{drop-cons, drop-drop, take-at, drop-at, take-append-le}
+use lib.Seq.{drop-drop, take-at, drop-at, take-append-le}
 use lib.Ieee.{Float, nan, le}
 use borrow.Rule.Slice.PartMut.{mid-len}
 use Rattle.lists.specs.Sizes.{mostFrames}
@@ -22,6 +22,7 @@ use Rattle.duration.specs.Fitting.FairAlong.{next}
 use Rattle.duration.specs.Promise.{aligned, AlignSays, AlignOnTime}
 use Rattle.duration.proofs.Refusals.{Labels}
 use Rattle.duration.proofs.Aligning.{align-labels, align-theorem}
+use Rattle.duration.proofs.Groups.{closed-most, groups-given, groups-open}
 use Rattle.duration.proofs.OnTime.{on-time}
 
 -- the first group of those that are fair
@@ -36,22 +37,6 @@ record Opened (ms vs : List Float) (g : Group) (gs : List Group) (frames : ℕ) 
 
 opened : {ms vs : List Float} {g : Group} {gs : List Group} {frames c : ℕ} {ds : List ℕ} → FairAlong ms vs (g ∷ gs) frames ds c → Opened ms vs g gs frames ds
 opened (next f a) = record { own = _; rest = _; changes = _; later = _; is = refl; group = f; after = a }
-
--- no more states are closed than labels have come
-closed-most : (k : ℕ) (ends : List Float) (i : ℕ) → closedBefore k ends i ≤ i * k
-unfolding closedBefore
-closed-most k ends zero = omega arith
-closed-most k ends (suc i) = elim (le nought (getD ends i nan)) as (λ s. cond s (suc i * k) (closedBefore k ends i) ≤ suc i * k) [ true ↦ omega arith | false ↦ omega (arith, closed-most k ends i, suc-mul i k) ]
-
--- the groups from label i on
-module _ (k : ℕ) (ends : List Float) (i done : ℕ) (here : i < length ends) where
-  pub groups-given : le nought (getD ends i nan) ≡ true → groups k done (i * k) (drop i ends) ≡ given done (suc i * k) (getD ends i nan) ∷ groups k (suc i * k) (suc i * k) (drop (suc i) ends)
-  unfolding groups
-  groups-given at = rw (drop-cons ends i nan here, at, suc-mul i k)
-
-  pub groups-open : le nought (getD ends i nan) ≡ false → groups k done (i * k) (drop i ends) ≡ groups k done (suc i * k) (drop (suc i) ends)
-  unfolding groups
-  groups-open at = rw (drop-cons ends i nan here, at, suc-mul i k)
 
 module _ (ms vs : List Float) (k : ℕ) (ends : List Float) (ds : List ℕ) (some : 1 ≤ k) (cover : length ends * k ≡ length ms) (few : total ds ≤ mostFrames) (held : Held ends) where
   -- the groups from label i on are fair, after the states before `done`
@@ -114,10 +99,6 @@ module _ (ms vs : List Float) (k : ℕ) (ends : List Float) (ds : List ℕ) (som
     no-drift-of : NoDrift k ends ds
     no-drift-of i h at = on-time-here i (closedBefore k ends i) h at (closed-most k ends i) (fair-from i (omega arith))
 
--- the same of a list that begins with them
-upTo-front : (n : ℕ) (ds rest : List ℕ) → n ≤ length ds → upTo n (ds ++ rest) ≡ upTo n ds
-upTo-front n ds rest h = ap total (take-append-le n ds rest h)
-
 -- The theorem, of every outcome that an alignment's promise allows with an accepted answer
 module _ (ms vs : List Float) (nstate : ℕ) (ends : List Float) (out work : List ℕ) (r : Aligned) (out′ work′ : List ℕ) (held : Held ends) (z : aligned r .number ≡ 0) (f : AlignSays ms vs nstate ends out work r out′ work′) where
   labels : Labels nstate (length ends) (length ms)
@@ -127,7 +108,7 @@ module _ (ms vs : List Float) (nstate : ℕ) (ends : List Float) (out work : Lis
   fair = align-theorem ms vs nstate ends out work r out′ work′ z f
 
   same-total : (n : ℕ) → n ≤ length ms → upTo n out′ ≡ upTo n (fair .outcome .durations)
-  same-total n h = ap (upTo n) (fair .output) ∙ upTo-front n (fair .outcome .durations) (drop (length ms) out) (rw (fair .count) h)
+  same-total n h = ap (upTo n) (fair .output) ∙ ap total (take-append-le n (fair .outcome .durations) (drop (length ms) out) (rw (fair .count) h))
 
   pub no-drift : NoDrift nstate ends out′
   no-drift i h at =

@@ -4,6 +4,7 @@ pub mod Estimates
 pub mod Fits
 pub mod Calls
 pub mod Closing
+pub mod Groups
 pub mod Along
 pub mod Fairness
 pub mod Aligning
