@@ -17,9 +17,9 @@ use Rattle.duration.specs.declared.align.End.the-variants.{At, Open}
 use Rattle.duration.specs.declared.align.Label.{Label}
 use Rattle.duration.specs.declared.align.Closed.{Closed}
 use Rattle.duration.specs.declared.align.Closed.the-variants as close
-use Rattle.steps.specs.Steps.{Outcome}
+use Rattle.steps.specs.Steps.{States, size, Outcome}
 use Rattle.lists.specs.Refusals.{orElse}
-use Rattle.duration.specs.Align.{labelOf, Group, given, closing, tail, groups, within, targetOf, fitOf, fitAlong, refusalOf, refusalAlong}
+use Rattle.duration.specs.Align.{labelOf, Group, given, closing, tail, groups, statesIn, targetOf, fitOf, fitAlong, refusalOf, refusalAlong}
 use Rattle.lists.specs.Answers.{Answer, refusing}
 use Rattle.duration.specs.Promise.{fitted}
 use Rattle.duration.specs.Inner.Asked.{InPlace, Lies, closed, grown, Closes, Labelled}
@@ -46,29 +46,29 @@ advance n i first k l h e =
 labels-few : (l k n : ℕ) → l * k ≡ n → 1 ≤ k → l ≤ n
 labels-few l k n e h = omega (arith, mul-le-mul-left l h, mul-one l)
 
-module _ (ms vs : List Float) (k : ℕ) (ends : List Float) where
+module _ (ss : States) (k : ℕ) (ends : List Float) where
   abbrev left : ℕ → ℕ → ℕ → List Group
   left done first i = groups k done first (drop i ends)
 
   -- the refusal and the outcome of all groups
   abbrev refusal : ℕ
-  refusal = refusalAlong ms vs (groups k 0 0 ends) 0
+  refusal = refusalAlong ss (groups k 0 0 ends) 0
 
   abbrev outcome : Outcome
-  outcome = fitAlong ms vs (groups k 0 0 ends) 0
+  outcome = fitAlong ss (groups k 0 0 ends) 0
 
   -- i labels are passed: the states before `done` are closed, and the next label's first state is at `first`
   pub record Along (start work : List ℕ) (done first frames changes i : ℕ) : Type 0 where
     pub passed : i ≤ length ends
-    pub place : first + (length ends - i) * k ≡ length ms
+    pub place : first + (length ends - i) * k ≡ size ss
     pub order : done ≤ first
     pub few : frames ≤ mostFrames
     pub little : changes ≤ i * mostFrames
     pub long : length work ≡ length start
-    pub so-far : joined (take done work) changes (fitAlong ms vs (left done first i) frames) ≡ outcome
-    pub refused : refusalAlong ms vs (left done first i) frames ≡ refusal
+    pub so-far : joined (take done work) changes (fitAlong ss (left done first i) frames) ≡ outcome
+    pub refused : refusalAlong ss (left done first i) frames ≡ refusal
 
-  pub along : (start : List ℕ) → Labelled ms vs k ends start → Along start start 0 0 0 0 0
+  pub along : (start : List ℕ) → Labelled ss k ends start → Along start start 0 0 0 0 0
   along start l =
       record {
         passed = zero-le;
@@ -81,45 +81,45 @@ module _ (ms vs : List Float) (k : ℕ) (ends : List Float) where
         refused = refl;
       }
 
-  module _ (start work : List ℕ) (done first frames changes i : ℕ) (l : Labelled ms vs k ends start) (a : Along start work done first frames changes i) where
+  module _ (start work : List ℕ) (done first frames changes i : ℕ) (l : Labelled ss k ends start) (a : Along start work done first frames changes i) where
     -- a group that begins where the closed states end
-    pub lies : (to : ℕ) (end : End) → done ≤ to → to ≤ length ms → Lies ms vs work (record { from = done; to = to; end = end }) frames
+    pub lies : (to : ℕ) (end : End) → done ≤ to → to ≤ size ss → Lies ss work (record { from = done; to = to; end = end }) frames
     lies to end o h = record { lists = record { few = l .lists .few; varis = l .lists .varis; workspace = a .long ∙ l .lists .workspace }; order = o; inside = h; few = a .few }
 
     -- such a group is the first of those that are left, and was closed with these values
     module _ (to : ℕ) (end : End) (later : List Group) (p : left done first i ≡ record { from = done; to = to; end = end } ∷ later)
-        (value : ℕ) (values : List ℕ) (answer : Answer) (work′ : List ℕ) (f : Closes ms vs (record { from = done; to = to; end = end }) frames work (value ∷ values) answer work′) where
+        (value : ℕ) (values : List ℕ) (answer : Answer) (work′ : List ℕ) (f : Closes ss (record { from = done; to = to; end = end }) frames work (value ∷ values) answer work′) where
       abbrev group : Group
       group = record { from = done; to = to; end = end }
 
       abbrev durations : List ℕ
-      durations = fitOf ms vs group frames .durations
+      durations = fitOf ss group frames .durations
 
       abbrev more : ℕ
-      more = fitOf ms vs group frames .changes
+      more = fitOf ss group frames .changes
 
       group-refused : (n : ℕ) → answer ≡ refusing n → (w : List ℕ) → InPlace refusal outcome (fit.Refused n) w
       unfolding refusalAlong
       group-refused n e w =
-          let s = refused-is n (refusalOf ms vs group frames) value values (sym e ∙ f .answer) in
-          let y : refusal ≡ n = sym (a .refused) ∙ ap (λ (gs : List Group). refusalAlong ms vs gs frames) p ∙ or-first (refusalOf ms vs group frames) _ (s .1) ∙ s .0 in
+          let s = refused-is n (refusalOf ss group frames) value values (sym e ∙ f .answer) in
+          let y : refusal ≡ n = sym (a .refused) ∙ ap (λ (gs : List Group). refusalAlong ss gs frames) p ∙ or-first (refusalOf ss group frames) _ (s .1) ∙ s .0 in
           let z : refusal ≡ 0 → ⊥ = λ v. s .1 (s .0 ∙ sym y ∙ v) in
           record { answer = ap refusing (sym y) ∙ refused refusal _ z; output = λ v. absurd (z v) }
 
       -- it was accepted
-      module _ (z : refusalOf ms vs group frames ≡ 0) where
+      module _ (z : refusalOf ss group frames ≡ 0) where
         -- the durations before it and its own, and those of the groups after it
-        so-far-is : joined (take done work ++ durations) (changes + more) (fitAlong ms vs later (frames + total durations)) ≡ outcome
+        so-far-is : joined (take done work ++ durations) (changes + more) (fitAlong ss later (frames + total durations)) ≡ outcome
         unfolding fitAlong
         so-far-is =
-            sym (joined-two (take done work) changes durations more (fitAlong ms vs later (frames + total durations)))
-            ∙ ap (λ (gs : List Group). joined (take done work) changes (fitAlong ms vs gs frames)) (sym p) ∙ a .so-far
+            sym (joined-two (take done work) changes durations more (fitAlong ss later (frames + total durations)))
+            ∙ ap (λ (gs : List Group). joined (take done work) changes (fitAlong ss gs frames)) (sym p) ∙ a .so-far
 
-        refused-later : refusalAlong ms vs later (frames + total durations) ≡ refusal
+        refused-later : refusalAlong ss later (frames + total durations) ≡ refusal
         unfolding refusalAlong
         refused-later =
-            sym (ap (λ (n : ℕ). orElse n (refusalAlong ms vs later (frames + total durations))) z)
-            ∙ ap (λ (gs : List Group). refusalAlong ms vs gs frames) (sym p) ∙ a .refused
+            sym (ap (λ (n : ℕ). orElse n (refusalAlong ss later (frames + total durations))) z)
+            ∙ ap (λ (gs : List Group). refusalAlong ss gs frames) (sym p) ∙ a .refused
 
         front : length work′ ≡ length work → done ≤ to → to ≤ length work → take to work′ ≡ take done work ++ durations
         front n o h =
@@ -131,7 +131,7 @@ module _ (ms vs : List Float) (k : ℕ) (ends : List Float) where
 
     -- all labels are passed, and the tail is left
     module _ (h : length ends ≤ i) where
-      pub all-passed : first ≡ length ms
+      pub all-passed : first ≡ size ss
       all-passed = let q : length ends - i ≡ 0 = omega arith in let p : (length ends - i) * k ≡ 0 = ap (λ (n : ℕ). n * k) q ∙ zero-mul k in omega (arith, a .place)
 
       the-tail : left done first i ≡ tail done first ∷ []
@@ -139,10 +139,10 @@ module _ (ms vs : List Float) (k : ℕ) (ends : List Float) where
       the-tail = ap (λ (es : List Float). groups k done first es) (drop-of-length-le ends h)
 
       module _ (work′ : List ℕ) (n : length work′ ≡ length work) where
-        tail-done : (c : ℕ) → Closes ms vs (tail done first) frames work (changes ∷ []) (fitted (fit.Done c)) work′ → InPlace refusal outcome (fit.Done c) work′
+        tail-done : (c : ℕ) → Closes ss (tail done first) frames work (changes ∷ []) (fitted (fit.Done c)) work′ → InPlace refusal outcome (fit.Done c) work′
         unfolding fitAlong refusalAlong
         tail-done c f =
-            let q = accepted-is (fitted (fit.Done c)) (refusalOf ms vs (tail done first) frames) (changes ∷ []) (f .answer) refl in
+            let q = accepted-is (fitted (fit.Done c)) (refusalOf ss (tail done first) frames) (changes ∷ []) (f .answer) refl in
             let v : c ∷ [] ≡ changes ∷ [] = q .1 in
             let e : c ≡ changes = cc in
             let o = so-far-is first Open [] the-tail changes [] (fitted (fit.Done c)) work′ f (q .0) in
@@ -155,7 +155,7 @@ module _ (ms vs : List Float) (k : ℕ) (ends : List Float) where
               output = λ q. sym (take-length work′) ∙ ap (λ (m : ℕ). take m work′) (n ∙ sym whole) ∙ w ∙ sym (append-nil _) ∙ ap (λ (x : Outcome). x .durations) o;
             }
 
-        pub along-done : (r : Fitted) → Closes ms vs (tail done first) frames work (changes ∷ []) (fitted r) work′ → InPlace refusal outcome r work′
+        pub along-done : (r : Fitted) → Closes ss (tail done first) frames work (changes ∷ []) (fitted r) work′ → InPlace refusal outcome r work′
         along-done (fit.Done c) f = tail-done c f
         along-done (fit.Refused m) f = group-refused first Open [] the-tail changes [] (fitted (fit.Refused m)) work′ f m refl work′
 
@@ -163,8 +163,8 @@ module _ (ms vs : List Float) (k : ℕ) (ends : List Float) where
       next : label .first + k ≡ first + k
       next = ap (λ (x : Label). x .first + k) e
 
-      room : label .first + k + (length ends - (i + 1)) * k ≡ length ms
-      room = rw next (advance (length ends) i first k (length ms) h (a .place))
+      room : label .first + k + (length ends - (i + 1)) * k ≡ size ss
+      room = rw next (advance (length ends) i first k (size ss) h (a .place))
 
       pub next-in : label .first + k ≤ 4096
       next-in = omega (arith, room, l .lists .few)
@@ -182,15 +182,15 @@ module _ (ms vs : List Float) (k : ℕ) (ends : List Float) where
             few = a .few;
             little = omega (arith, a .little);
             long = a .long;
-            so-far = ap (λ (gs : List Group). joined (take done work) changes (fitAlong ms vs gs frames)) (sym (here Open q)) ∙ a .so-far;
-            refused = ap (λ (gs : List Group). refusalAlong ms vs gs frames) (sym (here Open q)) ∙ a .refused;
+            so-far = ap (λ (gs : List Group). joined (take done work) changes (fitAlong ss gs frames)) (sym (here Open q)) ∙ a .so-far;
+            refused = ap (λ (gs : List Group). refusalAlong ss gs frames) (sym (here Open q)) ∙ a .refused;
           }
 
       module _ (end : Float) (q : label .end ≡ At end) where
-        pub group-lies : Lies ms vs work (given done (label .first + k) end) frames
+        pub group-lies : Lies ss work (given done (label .first + k) end) frames
         group-lies = lies (label .first + k) (At end) (omega (arith, next, a .order)) (omega (arith, room))
 
-        module _ (r : Closed) (work′ : List ℕ) (f : Closes ms vs (given done (label .first + k) end) frames work (grown ms vs (given done (label .first + k) end) frames) (closed r) work′) where
+        module _ (r : Closed) (work′ : List ℕ) (f : Closes ss (given done (label .first + k) end) frames work (grown ss (given done (label .first + k) end) frames) (closed r) work′) where
           abbrev later : List Group
           later = left (label .first + k) (label .first + k) (i + 1)
 
@@ -199,10 +199,10 @@ module _ (ms vs : List Float) (k : ℕ) (ends : List Float) where
 
           module _ (c s : ℕ) (b : r ≡ close.Grown c s) where
             abbrev own : Outcome
-            own = fitOf ms vs (given done (label .first + k) end) frames
+            own = fitOf ss (given done (label .first + k) end) frames
 
-            accepted : (refusalOf ms vs (given done (label .first + k) end) frames ≡ 0) × (closed (close.Grown c s) .values ≡ own .changes ∷ total (own .durations) ∷ [])
-            accepted = accepted-is (closed (close.Grown c s)) (refusalOf ms vs (given done (label .first + k) end) frames) _ (ap closed (sym b) ∙ f .answer) refl
+            accepted : (refusalOf ss (given done (label .first + k) end) frames ≡ 0) × (closed (close.Grown c s) .values ≡ own .changes ∷ total (own .durations) ∷ [])
+            accepted = accepted-is (closed (close.Grown c s)) (refusalOf ss (given done (label .first + k) end) frames) _ (ap closed (sym b) ∙ f .answer) refl
 
             changes-is : c ≡ own .changes
             changes-is = let v = accepted .1 in cc
@@ -211,13 +211,13 @@ module _ (ms vs : List Float) (k : ℕ) (ends : List Float) where
             frames-is = let v = accepted .1 in cc
 
             grown-frames : frames + s ≤ mostFrames
-            grown-frames = rw frames-is (accepted-group ms vs (given done (label .first + k) end) frames (accepted .0) .1)
+            grown-frames = rw frames-is (accepted-group ss (given done (label .first + k) end) frames (accepted .0) .1)
 
             more-few : c ≤ mostFrames
-            more-few = rw changes-is (fit-few (within (given done (label .first + k) end) ms) (within (given done (label .first + k) end) vs) (targetOf end frames))
+            more-few = rw changes-is (fit-few (statesIn (given done (label .first + k) end) ss) (targetOf end frames))
 
             grown-changes : changes + c ≤ 268435456
-            grown-changes = omega (arith, more-few, a .little, labels-few (length ends) k (length ms) (l .cover) (l .some), l .lists .few)
+            grown-changes = omega (arith, more-few, a .little, labels-few (length ends) k (size ss) (l .cover) (l .some), l .lists .few)
 
             along-grown : length work′ ≡ length work → Along start work′ (label .first + k) (label .first + k) (frames + s) (changes + c) (i + 1)
             along-grown n =
@@ -235,12 +235,12 @@ module _ (ms vs : List Float) (k : ℕ) (ends : List Float) where
 
   -- a turn of the loop at which a group was closed, with the answer r
   pub record Turn (start work : List ℕ) (done first frames changes i : ℕ) (label : Label) (end : Float) (r : Closed) (work′ : List ℕ) : Type 0 where
-    pub labels : Labelled ms vs k ends start
+    pub labels : Labelled ss k ends start
     pub before : Along start work done first frames changes i
     pub here : i < length ends
     pub made : label ≡ labelOf first (getD ends i nan)
     pub ends-at : label .end ≡ At end
-    pub closes : Closes ms vs (given done (label .first + k) end) frames work (grown ms vs (given done (label .first + k) end) frames) (closed r) work′
+    pub closes : Closes ss (given done (label .first + k) end) frames work (grown ss (given done (label .first + k) end) frames) (closed r) work′
 
   module _ {start work : List ℕ} {done first frames changes i : ℕ} {label : Label} {end : Float} {r : Closed} {work′ : List ℕ} (t : Turn start work done first frames changes i label end r work′) where
     pub turn-refused : (m n : ℕ) → r ≡ close.Refused m → n ≡ closed r .number → (w : List ℕ) → InPlace refusal outcome (fit.Refused n) w

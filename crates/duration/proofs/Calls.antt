@@ -17,6 +17,7 @@ use Rattle.duration.specs.declared.Aligned.the-variants as align
 use Rattle.lists.specs.Refusals.{orElse}
 use Rattle.duration.specs.Inner.Asked.{outputAfter, HandsOut}
 use Rattle.lists.specs.Answers.{Answer, refusing, answerOf}
+use Rattle.steps.specs.Steps.{States}
 use Rattle.duration.specs.Promise.{fitted, aligned, clears, workOf, Says, FitSays, SpeedSays, AlignOnTime}
 
 pub handed : (r : Fitted) (c : ℕ) (new out out′ : List ℕ) → r ≡ fit.Done c → out′ ≡ new → out′ ≡ outputAfter r new out
@@ -96,12 +97,12 @@ module _ (k : ℕ) (values new : List ℕ) (n : ℕ) (out work o₁ o₂ w₁ w�
   aligned-says-one : (r s : Aligned) → Says k values new n out work (aligned r) o₁ w₁ → Says k values new n out work (aligned s) o₂ w₂ → (r ≡ s) × (o₁ ≡ o₂) × (w₁ ≡ w₂)
   aligned-says-one r s f g = let h = says-one (aligned r) (aligned s) f g in (aligned-one r s (same (h .0)), h .1, h .2)
 
-module _ (ms vs : List Float) (x : Float) (out work o₁ o₂ w₁ w₂ : List ℕ) (r s : Fitted) where
-  pub fit-says-one : FitSays ms vs x out work r o₁ w₁ → FitSays ms vs x out work s o₂ w₂ → (r ≡ s) × (o₁ ≡ o₂) × (w₁ ≡ w₂)
+module _ (ss : States) (x : Float) (out work o₁ o₂ w₁ w₂ : List ℕ) (r s : Fitted) where
+  pub fit-says-one : FitSays ss x out work r o₁ w₁ → FitSays ss x out work s o₂ w₂ → (r ≡ s) × (o₁ ≡ o₂) × (w₁ ≡ w₂)
   fit-says-one f g = fitted-says-one _ _ _ _ out work o₁ o₂ w₁ w₂ r s f g
 
-  pub speed-says-one : SpeedSays ms vs x out work r o₁ w₁ → SpeedSays ms vs x out work s o₂ w₂ → (r ≡ s) × (o₁ ≡ o₂) × (w₁ ≡ w₂)
+  pub speed-says-one : SpeedSays ss x out work r o₁ w₁ → SpeedSays ss x out work s o₂ w₂ → (r ≡ s) × (o₁ ≡ o₂) × (w₁ ≡ w₂)
   speed-says-one f g = fitted-says-one _ _ _ _ out work o₁ o₂ w₁ w₂ r s f g
 
-pub align-says-one : (ms vs : List Float) (nstate : ℕ) (ends : List Float) (out work o₁ o₂ w₁ w₂ : List ℕ) (r s : Aligned) → AlignOnTime ms vs nstate ends out work r o₁ w₁ → AlignOnTime ms vs nstate ends out work s o₂ w₂ → (r ≡ s) × (o₁ ≡ o₂) × (w₁ ≡ w₂)
-align-says-one ms vs nstate ends out work o₁ o₂ w₁ w₂ r s f g = aligned-says-one _ _ _ _ out work o₁ o₂ w₁ w₂ r s (f .says) (g .says)
+pub align-says-one : (ss : States) (nstate : ℕ) (ends : List Float) (out work o₁ o₂ w₁ w₂ : List ℕ) (r s : Aligned) → AlignOnTime ss nstate ends out work r o₁ w₁ → AlignOnTime ss nstate ends out work s o₂ w₂ → (r ≡ s) × (o₁ ≡ o₂) × (w₁ ≡ w₂)
+align-says-one ss nstate ends out work o₁ o₂ w₁ w₂ r s f g = aligned-says-one _ _ _ _ out work o₁ o₂ w₁ w₂ r s (f .says) (g .says)

@@ -13,9 +13,9 @@ use Rattle.lists.specs.Sizes.{mostFrames}
 use Rattle.lists.specs.Totals.{total}
 use Rattle.lists.proofs.Sums.{total-part, total-front, total-same}
 use Rattle.floats.specs.Numbers.{nought, Held}
-use Rattle.steps.specs.Steps.{shortest, Outcome}
+use Rattle.steps.specs.Steps.{States, size, shortest, Outcome}
 use Rattle.duration.specs.declared.Aligned.{Aligned}
-use Rattle.duration.specs.Align.{Group, given, groups, within}
+use Rattle.duration.specs.Align.{Group, given, groups, statesIn}
 use Rattle.duration.specs.Drift.{OnTime, closedBefore, upTo, NoDrift}
 use Rattle.duration.specs.Fitting.{FairGroup, FairAlong, AcceptedAlong}
 use Rattle.duration.specs.Fitting.FairAlong.{next}
@@ -26,23 +26,23 @@ use Rattle.duration.proofs.Groups.{closed-most, groups-given, groups-op
 use Rattle.duration.proofs.OnTime.{on-time}
 
 -- the first group of those that are fair
-record Opened (ms vs : List Float) (g : Group) (gs : List Group) (frames : ℕ) (ds : List ℕ) : Type 0 where
+record Opened (ss : States) (g : Group) (gs : List Group) (frames : ℕ) (ds : List ℕ) : Type 0 where
   own : List ℕ
   rest : List ℕ
   changes : ℕ
   later : ℕ
   is : ds ≡ own ++ rest
-  group : FairGroup ms vs g frames (record { durations = own; changes = changes })
-  after : FairAlong ms vs gs (frames + total own) rest later
+  group : FairGroup ss g frames (record { durations = own; changes = changes })
+  after : FairAlong ss gs (frames + total own) rest later
 
-opened : {ms vs : List Float} {g : Group} {gs : List Group} {frames c : ℕ} {ds : List ℕ} → FairAlong ms vs (g ∷ gs) frames ds c → Opened ms vs g gs frames ds
+opened : {ss : States} {g : Group} {gs : List Group} {frames c : ℕ} {ds : List ℕ} → FairAlong ss (g ∷ gs) frames ds c → Opened ss g gs frames ds
 opened (next f a) = record { own = _; rest = _; changes = _; later = _; is = refl; group = f; after = a }
 
-module _ (ms vs : List Float) (k : ℕ) (ends : List Float) (ds : List ℕ) (some : 1 ≤ k) (cover : length ends * k ≡ length ms) (few : total ds ≤ mostFrames) (held : Held ends) where
+module _ (ss : States) (k : ℕ) (ends : List Float) (ds : List ℕ) (some : 1 ≤ k) (cover : length ends * k ≡ size ss) (few : total ds ≤ mostFrames) (held : Held ends) where
   -- the groups from label i on are fair, after the states before `done`
   record FairFrom (i done : ℕ) : Type 0 where
     changes : ℕ
-    fair : FairAlong ms vs (groups k done (i * k) (drop i ends)) (upTo done ds) (drop done ds) changes
+    fair : FairAlong ss (groups k done (i * k) (drop i ends)) (upTo done ds) (drop done ds) changes
 
   -- a label with an end
   module _ (i done : ℕ) (here : i < length ends) (at : le nought (getD ends i nan) ≡ true) (early : done ≤ i * k) (w : FairFrom i done) where
@@ -52,14 +52,14 @@ module _ (ms vs : List Float) (k : ℕ) (ends : List Float) (ds : List ℕ) (som
     abbrev g : Group
     g = given done (suc i * k) x
 
-    first : Opened ms vs g (groups k (suc i * k) (suc i * k) (drop (suc i) ends)) (upTo done ds) (drop done ds)
-    first = opened (subst (λ (gs : List Group). FairAlong ms vs gs (upTo done ds) (drop done ds) (w .changes)) (groups-given k ends i done here at) (w .fair))
+    first : Opened ss g (groups k (suc i * k) (suc i * k) (drop (suc i) ends)) (upTo done ds) (drop done ds)
+    first = opened (subst (λ (gs : List Group). FairAlong ss gs (upTo done ds) (drop done ds) (w .changes)) (groups-given k ends i done here at) (w .fair))
 
-    within-states : suc i * k ≤ length ms
+    within-states : suc i * k ≤ size ss
     within-states = rw (← cover) (mul-le-mul-right k here)
 
-    states : length (within g ms) ≡ suc i * k - done
-    states = mid-len done (suc i * k) ms within-states
+    states : size (statesIn g ss) ≡ suc i * k - done
+    states = mid-len done (suc i * k) (ss .means) within-states
 
     own-length : length (first .own) ≡ suc i * k - done
     own-length = first .group .count ∙ states
@@ -83,9 +83,9 @@ module _ (ms vs : List Float) (k : ℕ) (ends : List Float) (ds : List ℕ) (som
         (le-trans (rw (← total-here) (total-front ds (suc i * k))) few)
         (omega (arith, suc-mul i k))
         (λ h. first .group .by-end .above (rw states h) .sum)
-        (λ h. ap (λ (o : Outcome). total (o .durations)) (first .group .by-end .otherwise (rw states h)) ∙ total-same (length (within g ms)) shortest ∙ mul-one (length (within g ms)) ∙ states))
+        (λ h. ap (λ (o : Outcome). total (o .durations)) (first .group .by-end .otherwise (rw states h)) ∙ total-same (size (statesIn g ss)) shortest ∙ mul-one (size (statesIn g ss)) ∙ states))
 
-  module _ (c : ℕ) (f : FairAlong ms vs (groups k 0 0 ends) 0 ds c) where
+  module _ (c : ℕ) (f : FairAlong ss (groups k 0 0 ends) 0 ds c) where
     fair-from : (i : ℕ) → i ≤ length ends → FairFrom i (closedBefore k ends i)
     unfolding closedBefore total
     fair-from zero h = record { changes = c; fair = rw (zero-mul k) f }
@@ -100,24 +100,24 @@ module _ (ms vs : List Float) (k : ℕ) (ends : List Float) (ds : List ℕ) (som
     no-drift-of i h at = on-time-here i (closedBefore k ends i) h at (closed-most k ends i) (fair-from i (omega arith))
 
 -- The theorem, of every outcome that an alignment's promise allows with an accepted answer
-module _ (ms vs : List Float) (nstate : ℕ) (ends : List Float) (out work : List ℕ) (r : Aligned) (out′ work′ : List ℕ) (held : Held ends) (z : aligned r .number ≡ 0) (f : AlignSays ms vs nstate ends out work r out′ work′) where
-  labels : Labels nstate (length ends) (length ms)
-  labels = align-labels ms vs nstate ends out work r out′ work′ z f
+module _ (ss : States) (nstate : ℕ) (ends : List Float) (out work : List ℕ) (r : Aligned) (out′ work′ : List ℕ) (held : Held ends) (z : aligned r .number ≡ 0) (f : AlignSays ss nstate ends out work r out′ work′) where
+  labels : Labels nstate (length ends) (size ss)
+  labels = align-labels ss nstate ends out work r out′ work′ z f
 
-  fair : AcceptedAlong ms vs (groups nstate 0 0 ends) out r out′
-  fair = align-theorem ms vs nstate ends out work r out′ work′ z f
+  fair : AcceptedAlong ss (groups nstate 0 0 ends) out r out′
+  fair = align-theorem ss nstate ends out work r out′ work′ z f
 
-  same-total : (n : ℕ) → n ≤ length ms → upTo n out′ ≡ upTo n (fair .outcome .durations)
-  same-total n h = ap (upTo n) (fair .output) ∙ ap total (take-append-le n (fair .outcome .durations) (drop (length ms) out) (rw (fair .count) h))
+  same-total : (n : ℕ) → n ≤ size ss → upTo n out′ ≡ upTo n (fair .outcome .durations)
+  same-total n h = ap (upTo n) (fair .output) ∙ ap total (take-append-le n (fair .outcome .durations) (drop (size ss) out) (rw (fair .count) h))
 
   pub no-drift : NoDrift nstate ends out′
   no-drift i h at =
       let ds = fair .outcome .durations in
-      let o = no-drift-of ms vs nstate ends ds (labels .some) (labels .cover) (fair .frames) held (fair .outcome .changes) (fair .fair) i h at in
-      let n : suc i * nstate ≤ length ms = rw (← labels .cover) (mul-le-mul-right nstate h) in
-      let d : closedBefore nstate ends i ≤ length ms = omega (arith, closed-most nstate ends i, suc-mul i nstate) in
+      let o = no-drift-of ss nstate ends ds (labels .some) (labels .cover) (fair .frames) held (fair .outcome .changes) (fair .fair) i h at in
+      let n : suc i * nstate ≤ size ss = rw (← labels .cover) (mul-le-mul-right nstate h) in
+      let d : closedBefore nstate ends i ≤ size ss = omega (arith, closed-most nstate ends i, suc-mul i nstate) in
       rw (same-total (closedBefore nstate ends i) d, same-total (suc i * nstate) n) o
 
 -- so what the call promises, with ends that were lent as f64
-pub on-time-kept : (ms vs : List Float) (nstate : ℕ) (ends : List Float) (out work : List ℕ) (r : Aligned) (out′ work′ : List ℕ) → Held ends → AlignSays ms vs nstate ends out work r out′ work′ → AlignOnTime ms vs nstate ends out work r out′ work′
-on-time-kept ms vs nstate ends out work r out′ work′ held f = record { says = f; on-time = λ z. no-drift ms vs nstate ends out work r out′ work′ held z f }
+pub on-time-kept : (ss : States) (nstate : ℕ) (ends : List Float) (out work : List ℕ) (r : Aligned) (out′ work′ : List ℕ) → Held ends → AlignSays ss nstate ends out work r out′ work′ → AlignOnTime ss nstate ends out work r out′ work′
+on-time-kept ss nstate ends out work r out′ work′ held f = record { says = f; on-time = λ z. no-drift ss nstate ends out work r out′ work′ held z f }

@@ -20,15 +20,14 @@ use Rattle.floats.specs.Numbers.{one}
 use Rattle.duration.specs.declared.Fitted.{Fitted}
 use Rattle.duration.specs.declared.Fitted.the-variants as fit
 use Rattle.duration.specs.Estimate.{estimates, naturals}
-use Rattle.steps.specs.Steps.{Outcome, settle}
+use Rattle.steps.specs.Steps.{States, size, Outcome, settle}
 use Rattle.duration.specs.Fit.{rhoOf, startOf, fitTo, refusalTo}
 use Rattle.duration.specs.Speed.{targetAt, fitAt, refusalAt}
-use Rattle.duration.specs.Align.{within}
 use Rattle.lists.specs.Answers.{Answer, answerOf}
 use Rattle.duration.specs.Promise.{fitted, refusalOfLists, Says, FitSays, SpeedSays}
 use Rattle.duration.specs.Fitting.{distance, Under, Fair, Ample, Accepted}
 use Rattle.duration.proofs.Refusals.{lists-fit, cond-none}
-use Rattle.duration.proofs.Estimates.{length-estimates}
+use Rattle.duration.proofs.Estimates.{length-estimates, getD-estimates}
 use Rattle.steps.proofs.Settling.{Pointwise, Positive, settles-total, settles-length, settles-gap, settles-up, settles-down, settles-positive, settle-settles}
 use Rattle.steps.proofs.Settling.Pointwise.{nil, cons}
 use Rattle.steps.proofs.Settling.Positive.{none, more}
@@ -44,6 +43,10 @@ pub positive-at : {xs : List ℕ} → Positive xs → (i : ℕ) → i < length x
 positive-at none i h = absurd (not-suc-le-zero h)
 positive-at (more p ps) zero h = p
 positive-at (more p ps) (suc i) h = positive-at ps i (omega arith)
+
+pub at-positive : (xs : List ℕ) → ((i : ℕ) → i < length xs → 1 ≤ getD xs i 0) → Positive xs
+at-positive [] f = none
+at-positive (x ∷ xs) f = more (f 0 (omega arith)) (at-positive xs (λ i h. f (suc i) (omega arith)))
 
 -- lists of which one is nowhere longer are as far apart as their totals are
 distance-up : {xs ys : List ℕ} → Pointwise xs ys → distance xs ys + total xs ≡ total ys
@@ -78,50 +81,47 @@ pub rounded-positive : (x : Float) → 1 ≤ roundedOf x
 unfolding roundedOf
 rounded-positive x = frames-positive (toIntegral x)
 
-pub estimates-positive : (rho : Float) (ms vs : List Float) → Positive (estimates rho ms vs)
-unfolding estimates
-estimates-positive rho [] vs = none
-estimates-positive rho (m ∷ ms) [] = none
-estimates-positive rho (m ∷ ms) (v ∷ vs) = more (rounded-positive _) (estimates-positive rho ms vs)
+pub estimates-positive : (rho : Float) (ss : States) → Positive (estimates rho ss)
+estimates-positive rho ss = at-positive (estimates rho ss) (λ i h. rw (getD-estimates rho ss i (let q : i < size ss = omega (arith, length-estimates rho ss) in q)) (rounded-positive _))
 
 -- ---- the fit
 
-module _ (ms vs : List Float) (t : ℕ) (some : 0 < length ms) (agree : length vs ≡ length ms) (above : length ms < t) where
-  start-length : length (startOf ms vs t) ≡ length ms
+module _ (ss : States) (t : ℕ) (some : 0 < size ss) (above : size ss < t) where
+  start-length : length (startOf ss t) ≡ size ss
   unfolding startOf
-  start-length = length-estimates (rhoOf ms vs t) ms vs agree
+  start-length = length-estimates (rhoOf ss t) ss
 
-  start-positive : Positive (startOf ms vs t)
+  start-positive : Positive (startOf ss t)
   unfolding startOf
-  start-positive = estimates-positive (rhoOf ms vs t) ms vs
+  start-positive = estimates-positive (rhoOf ss t) ss
 
-  steps-are : fitTo ms vs t ≡ settle mostFrames (rhoOf ms vs t) ms vs t (startOf ms vs t)
+  steps-are : fitTo ss t ≡ settle mostFrames (rhoOf ss t) ss t (startOf ss t)
   unfolding fitTo
-  steps-are = rw (ne-eqb (length ms) 0 (λ q. omega arith), lt-leb t (length ms) above)
+  steps-are = rw (ne-eqb (size ss) 0 (λ q. omega arith), lt-leb t (size ss) above)
 
-  module _ (target : t ≤ mostFrames) (small : total (startOf ms vs t) ≤ mostFrames) where
-    pub fair : Fair ms vs t (fitTo ms vs t)
+  module _ (target : t ≤ mostFrames) (small : total (startOf ss t) ≤ mostFrames) where
+    pub fair : Fair ss t (fitTo ss t)
     fair =
-        let S : List ℕ = startOf ms vs t in
-        let o : Outcome = settle mostFrames (rhoOf ms vs t) ms vs t S in
-        let room : length ms ≤ t = omega arith in
-        let q : length S ≡ length ms = start-length in
-        let s = settle-settles (rhoOf ms vs t) ms vs t some agree room mostFrames S q (omega (arith, small, target)) in
-        let n : length (o .durations) ≡ length ms = settles-length (rhoOf ms vs t) ms vs t s ∙ q in
-        let sum : total (o .durations) ≡ t = settles-total (rhoOf ms vs t) ms vs t s in
-        let c : o .changes ≡ gap (total S) t = settles-gap (rhoOf ms vs t) ms vs t some agree room q s in
+        let S : List ℕ = startOf ss t in
+        let o : Outcome = settle mostFrames (rhoOf ss t) ss t S in
+        let room : size ss ≤ t = omega arith in
+        let q : length S ≡ size ss = start-length in
+        let s = settle-settles (rhoOf ss t) ss t some room mostFrames S q (omega (arith, small, target)) in
+        let n : length (o .durations) ≡ size ss = settles-length (rhoOf ss t) ss t s ∙ q in
+        let sum : total (o .durations) ≡ t = settles-total (rhoOf ss t) ss t s in
+        let c : o .changes ≡ gap (total S) t = settles-gap (rhoOf ss t) ss t some room q s in
         let far : distance S (o .durations) ≡ gap (total S) t = ⊎-elim
-        (λ (l : total S ≤ t). (let d : distance S (o .durations) + total S ≡ total (o .durations) = distance-up (settles-up (rhoOf ms vs t) ms vs t some agree room q l s) in let r : distance S (o .durations) ≡ gap (total S) t = omega arith in r))
-        (λ (l : t < total S). (let d : distance S (o .durations) + total (o .durations) ≡ total S = distance-down (settles-down (rhoOf ms vs t) ms vs t some agree room q (omega arith) s) in let r : distance S (o .durations) ≡ gap (total S) t = omega arith in r))
+        (λ (l : total S ≤ t). (let d : distance S (o .durations) + total S ≡ total (o .durations) = distance-up (settles-up (rhoOf ss t) ss t some room q l s) in let r : distance S (o .durations) ≡ gap (total S) t = omega arith in r))
+        (λ (l : t < total S). (let d : distance S (o .durations) + total (o .durations) ≡ total S = distance-down (settles-down (rhoOf ss t) ss t some room q (omega arith) s) in let r : distance S (o .durations) ≡ gap (total S) t = omega arith in r))
         (le-or-lt (total S) t) in
-        subst (λ (x : Outcome). Fair ms vs t x) (sym steps-are)
+        subst (λ (x : Outcome). Fair ss t x) (sym steps-are)
         (record {
           count = n;
-          positive = λ i h. positive-at (settles-positive (rhoOf ms vs t) ms vs t some agree room q start-positive s) i (omega arith);
+          positive = λ i h. positive-at (settles-positive (rhoOf ss t) ss t some room q start-positive s) i (omega arith);
           sum = sum;
           one-way = ⊎-elim
-              (λ (l : total S ≤ t). inl (under (settles-up (rhoOf ms vs t) ms vs t some agree room q l s)))
-              (λ (l : t < total S). inr (under (settles-down (rhoOf ms vs t) ms vs t some agree room q (omega arith) s)))
+              (λ (l : total S ≤ t). inl (under (settles-up (rhoOf ss t) ss t some room q l s)))
+              (λ (l : t < total S). inr (under (settles-down (rhoOf ss t) ss t some room q (omega arith) s)))
               (le-or-lt (total S) t);
           by-steps = s;
           by-gap = c;
@@ -130,13 +130,13 @@ module _ (ms vs : List Float) (t : ℕ) (some : 0 < length ms) (agree : length v
         })
 
   -- a fit that is not refused
-  pub fair-fit : refusalTo ms vs t ≡ 0 → Fair ms vs t (fitTo ms vs t)
+  pub fair-fit : refusalTo ss t ≡ 0 → Fair ss t (fitTo ss t)
   unfolding refusalTo
   fair-fit e =
-      let a : _≡_ {A = ℕ} (cond (ltb mostFrames t) 7 (cond (leb t (length ms)) 0 (cond (ltb mostFrames (total (startOf ms vs t))) 8 0))) 0 = rw (ne-eqb (length ms) 0 (λ q. omega arith)) at e in
+      let a : _≡_ {A = ℕ} (cond (ltb mostFrames t) 7 (cond (leb t (size ss)) 0 (cond (ltb mostFrames (total (startOf ss t))) 8 0))) 0 = rw (ne-eqb (size ss) 0 (λ q. omega arith)) at e in
       let b = cond-none (ltb mostFrames t) 6 _ a in
-      let c : _≡_ {A = ℕ} (cond (ltb mostFrames (total (startOf ms vs t))) 8 0) 0 = rw (lt-leb t (length ms) above) at (b .1) in
-      fair (ltb-false mostFrames t (b .0)) (ltb-false mostFrames (total (startOf ms vs t)) (cond-none (ltb mostFrames (total (startOf ms vs t))) 7 0 c .0))
+      let c : _≡_ {A = ℕ} (cond (ltb mostFrames (total (startOf ss t))) 8 0) 0 = rw (lt-leb t (size ss) above) at (b .1) in
+      fair (ltb-false mostFrames t (b .0)) (ltb-false mostFrames (total (startOf ss t)) (cond-none (ltb mostFrames (total (startOf ss t))) 7 0 c .0))
 
 -- an answer that is accepted
 fitted-is : (r : Fitted) (o : Outcome) → fitted r ≡ answerOf 0 (o .changes ∷ []) → r ≡ fit.Done (o .changes)
@@ -144,37 +144,37 @@ fitted-is (fit.Done c) o e = let q : c ∷ [] ≡ o .changes ∷ [] = ap (λ (a 
 fitted-is (fit.Refused k) o e = absurd (let q : _≡_ {A = List ℕ} [] (o .changes ∷ []) = ap (λ (a : Answer). a .values) e in let z : _≡_ {A = ℕ} 0 1 = cc in omega arith)
 
 -- a call of one of the first two kinds whose outcome is the fit to t
-module _ (ms vs : List Float) (t : ℕ) (out work : List ℕ) (m : Ample ms vs t out work) where
-  lists-none : refusalOfLists (length ms) (length vs) (length out) (length work) ≡ 0
+module _ (ss : States) (t : ℕ) (out work : List ℕ) (m : Ample ss t out work) where
+  lists-none : refusalOfLists (size ss) (length (ss .varis)) (length out) (length work) ≡ 0
   lists-none = sym (lists-fit _ _ _ _ (m .few) (m .agree) (m .output) (m .workspace))
 
-  fit-none : refusalTo ms vs t ≡ 0
+  fit-none : refusalTo ss t ≡ 0
   unfolding refusalTo
-  fit-none = rw (ne-eqb (length ms) 0 (λ q. omega (arith, m .some)), le-ltb mostFrames t (m .within), lt-leb t (length ms) (m .above), le-ltb mostFrames (total (startOf ms vs t)) (m .start))
+  fit-none = rw (ne-eqb (size ss) 0 (λ q. omega (arith, m .some)), le-ltb mostFrames t (m .within), lt-leb t (size ss) (m .above), le-ltb mostFrames (total (startOf ss t)) (m .start))
 
-  accepted : (k : ℕ) (r : Fitted) (out′ work′ : List ℕ) → k ≡ 0 → Says k (fitTo ms vs t .changes ∷ []) (fitTo ms vs t .durations) (length ms) out work (fitted r) out′ work′ → Accepted ms vs t out r out′
+  accepted : (k : ℕ) (r : Fitted) (out′ work′ : List ℕ) → k ≡ 0 → Says k (fitTo ss t .changes ∷ []) (fitTo ss t .durations) (size ss) out work (fitted r) out′ work′ → Accepted ss t out r out′
   accepted k r out′ work′ z f =
-      let g : Fair ms vs t (fitTo ms vs t) = fair ms vs t (m .some) (m .agree) (m .above) (m .within) (m .start) in
+      let g : Fair ss t (fitTo ss t) = fair ss t (m .some) (m .above) (m .within) (m .start) in
       record {
-        outcome = fitTo ms vs t;
-        answer = fitted-is r (fitTo ms vs t) (f .answer ∙ ap (λ (n : ℕ). answerOf n (fitTo ms vs t .changes ∷ [])) z);
+        outcome = fitTo ss t;
+        answer = fitted-is r (fitTo ss t) (f .answer ∙ ap (λ (n : ℕ). answerOf n (fitTo ss t .changes ∷ [])) z);
         output = f .output ∙ rw (z, g .count);
         fair = g;
       }
 
 -- The theorem of the fit, of every outcome that the fit's promise allows
-pub fit-theorem : (ms vs : List Float) (len : Float) (out work : List ℕ) (r : Fitted) (out′ work′ : List ℕ) → Ample ms vs (roundedOf len) out work → FitSays ms vs len out work r out′ work′ → Accepted ms vs (roundedOf len) out r out′
-fit-theorem ms vs len out work r out′ work′ m f =
-    accepted ms vs (roundedOf len) out work m _ r out′ work′ (rw (lists-none ms vs (roundedOf len) out work m) (fit-none ms vs (roundedOf len) out work m)) f
+pub fit-theorem : (ss : States) (len : Float) (out work : List ℕ) (r : Fitted) (out′ work′ : List ℕ) → Ample ss (roundedOf len) out work → FitSays ss len out work r out′ work′ → Accepted ss (roundedOf len) out r out′
+fit-theorem ss len out work r out′ work′ m f =
+    accepted ss (roundedOf len) out work m _ r out′ work′ (rw (lists-none ss (roundedOf len) out work m) (fit-none ss (roundedOf len) out work m)) f
 
 -- the same at a speed other than 1
-pub speed-theorem : (ms vs : List Float) (speed : Float) (out work : List ℕ) (r : Fitted) (out′ work′ : List ℕ)
-    → Ample ms vs (targetAt ms vs speed) out work → total (naturals ms vs) ≤ mostFrames → eq speed one ≡ false
-    → SpeedSays ms vs speed out work r out′ work′ → Accepted ms vs (targetAt ms vs speed) out r out′
+pub speed-theorem : (ss : States) (speed : Float) (out work : List ℕ) (r : Fitted) (out′ work′ : List ℕ)
+    → Ample ss (targetAt ss speed) out work → total (naturals ss) ≤ mostFrames → eq speed one ≡ false
+    → SpeedSays ss speed out work r out′ work′ → Accepted ss (targetAt ss speed) out r out′
 unfolding fitAt refusalAt
-speed-theorem ms vs speed out work r out′ work′ m n e f =
-    let t : ℕ = targetAt ms vs speed in
-    let k : ℕ = orElse (refusalOfLists (length ms) (length vs) (length out) (length work)) (refusalAt ms vs speed) in
-    let z : k ≡ 0 = rw (lists-none ms vs t out work m, le-ltb mostFrames (total (naturals ms vs)) n, e) (fit-none ms vs t out work m) in
-    let o : fitAt ms vs speed ≡ fitTo ms vs t = rw e in
-    accepted ms vs t out work m k r out′ work′ z (subst (λ (x : Outcome). Says k (x .changes ∷ []) (x .durations) (length ms) out work (fitted r) out′ work′) o f)
+speed-theorem ss speed out work r out′ work′ m n e f =
+    let t : ℕ = targetAt ss speed in
+    let k : ℕ = orElse (refusalOfLists (size ss) (length (ss .varis)) (length out) (length work)) (refusalAt ss speed) in
+    let z : k ≡ 0 = rw (lists-none ss t out work m, le-ltb mostFrames (total (naturals ss)) n, e) (fit-none ss t out work m) in
+    let o : fitAt ss speed ≡ fitTo ss t = rw e in
+    accepted ss t out work m k r out′ work′ z (subst (λ (x : Outcome). Says k (x .changes ∷ []) (x .durations) (size ss) out work (fitted r) out′ work′) o f)

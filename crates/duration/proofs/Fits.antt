@@ -8,7 +8,7 @@ use lib.Dec.{ltb, leb, eqb}
 use lib.ListN.{length, replicate, drop-of-length-le}
 use lib.Seq.{sets}
 use lib.Ieee.{Float, eq}
-use borrow.Author.Tests.{lt-ltb, le-ltb, le-leb, lt-leb, ne-eqb}
+use borrow.Author.Tests.{lt-ltb, le-ltb, le-leb, lt-leb, eq-eqb, ne-eqb}
 use Rattle.lists.specs.Sizes.{mostStates, mostFrames}
 use Rattle.lists.specs.Totals.{total}
 use Rattle.lists.proofs.Stores.{filled}
@@ -16,7 +16,7 @@ use Rattle.floats.specs.Numbers.{one}
 use Rattle.duration.specs.declared.Fitted.{Fitted}
 use Rattle.duration.specs.declared.Fitted.the-variants.{Done, Refused}
 use Rattle.duration.specs.Estimate.{estimates, naturals}
-use Rattle.steps.specs.Steps.{shortest, Outcome, settle}
+use Rattle.steps.specs.Steps.{States, size, shortest, Outcome, settle}
 use Rattle.steps.specs.Promise.{opens, SettleSays}
 use Rattle.steps.specs.declared.Settled.{Settled}
 use Rattle.steps.specs.declared.Settled.the-variants as rule
@@ -26,58 +26,59 @@ use Rattle.duration.specs.Speed.{targetAt, fitAt, refusalAt}
 use Rattle.duration.specs.Promise.{clears}
 use Rattle.duration.specs.Inner.Asked.{Agree, InPlace}
 
-no-list : (xs : List ℕ) → length xs ≡ 0 → xs ≡ []
+pub no-list : (xs : List ℕ) → length xs ≡ 0 → xs ≡ []
 no-list [] e = refl
 no-list (x ∷ xs) e = absurd (omega arith)
 
-pub fit-none : (ms vs : List Float) (t : ℕ) (work : List ℕ) → Agree ms vs work → length ms ≡ 0 → InPlace (refusalTo ms vs t) (fitTo ms vs t) (Done 0) work
+pub fit-none : (ss : States) (t : ℕ) (work : List ℕ) → Agree ss work → size ss ≡ 0 → InPlace (refusalTo ss t) (fitTo ss t) (Done 0) work
 unfolding refusalTo fitTo
-fit-none [] vs t work g z = record { answer = refl; output = λ q. no-list work (g .workspace) }
-fit-none (m ∷ ms) vs t work g z = absurd (omega arith)
+fit-none ss t work g z =
+    let e : eqb (size ss) 0 ≡ true = eq-eqb (size ss) 0 z in
+    record { answer = rw e; output = λ q. rw (e, z) (no-list work (g .workspace ∙ z)) }
 
 in-refused : (k m : ℕ) (o : Outcome) (work : List ℕ) → m ≡ suc k → InPlace m o (Refused (suc k)) work
 in-refused k m o work e = record { answer = rw e; output = λ q. absurd (omega arith) }
 
-module _ (ms vs : List Float) (t : ℕ) (some : 0 < length ms) where
-  states : eqb (length ms) 0 ≡ false
-  states = ne-eqb (length ms) 0 (λ q. omega arith)
+module _ (ss : States) (t : ℕ) (some : 0 < size ss) where
+  states : eqb (size ss) 0 ≡ false
+  states = ne-eqb (size ss) 0 (λ q. omega arith)
 
-  pub fit-over : (work : List ℕ) → mostFrames < t → InPlace (refusalTo ms vs t) (fitTo ms vs t) (Refused 7) work
+  pub fit-over : (work : List ℕ) → mostFrames < t → InPlace (refusalTo ss t) (fitTo ss t) (Refused 7) work
   unfolding refusalTo
-  fit-over work h = in-refused 6 (refusalTo ms vs t) (fitTo ms vs t) work (rw (states, lt-ltb mostFrames t h))
+  fit-over work h = in-refused 6 (refusalTo ss t) (fitTo ss t) work (rw (states, lt-ltb mostFrames t h))
 
   module _ (within : t ≤ mostFrames) where
-    pub fit-shortest : (work : List ℕ) → t ≤ length ms → work ≡ replicate (length ms) shortest → InPlace (refusalTo ms vs t) (fitTo ms vs t) (Done 0) work
+    pub fit-shortest : (work : List ℕ) → t ≤ size ss → work ≡ replicate (size ss) shortest → InPlace (refusalTo ss t) (fitTo ss t) (Done 0) work
     unfolding refusalTo fitTo
     fit-shortest work h e =
-        let b : leb t (length ms) ≡ true = le-leb t (length ms) h in
+        let b : leb t (size ss) ≡ true = le-leb t (size ss) h in
         record { answer = rw (states, le-ltb mostFrames t within, b); output = λ q. rw (states, b) e }
 
     -- from the start, the estimate with rho, the step rule answers r and leaves `work`
-    module _ (above : length ms < t) (rho : Float) (start work : List ℕ) (r : Settled) (few : length ms ≤ mostStates) (agree : length vs ≡ length ms) (long : length start ≡ length ms)
-        (p : rho ≡ rhoOf ms vs t) (q : start ≡ estimates rho ms vs) (s : SettleSays rho t ms vs start r work) where
-      start-is : start ≡ startOf ms vs t
+    module _ (above : size ss < t) (rho : Float) (start work : List ℕ) (r : Settled) (few : size ss ≤ mostStates) (agree : length (ss .varis) ≡ size ss) (long : length start ≡ size ss)
+        (p : rho ≡ rhoOf ss t) (q : start ≡ estimates rho ss) (s : SettleSays rho t ss start r work) where
+      start-is : start ≡ startOf ss t
       unfolding startOf
       start-is = q ∙ rw p
 
       -- its door stands open
-      pub fit-opens : opens (length ms) (length vs) (length start) t ≡ true
-      fit-opens = stands-open (length ms) (length vs) (length start) t (record { some = some; few = few; varis = agree; work = long; above = above; within = within })
+      pub fit-opens : opens (size ss) (length (ss .varis)) (length start) t ≡ true
+      fit-opens = stands-open (size ss) (length (ss .varis)) (length start) t (record { some = some; few = few; varis = agree; work = long; above = above; within = within })
 
-      pub fit-long : r ≡ rule.Over → InPlace (refusalTo ms vs t) (fitTo ms vs t) (Refused 8) work
+      pub fit-long : r ≡ rule.Over → InPlace (refusalTo ss t) (fitTo ss t) (Refused 8) work
       unfolding refusalTo
       fit-long e =
-          let h : mostFrames < total (startOf ms vs t) = rw (← start-is) (was-over rho t ms vs start fit-opens r work s e) in
-          in-refused 7 (refusalTo ms vs t) (fitTo ms vs t) work (rw (states, le-ltb mostFrames t within, lt-leb t (length ms) above, lt-ltb mostFrames (total (startOf ms vs t)) h))
+          let h : mostFrames < total (startOf ss t) = rw (← start-is) (was-over rho t ss start fit-opens r work s e) in
+          in-refused 7 (refusalTo ss t) (fitTo ss t) work (rw (states, le-ltb mostFrames t within, lt-leb t (size ss) above, lt-ltb mostFrames (total (startOf ss t)) h))
 
-      pub fit-settled : (c : ℕ) → r ≡ rule.Done c → InPlace (refusalTo ms vs t) (fitTo ms vs t) (Done c) work
+      pub fit-settled : (c : ℕ) → r ≡ rule.Done c → InPlace (refusalTo ss t) (fitTo ss t) (Done c) work
       unfolding refusalTo fitTo
       fit-settled c e =
-          let o = was-settled rho t ms vs start fit-opens r work s c e in
-          let h : total (startOf ms vs t) ≤ mostFrames = rw (← start-is) (o .0) in
-          let g : settle mostFrames (rhoOf ms vs t) ms vs t (startOf ms vs t) ≡ record { durations = work; changes = c } = rw (← p, ← start-is) (o .1) in
-          let b : leb t (length ms) ≡ false = lt-leb t (length ms) above in
-          record { answer = rw (states, le-ltb mostFrames t within, b, le-ltb mostFrames (total (startOf ms vs t)) h, g); output = λ q. rw (states, b, g) }
+          let o = was-settled rho t ss start fit-opens r work s c e in
+          let h : total (startOf ss t) ≤ mostFrames = rw (← start-is) (o .0) in
+          let g : settle mostFrames (rhoOf ss t) ss t (startOf ss t) ≡ record { durations = work; changes = c } = rw (← p, ← start-is) (o .1) in
+          let b : leb t (size ss) ≡ false = lt-leb t (size ss) above in
+          record { answer = rw (states, le-ltb mostFrames t within, b, le-ltb mostFrames (total (startOf ss t)) h, g); output = λ q. rw (states, b, g) }
 
 -- a list that is filled whole
 pub all-filled : (n v : ℕ) (l : List ℕ) → length l ≡ n → sets l 0 (replicate n v) ≡ replicate n v
@@ -92,31 +93,31 @@ late false false true d = refl
 late false false false true = refl
 late false false false false = refl
 
-pub fit-clears : (ms vs : List Float) (t : ℕ) → clears (refusalTo ms vs t) ≡ true
+pub fit-clears : (ss : States) (t : ℕ) → clears (refusalTo ss t) ≡ true
 unfolding refusalTo
-fit-clears ms vs t = late (eqb (length ms) 0) (ltb mostFrames t) (leb t (length ms)) (ltb mostFrames (total (startOf ms vs t)))
+fit-clears ss t = late (eqb (size ss) 0) (ltb mostFrames t) (leb t (size ss)) (ltb mostFrames (total (startOf ss t)))
 
 -- ---- at a speed
 
-module _ (ms vs : List Float) (speed : Float) (work : List ℕ) where
-  pub speed-long : mostFrames < total (naturals ms vs) → InPlace (refusalAt ms vs speed) (fitAt ms vs speed) (Refused 8) work
+module _ (ss : States) (speed : Float) (work : List ℕ) where
+  pub speed-long : mostFrames < total (naturals ss) → InPlace (refusalAt ss speed) (fitAt ss speed) (Refused 8) work
   unfolding refusalAt
-  speed-long h = in-refused 7 (refusalAt ms vs speed) (fitAt ms vs speed) work (rw (lt-ltb mostFrames (total (naturals ms vs)) h))
+  speed-long h = in-refused 7 (refusalAt ss speed) (fitAt ss speed) work (rw (lt-ltb mostFrames (total (naturals ss)) h))
 
-  module _ (h : total (naturals ms vs) ≤ mostFrames) where
-    pub speed-one : eq speed one ≡ true → work ≡ naturals ms vs → InPlace (refusalAt ms vs speed) (fitAt ms vs speed) (Done 0) work
+  module _ (h : total (naturals ss) ≤ mostFrames) where
+    pub speed-one : eq speed one ≡ true → work ≡ naturals ss → InPlace (refusalAt ss speed) (fitAt ss speed) (Done 0) work
     unfolding refusalAt fitAt
-    speed-one e w = record { answer = rw (le-ltb mostFrames (total (naturals ms vs)) h, e); output = λ q. rw e w }
+    speed-one e w = record { answer = rw (le-ltb mostFrames (total (naturals ss)) h, e); output = λ q. rw e w }
 
-    pub speed-other : (t : ℕ) (r : Fitted) → eq speed one ≡ false → t ≡ targetAt ms vs speed → InPlace (refusalTo ms vs t) (fitTo ms vs t) r work → InPlace (refusalAt ms vs speed) (fitAt ms vs speed) r work
+    pub speed-other : (t : ℕ) (r : Fitted) → eq speed one ≡ false → t ≡ targetAt ss speed → InPlace (refusalTo ss t) (fitTo ss t) r work → InPlace (refusalAt ss speed) (fitAt ss speed) r work
     unfolding refusalAt fitAt
-    speed-other t r e q f = rw (le-ltb mostFrames (total (naturals ms vs)) h, e, ← q) f
+    speed-other t r e q f = rw (le-ltb mostFrames (total (naturals ss)) h, e, ← q) f
 
 late-speed : (a b : Bool) (k : ℕ) → clears k ≡ true → clears (cond a 8 (cond b 0 k)) ≡ true
 late-speed true b k e = refl
 late-speed false true k e = refl
 late-speed false false k e = e
 
-pub speed-clears : (ms vs : List Float) (speed : Float) → clears (refusalAt ms vs speed) ≡ true
+pub speed-clears : (ss : States) (speed : Float) → clears (refusalAt ss speed) ≡ true
 unfolding refusalAt
-speed-clears ms vs speed = late-speed (ltb mostFrames (total (naturals ms vs))) (eq speed one) (refusalTo ms vs (targetAt ms vs speed)) (fit-clears ms vs (targetAt ms vs speed))
+speed-clears ss speed = late-speed (ltb mostFrames (total (naturals ss))) (eq speed one) (refusalTo ss (targetAt ss speed)) (fit-clears ss (targetAt ss speed))

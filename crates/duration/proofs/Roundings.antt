@@ -7,6 +7,7 @@ use lib.Dec.{ltb, leb, eqb}
 use lib.ListN.{length, replicate}
 use lib.Ieee.{Float, binary64, add, sub, mul, div, eq}
 use Rattle.lists.specs.Sizes.{mostFrames}
+use Rattle.lists.specs.Build.{build}
 use Rattle.lists.specs.Totals.{total}
 use Rattle.lists.specs.Refusals.{orElse}
 use Rattle.floats.specs.Rounding.{roundedOf}
@@ -16,117 +17,113 @@ use Rattle.duration.specs.declared.Aligned.{Aligned}
 use Rattle.duration.specs.declared.align.End.{End}
 use Rattle.duration.specs.declared.align.End.the-variants.{At, Open}
 use Rattle.duration.specs.Estimate.{estimates, naturals}
-use Rattle.steps.specs.Steps.{shortest, Outcome, unchanged, settle}
+use Rattle.steps.specs.Steps.{States, size, stateAt, shortest, Outcome, unchanged, settle}
 use Rattle.duration.specs.Fit.{rhoOf, startOf, atShortest, fitTo, refusalTo}
 use Rattle.duration.specs.Speed.{targetAt, fitAt, refusalAt}
-use Rattle.duration.specs.Align.{Group, groups, within, targetOf, fitToEnd, fitOf, fitAlong, refusalToEnd, refusalOf, refusalAlong}
+use Rattle.duration.specs.Align.{Group, groups, statesIn, targetOf, fitToEnd, fitOf, fitAlong, refusalToEnd, refusalOf, refusalAlong}
 use Rattle.duration.specs.Promise.{fitted, aligned, refusalOfLists, refusalOfLabels, Says}
 
 module _ (rounding : Float → ℕ) where
-  unfoldable pub estimatesBy : Float → List Float → List Float → List ℕ
-  estimatesBy rho [] vs = []
-  estimatesBy rho (m ∷ ms) [] = []
-  estimatesBy rho (m ∷ ms) (v ∷ vs) = rounding (add binary64 m (mul binary64 rho v)) ∷ estimatesBy rho ms vs
+  unfoldable pub estimatesBy : Float → States → List ℕ
+  estimatesBy rho ss = build (λ i. rounding (add binary64 (stateAt ss i .mean) (mul binary64 rho (stateAt ss i .vari)))) (size ss)
 
-  unfoldable pub startBy : List Float → List Float → ℕ → List ℕ
-  startBy ms vs t = estimatesBy (rhoOf ms vs t) ms vs
+  unfoldable pub startBy : States → ℕ → List ℕ
+  startBy ss t = estimatesBy (rhoOf ss t) ss
 
-  unfoldable pub fitToBy : List Float → List Float → ℕ → Outcome
-  fitToBy ms vs t = cond (atShortest (length ms) t) (unchanged (replicate (length ms) shortest)) (settle mostFrames (rhoOf ms vs t) ms vs t (startBy ms vs t))
+  unfoldable pub fitToBy : States → ℕ → Outcome
+  fitToBy ss t = cond (atShortest (size ss) t) (unchanged (replicate (size ss) shortest)) (settle mostFrames (rhoOf ss t) ss t (startBy ss t))
 
-  unfoldable pub refusalToBy : List Float → List Float → ℕ → ℕ
-  refusalToBy ms vs t =
-      cond (eqb (length ms) 0) 0
+  unfoldable pub refusalToBy : States → ℕ → ℕ
+  refusalToBy ss t =
+      cond (eqb (size ss) 0) 0
       (cond (ltb mostFrames t) 7
-      (cond (leb t (length ms)) 0
-      (cond (ltb mostFrames (total (startBy ms vs t))) 8 0)))
+      (cond (leb t (size ss)) 0
+      (cond (ltb mostFrames (total (startBy ss t))) 8 0)))
 
-  unfoldable pub naturalsBy : List Float → List Float → List ℕ
-  naturalsBy ms vs = estimatesBy nought ms vs
+  unfoldable pub naturalsBy : States → List ℕ
+  naturalsBy ss = estimatesBy nought ss
 
-  unfoldable pub targetAtBy : List Float → List Float → Float → ℕ
-  targetAtBy ms vs speed = rounding (div binary64 (number (total (naturalsBy ms vs))) speed)
+  unfoldable pub targetAtBy : States → Float → ℕ
+  targetAtBy ss speed = rounding (div binary64 (number (total (naturalsBy ss))) speed)
 
-  unfoldable pub fitAtBy : List Float → List Float → Float → Outcome
-  fitAtBy ms vs speed = cond (eq speed one) (unchanged (naturalsBy ms vs)) (fitToBy ms vs (targetAtBy ms vs speed))
+  unfoldable pub fitAtBy : States → Float → Outcome
+  fitAtBy ss speed = cond (eq speed one) (unchanged (naturalsBy ss)) (fitToBy ss (targetAtBy ss speed))
 
-  unfoldable pub refusalAtBy : List Float → List Float → Float → ℕ
-  refusalAtBy ms vs speed = cond (ltb mostFrames (total (naturalsBy ms vs))) 8 (cond (eq speed one) 0 (refusalToBy ms vs (targetAtBy ms vs speed)))
+  unfoldable pub refusalAtBy : States → Float → ℕ
+  refusalAtBy ss speed = cond (ltb mostFrames (total (naturalsBy ss))) 8 (cond (eq speed one) 0 (refusalToBy ss (targetAtBy ss speed)))
 
   abbrev pub targetOfBy : Float → ℕ → ℕ
   targetOfBy end frames = rounding (sub binary64 end (number frames))
 
-  abbrev pub fitToEndBy : List Float → List Float → ℕ → End → Outcome
-  fitToEndBy ms vs frames (At x) = fitToBy ms vs (targetOfBy x frames)
-  fitToEndBy ms vs frames Open = unchanged (naturalsBy ms vs)
+  abbrev pub fitToEndBy : States → ℕ → End → Outcome
+  fitToEndBy ss frames (At x) = fitToBy ss (targetOfBy x frames)
+  fitToEndBy ss frames Open = unchanged (naturalsBy ss)
 
-  abbrev pub fitOfBy : List Float → List Float → Group → ℕ → Outcome
-  fitOfBy ms vs g frames = fitToEndBy (within g ms) (within g vs) frames (g .end)
+  abbrev pub fitOfBy : States → Group → ℕ → Outcome
+  fitOfBy ss g frames = fitToEndBy (statesIn g ss) frames (g .end)
 
-  unfoldable pub fitAlongBy : List Float → List Float → List Group → ℕ → Outcome
-  fitAlongBy ms vs [] frames = unchanged []
-  fitAlongBy ms vs (g ∷ gs) frames =
-      let o = fitOfBy ms vs g frames in
-      let later = fitAlongBy ms vs gs (frames + total (o .durations)) in
+  unfoldable pub fitAlongBy : States → List Group → ℕ → Outcome
+  fitAlongBy ss [] frames = unchanged []
+  fitAlongBy ss (g ∷ gs) frames =
+      let o = fitOfBy ss g frames in
+      let later = fitAlongBy ss gs (frames + total (o .durations)) in
       record { durations = o .durations ++ later .durations; changes = o .changes + later .changes }
 
-  abbrev pub refusalToEndBy : List Float → List Float → ℕ → End → ℕ
-  refusalToEndBy ms vs frames (At x) = refusalToBy ms vs (targetOfBy x frames)
-  refusalToEndBy ms vs frames Open = cond (ltb mostFrames (total (naturalsBy ms vs))) 8 0
+  abbrev pub refusalToEndBy : States → ℕ → End → ℕ
+  refusalToEndBy ss frames (At x) = refusalToBy ss (targetOfBy x frames)
+  refusalToEndBy ss frames Open = cond (ltb mostFrames (total (naturalsBy ss))) 8 0
 
-  unfoldable pub refusalOfBy : List Float → List Float → Group → ℕ → ℕ
-  refusalOfBy ms vs g frames =
-      orElse (refusalToEndBy (within g ms) (within g vs) frames (g .end))
-      (cond (ltb mostFrames (frames + total (fitOfBy ms vs g frames .durations))) 8 0)
+  unfoldable pub refusalOfBy : States → Group → ℕ → ℕ
+  refusalOfBy ss g frames =
+      orElse (refusalToEndBy (statesIn g ss) frames (g .end))
+      (cond (ltb mostFrames (frames + total (fitOfBy ss g frames .durations))) 8 0)
 
-  unfoldable pub refusalAlongBy : List Float → List Float → List Group → ℕ → ℕ
-  refusalAlongBy ms vs [] frames = 0
-  refusalAlongBy ms vs (g ∷ gs) frames = orElse (refusalOfBy ms vs g frames) (refusalAlongBy ms vs gs (frames + total (fitOfBy ms vs g frames .durations)))
+  unfoldable pub refusalAlongBy : States → List Group → ℕ → ℕ
+  refusalAlongBy ss [] frames = 0
+  refusalAlongBy ss (g ∷ gs) frames = orElse (refusalOfBy ss g frames) (refusalAlongBy ss gs (frames + total (fitOfBy ss g frames .durations)))
 
-  abbrev pub FitSaysBy : List Float → List Float → Float → List ℕ → List ℕ → Fitted → List ℕ → List ℕ → Type 0
-  FitSaysBy ms vs len out work r =
-      let o = fitToBy ms vs (rounding len) in
-      Says (orElse (refusalOfLists (length ms) (length vs) (length out) (length work)) (refusalToBy ms vs (rounding len))) (o .changes ∷ []) (o .durations) (length ms) out work (fitted r)
+  abbrev pub FitSaysBy : States → Float → List ℕ → List ℕ → Fitted → List ℕ → List ℕ → Type 0
+  FitSaysBy ss len out work r =
+      let o = fitToBy ss (rounding len) in
+      Says (orElse (refusalOfLists (size ss) (length (ss .varis)) (length out) (length work)) (refusalToBy ss (rounding len))) (o .changes ∷ []) (o .durations) (size ss) out work (fitted r)
 
-  abbrev pub SpeedSaysBy : List Float → List Float → Float → List ℕ → List ℕ → Fitted → List ℕ → List ℕ → Type 0
-  SpeedSaysBy ms vs speed out work r =
-      let o = fitAtBy ms vs speed in
-      Says (orElse (refusalOfLists (length ms) (length vs) (length out) (length work)) (refusalAtBy ms vs speed)) (o .changes ∷ []) (o .durations) (length ms) out work (fitted r)
+  abbrev pub SpeedSaysBy : States → Float → List ℕ → List ℕ → Fitted → List ℕ → List ℕ → Type 0
+  SpeedSaysBy ss speed out work r =
+      let o = fitAtBy ss speed in
+      Says (orElse (refusalOfLists (size ss) (length (ss .varis)) (length out) (length work)) (refusalAtBy ss speed)) (o .changes ∷ []) (o .durations) (size ss) out work (fitted r)
 
-  abbrev pub AlignSaysBy : List Float → List Float → ℕ → List Float → List ℕ → List ℕ → Aligned → List ℕ → List ℕ → Type 0
-  AlignSaysBy ms vs nstate ends out work r =
+  abbrev pub AlignSaysBy : States → ℕ → List Float → List ℕ → List ℕ → Aligned → List ℕ → List ℕ → Type 0
+  AlignSaysBy ss nstate ends out work r =
       let gs = groups nstate 0 0 ends in
-      let o = fitAlongBy ms vs gs 0 in
-      Says (orElse (refusalOfLabels nstate (length ends) (length ms) (length vs) (length out) (length work)) (refusalAlongBy ms vs gs 0)) (length ms ∷ o .changes ∷ []) (o .durations) (length ms) out work (aligned r)
+      let o = fitAlongBy ss gs 0 in
+      Says (orElse (refusalOfLabels nstate (length ends) (size ss) (length (ss .varis)) (length out) (length work)) (refusalAlongBy ss gs 0)) (size ss ∷ o .changes ∷ []) (o .durations) (size ss) out work (aligned r)
 
 -- ---- with `roundedOf` they are those of `specs/`
 
-estimates-restated : (rho : Float) (ms vs : List Float) → estimatesBy roundedOf rho ms vs ≡ estimates rho ms vs
+estimates-restated : (rho : Float) (ss : States) → estimatesBy roundedOf rho ss ≡ estimates rho ss
 unfolding estimatesBy estimates
-estimates-restated rho [] vs = refl
-estimates-restated rho (m ∷ ms) [] = refl
-estimates-restated rho (m ∷ ms) (v ∷ vs) = ap (λ (l : List ℕ). roundedOf (add binary64 m (mul binary64 rho v)) ∷ l) (estimates-restated rho ms vs)
+estimates-restated rho ss = refl
 
-pub fit-restated : (ms vs : List Float) (t : ℕ) → (refusalToBy roundedOf ms vs t ≡ refusalTo ms vs t) × (fitToBy roundedOf ms vs t ≡ fitTo ms vs t)
+pub fit-restated : (ss : States) (t : ℕ) → (refusalToBy roundedOf ss t ≡ refusalTo ss t) × (fitToBy roundedOf ss t ≡ fitTo ss t)
 unfolding refusalToBy refusalTo fitToBy fitTo startBy startOf
-fit-restated ms vs t = let e = estimates-restated (rhoOf ms vs t) ms vs in (rw e, rw e)
+fit-restated ss t = let e = estimates-restated (rhoOf ss t) ss in (rw e, rw e)
 
-pub speed-restated : (ms vs : List Float) (speed : Float) → (refusalAtBy roundedOf ms vs speed ≡ refusalAt ms vs speed) × (fitAtBy roundedOf ms vs speed ≡ fitAt ms vs speed)
+pub speed-restated : (ss : States) (speed : Float) → (refusalAtBy roundedOf ss speed ≡ refusalAt ss speed) × (fitAtBy roundedOf ss speed ≡ fitAt ss speed)
 unfolding refusalAtBy refusalAt fitAtBy fitAt targetAtBy targetAt naturalsBy naturals
-speed-restated ms vs speed =
-    let e = estimates-restated nought ms vs in
-    let f = fit-restated ms vs (targetAt ms vs speed) in
+speed-restated ss speed =
+    let e = estimates-restated nought ss in
+    let f = fit-restated ss (targetAt ss speed) in
     (rw (e, f .0), rw (e, f .1))
 
-end-restated : (ms vs : List Float) (frames : ℕ) (end : End) → (refusalToEndBy roundedOf ms vs frames end ≡ refusalToEnd ms vs frames end) × (fitToEndBy roundedOf ms vs frames end ≡ fitToEnd ms vs frames end)
+end-restated : (ss : States) (frames : ℕ) (end : End) → (refusalToEndBy roundedOf ss frames end ≡ refusalToEnd ss frames end) × (fitToEndBy roundedOf ss frames end ≡ fitToEnd ss frames end)
 unfolding naturalsBy naturals
-end-restated ms vs frames (At x) = fit-restated ms vs (targetOf x frames)
-end-restated ms vs frames Open = let e = estimates-restated nought ms vs in (rw e, rw e)
+end-restated ss frames (At x) = fit-restated ss (targetOf x frames)
+end-restated ss frames Open = let e = estimates-restated nought ss in (rw e, rw e)
 
-pub along-restated : (ms vs : List Float) (gs : List Group) (frames : ℕ) → (refusalAlongBy roundedOf ms vs gs frames ≡ refusalAlong ms vs gs frames) × (fitAlongBy roundedOf ms vs gs frames ≡ fitAlong ms vs gs frames)
+pub along-restated : (ss : States) (gs : List Group) (frames : ℕ) → (refusalAlongBy roundedOf ss gs frames ≡ refusalAlong ss gs frames) × (fitAlongBy roundedOf ss gs frames ≡ fitAlong ss gs frames)
 unfolding refusalAlongBy refusalAlong fitAlongBy fitAlong refusalOfBy refusalOf
-along-restated ms vs [] frames = (refl, refl)
-along-restated ms vs (g ∷ gs) frames =
-    let f = end-restated (within g ms) (within g vs) frames (g .end) in
-    let later = along-restated ms vs gs (frames + total (fitOf ms vs g frames .durations)) in
+along-restated ss [] frames = (refl, refl)
+along-restated ss (g ∷ gs) frames =
+    let f = end-restated (statesIn g ss) frames (g .end) in
+    let later = along-restated ss gs (frames + total (fitOf ss g frames .durations)) in
     (rw (f .0, f .1, later .0), rw (f .1, later .1))

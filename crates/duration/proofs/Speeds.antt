@@ -18,7 +18,7 @@ use Rattle.floats.specs.Rounding.{nearestHalf, toIntegral, framesOf, roundedOf}
 use Rattle.floats.specs.Numbers.{nought, one, number}
 use Rattle.floats.proofs.Below.{nan-one, endless-below, cond-below, round-below}
 use Rattle.floats.proofs.Differences.{number-value}
-use Rattle.steps.specs.Steps.{shortest, unchanged}
+use Rattle.steps.specs.Steps.{States, size, shortest, unchanged}
 use Rattle.duration.specs.Fit.{fitTo, refusalTo}
 use Rattle.duration.specs.Estimate.{naturals}
 use Rattle.duration.specs.Speed.{targetAt, fitAt, refusalAt}
@@ -87,36 +87,36 @@ unfolding total
 total-some none h = h
 total-some (more p ps) h = omega arith
 
-module _ (ms vs : List Float) (some : 0 < length ms) (agree : length vs ≡ length ms) (small : total (naturals ms vs) ≤ mostFrames) where
-  value : HasValue (number (total (naturals ms vs))) false (total (naturals ms vs)) 1
-  value = number-value (total (naturals ms vs)) (le-trans small (lit≤ tt))
+module _ (ss : States) (some : 0 < size ss) (small : total (naturals ss) ≤ mostFrames) where
+  value : HasValue (number (total (naturals ss))) false (total (naturals ss)) 1
+  value = number-value (total (naturals ss)) (le-trans small (lit≤ tt))
 
   -- every state gets one frame, with no change
   pub OneEach : Float → Type 0
-  OneEach speed = (refusalAt ms vs speed ≡ 0) × (fitAt ms vs speed ≡ unchanged (replicate (length ms) shortest))
+  OneEach speed = (refusalAt ss speed ≡ 0) × (fitAt ss speed ≡ unchanged (replicate (size ss) shortest))
 
-  one-each : (speed : Float) → eq speed one ≡ false → targetAt ms vs speed ≡ 1 → OneEach speed
+  one-each : (speed : Float) → eq speed one ≡ false → targetAt ss speed ≡ 1 → OneEach speed
   unfolding OneEach refusalAt fitAt refusalTo fitTo
   one-each speed e t =
-      let z : eqb (length ms) 0 ≡ false = ne-eqb (length ms) 0 (λ q. omega arith) in
-      (rw (le-ltb mostFrames (total (naturals ms vs)) small, e, t, z, le-leb 1 (length ms) some), rw (e, t, z, le-leb 1 (length ms) some))
+      let z : eqb (size ss) 0 ≡ false = ne-eqb (size ss) 0 (λ q. omega arith) in
+      (rw (le-ltb mostFrames (total (naturals ss)) small, e, t, z, le-leb 1 (size ss) some), rw (e, t, z, le-leb 1 (size ss) some))
 
   pub speed-nan : OneEach nan
   unfolding targetAt eq
-  speed-nan = one-each nan refl (by-nan (number (total (naturals ms vs))))
+  speed-nan = one-each nan refl (by-nan (number (total (naturals ss))))
 
   pub speed-infinite : (s : Bool) → OneEach (inf s)
   unfolding targetAt eq ofBits
-  speed-infinite s = one-each (inf s) refl (by-infinite (total (naturals ms vs)) (number (total (naturals ms vs))) s value)
+  speed-infinite s = one-each (inf s) refl (by-infinite (total (naturals ss)) (number (total (naturals ss))) s value)
 
   -- -0 too
   pub speed-below : (m : ℕ) (e : ℤ) → OneEach (fin true m e)
   unfolding targetAt
-  speed-below m e = one-each (fin true m e) (not-one-below m e) (by-below (total (naturals ms vs)) (number (total (naturals ms vs))) m e value)
+  speed-below m e = one-each (fin true m e) (not-one-below m e) (by-below (total (naturals ss)) (number (total (naturals ss))) m e value)
 
-  pub speed-zero : (e : ℤ) → refusalAt ms vs (fin false 0 e) ≡ 7
+  pub speed-zero : (e : ℤ) → refusalAt ss (fin false 0 e) ≡ 7
   unfolding refusalAt refusalTo targetAt naturals
   speed-zero e =
-      let p : 0 < total (naturals ms vs) = total-some (estimates-positive nought ms vs) (let h : length (naturals ms vs) ≡ length ms = length-estimates nought ms vs agree in omega arith) in
-      let t : targetAt ms vs (fin false 0 e) ≡ 65537 = by-zero (total (naturals ms vs)) (number (total (naturals ms vs))) e value p in
-      rw (le-ltb mostFrames (total (naturals ms vs)) small, not-one-zero e, t, ne-eqb (length ms) 0 (λ q. omega arith))
+      let p : 0 < total (naturals ss) = total-some (estimates-positive nought ss) (let h : length (naturals ss) ≡ size ss = length-estimates nought ss in omega arith) in
+      let t : targetAt ss (fin false 0 e) ≡ 65537 = by-zero (total (naturals ss)) (number (total (naturals ss))) e value p in
+      rw (le-ltb mostFrames (total (naturals ss)) small, not-one-zero e, t, ne-eqb (size ss) 0 (λ q. omega arith))

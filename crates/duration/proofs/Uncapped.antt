@@ -2,7 +2,7 @@
 use mathlib.Core.Path.{_≡_, refl, sym, ap, _∙_, subst}
 use mathlib.Core.Bool.{Bool, true, false, cond, _||_}
 use mathlib.Core.Logic.{⊎-elim, _↔_}
-use mathlib.Core.List.{List, [], _∷_}
+use mathlib.Core.List.{List, [], _∷_, _++_}
 use Prim.Native.Nat.{ℕ, zero, suc, _+_, _≤_, _<_, min, max, zero-le}
 use native.Mathlib.Omega.{arith}
 use lib.Dec.{ltb, leb, eqb}
@@ -11,6 +11,7 @@ use lib.ListN.{length, replicate}
 use lib.Ieee.{Float, binary64, div, eq}
 use borrow.Author.Tests.{lt-ltb, le-ltb, ltb-false}
 use Rattle.lists.specs.Sizes.{mostFrames}
+use Rattle.lists.specs.Build.{build}
 use Rattle.lists.specs.Totals.{total}
 use Rattle.lists.specs.Refusals.{orElse}
 use Rattle.lists.specs.Answers.{Answer}
@@ -23,10 +24,10 @@ use Rattle.duration.specs.declared.Aligned.{Aligned}
 use Rattle.duration.specs.declared.align.End.{End}
 use Rattle.duration.specs.declared.align.End.the-variants.{At, Open}
 use Rattle.duration.specs.Estimate.{estimates, naturals}
-use Rattle.steps.specs.Steps.{shortest, Outcome, unchanged, settle}
+use Rattle.steps.specs.Steps.{States, size, shortest, Outcome, unchanged, settle}
 use Rattle.duration.specs.Fit.{rhoOf, startOf, fitTo, refusalTo}
 use Rattle.duration.specs.Speed.{targetAt, fitAt, refusalAt}
-use Rattle.duration.specs.Align.{Group, groups, within, targetOf, fitToEnd, fitOf, fitAlong, refusalToEnd, refusalOf, refusalAlong}
+use Rattle.duration.specs.Align.{Group, groups, statesIn, targetOf, fitToEnd, fitOf, fitAlong, refusalToEnd, refusalOf, refusalAlong}
 use Rattle.duration.specs.Promise.{fitted, aligned, refusalOfLists, refusalOfLabels, Says, FitSays, SpeedSays, AlignSays}
 use Rattle.duration.proofs.Roundings.{estimatesBy, startBy, fitToBy, refusalToBy, naturalsBy, targetAtBy, fitAtBy, refusalAtBy, targetOfBy, fitToEndBy, fitOfBy, fitAlongBy, refusalToEndBy, refusalOfBy, refusalAlongBy, FitSaysBy, SpeedSaysBy, AlignSaysBy}
 
@@ -63,6 +64,15 @@ capped-over {ss} {ts} p = ⊎-elim
     (λ (h : total ts ≤ mostFrames). ap (λ (l : List ℕ). ltb mostFrames (total l)) (capped-same p h))
     (λ (h : mostFrames < total ts). lt-ltb mostFrames (total ss) (omega (arith, capped-below p)) ∙ sym (lt-ltb mostFrames (total ts) h))
     (le-or-lt (total ts) mostFrames)
+
+capped-more : (s t : ℕ) → Caps s t → {xs ys : List ℕ} → Capped xs ys → Capped (xs ++ (s ∷ [])) (ys ++ (t ∷ []))
+capped-more s t c nil = cons c nil
+capped-more s t c (cons d p) = cons d (capped-more s t c p)
+
+capped-build : (f g : ℕ → ℕ) (n : ℕ) → ((i : ℕ) → Caps (f i) (g i)) → Capped (build f n) (build g n)
+unfolding build
+capped-build f g zero h = nil
+capped-build f g (suc n) h = capped-more (f n) (g n) (h n) (capped-build f g n h)
 
 -- ---- two ways to the same answer
 
@@ -110,106 +120,104 @@ or-same j zero x y e f = rw e (f refl)
 or-same j (suc k) x y e f = rw e
 
 module _ (rounding : Float → ℕ) (caps : (x : Float) → Caps (rounding x) (roundedOf x)) where
-  estimates-capped : (rho : Float) (ms vs : List Float) → Capped (estimatesBy rounding rho ms vs) (estimates rho ms vs)
+  estimates-capped : (rho : Float) (ss : States) → Capped (estimatesBy rounding rho ss) (estimates rho ss)
   unfolding estimates estimatesBy
-  estimates-capped rho [] vs = nil
-  estimates-capped rho (m ∷ ms) [] = nil
-  estimates-capped rho (m ∷ ms) (v ∷ vs) = cons (caps _) (estimates-capped rho ms vs)
+  estimates-capped rho ss = capped-build _ _ (size ss) (λ i. caps _)
 
-  start-capped : (ms vs : List Float) (t : ℕ) → Capped (startBy rounding ms vs t) (startOf ms vs t)
+  start-capped : (ss : States) (t : ℕ) → Capped (startBy rounding ss t) (startOf ss t)
   unfolding startBy startOf
-  start-capped ms vs t = estimates-capped (rhoOf ms vs t) ms vs
+  start-capped ss t = estimates-capped (rhoOf ss t) ss
 
-  module _ (ms vs : List Float) where
-    same-target : (t : ℕ) → Alike (refusalToBy rounding ms vs t) (refusalTo ms vs t) (fitToBy rounding ms vs t) (fitTo ms vs t)
+  module _ (ss : States) where
+    same-target : (t : ℕ) → Alike (refusalToBy rounding ss t) (refusalTo ss t) (fitToBy rounding ss t) (fitTo ss t)
     unfolding refusalToBy refusalTo fitToBy fitTo
     same-target t =
-        let p = start-capped ms vs t in
+        let p = start-capped ss t in
         record {
           refusal = rw (capped-over p);
-          outcome = λ e. tests-same (eqb (length ms) 0) (ltb mostFrames t) (leb t (length ms)) (ltb mostFrames (total (startOf ms vs t))) (unchanged (replicate (length ms) shortest)) _ _ e
-              (λ h. ap (settle mostFrames (rhoOf ms vs t) ms vs t) (capped-same p (ltb-false mostFrames (total (startOf ms vs t)) h)));
+          outcome = λ e. tests-same (eqb (size ss) 0) (ltb mostFrames t) (leb t (size ss)) (ltb mostFrames (total (startOf ss t))) (unchanged (replicate (size ss) shortest)) _ _ e
+              (λ h. ap (settle mostFrames (rhoOf ss t) ss t) (capped-same p (ltb-false mostFrames (total (startOf ss t)) h)));
         }
 
     -- of any target and its cap
-    fit-alike : (s t : ℕ) → Caps s t → Alike (refusalToBy rounding ms vs s) (refusalTo ms vs t) (fitToBy rounding ms vs s) (fitTo ms vs t)
+    fit-alike : (s t : ℕ) → Caps s t → Alike (refusalToBy rounding ss s) (refusalTo ss t) (fitToBy rounding ss s) (fitTo ss t)
     unfolding refusalToBy refusalTo fitToBy fitTo
     fit-alike s t c = ⊎-elim
-        (λ (h : t ≤ mostFrames). subst (λ (x : ℕ). Alike (refusalToBy rounding ms vs x) (refusalTo ms vs t) (fitToBy rounding ms vs x) (fitTo ms vs t)) (sym (caps-same s t c h)) (same-target t))
+        (λ (h : t ≤ mostFrames). subst (λ (x : ℕ). Alike (refusalToBy rounding ss x) (refusalTo ss t) (fitToBy rounding ss x) (fitTo ss t)) (sym (caps-same s t c h)) (same-target t))
         (λ (h : mostFrames < t).
         let a : ltb mostFrames t ≡ true = lt-ltb mostFrames t h in
         let b : ltb mostFrames s ≡ true = lt-ltb mostFrames s (caps-over s t c h) in
         record {
           refusal = rw (a, b);
-          outcome = λ e. tests-over (eqb (length ms) 0) (leb s (length ms)) (leb t (length ms)) (unchanged (replicate (length ms) shortest)) _ _ (rw a at e);
+          outcome = λ e. tests-over (eqb (size ss) 0) (leb s (size ss)) (leb t (size ss)) (unchanged (replicate (size ss) shortest)) _ _ (rw a at e);
         })
         (le-or-lt t mostFrames)
 
     -- at a speed
-    speed-alike : (speed : Float) → Alike (refusalAtBy rounding ms vs speed) (refusalAt ms vs speed) (fitAtBy rounding ms vs speed) (fitAt ms vs speed)
+    speed-alike : (speed : Float) → Alike (refusalAtBy rounding ss speed) (refusalAt ss speed) (fitAtBy rounding ss speed) (fitAt ss speed)
     unfolding refusalAtBy refusalAt fitAtBy fitAt targetAtBy targetAt naturalsBy naturals
     speed-alike speed =
-        let p = estimates-capped nought ms vs in
-        let N : List ℕ = naturals ms vs in
+        let p = estimates-capped nought ss in
+        let N : List ℕ = naturals ss in
         ⊎-elim
         (λ (h : total N ≤ mostFrames).
-        let f = fit-alike (rounding (div binary64 (number (total N)) speed)) (targetAt ms vs speed) (caps _) in
+        let f = fit-alike (rounding (div binary64 (number (total N)) speed)) (targetAt ss speed) (caps _) in
         rw (capped-same p h, le-ltb mostFrames (total N) h)
-        ((elim (eq speed one) as (λ s. Alike (cond s 0 (refusalToBy rounding ms vs (rounding (div binary64 (number (total N)) speed)))) (cond s 0 (refusalTo ms vs (targetAt ms vs speed))) (cond s (unchanged N) (fitToBy rounding ms vs (rounding (div binary64 (number (total N)) speed)))) (cond s (unchanged N) (fitTo ms vs (targetAt ms vs speed)))) [
+        ((elim (eq speed one) as (λ s. Alike (cond s 0 (refusalToBy rounding ss (rounding (div binary64 (number (total N)) speed)))) (cond s 0 (refusalTo ss (targetAt ss speed))) (cond s (unchanged N) (fitToBy rounding ss (rounding (div binary64 (number (total N)) speed)))) (cond s (unchanged N) (fitTo ss (targetAt ss speed)))) [
           | true ↦ record { refusal = refl; outcome = λ e. refl }
           | false ↦ f
         ])))
         (λ (h : mostFrames < total N).
         let a : ltb mostFrames (total N) ≡ true = lt-ltb mostFrames (total N) h in
-        let b : ltb mostFrames (total (naturalsBy rounding ms vs)) ≡ true = capped-over p ∙ a in
+        let b : ltb mostFrames (total (naturalsBy rounding ss)) ≡ true = capped-over p ∙ a in
         record { refusal = rw (a, b); outcome = λ e. absurd (let z : _≡_ {A = ℕ} 8 0 = rw a at e in omega arith) })
         (le-or-lt (total N) mostFrames)
 
   -- of states by their end
-  module _ (ms vs : List Float) (frames : ℕ) where
+  module _ (ss : States) (frames : ℕ) where
     abbrev over : Outcome → ℕ
     over o = cond (ltb mostFrames (frames + total (o .durations))) 8 0
 
     abbrev own : List ℕ → ℕ
     own ds = cond (ltb mostFrames (total ds)) 8 0
 
-    tail-alike : let n = naturalsBy rounding ms vs in let m = naturals ms vs in Alike (orElse (own n) (over (unchanged n))) (orElse (own m) (over (unchanged m))) (unchanged n) (unchanged m)
+    tail-alike : let n = naturalsBy rounding ss in let m = naturals ss in Alike (orElse (own n) (over (unchanged n))) (orElse (own m) (over (unchanged m))) (unchanged n) (unchanged m)
     unfolding naturalsBy naturals
     tail-alike =
-        let p = estimates-capped nought ms vs in
-        let N : List ℕ = estimates nought ms vs in
+        let p = estimates-capped nought ss in
+        let N : List ℕ = estimates nought ss in
         ⊎-elim
         (λ (h : total N ≤ mostFrames). let e = capped-same p h in record { refusal = rw e; outcome = λ z. rw e })
         (λ (h : mostFrames < total N).
         let a : ltb mostFrames (total N) ≡ true = lt-ltb mostFrames (total N) h in
-        let b : ltb mostFrames (total (estimatesBy rounding nought ms vs)) ≡ true = capped-over p ∙ a in
+        let b : ltb mostFrames (total (estimatesBy rounding nought ss)) ≡ true = capped-over p ∙ a in
         record { refusal = rw (a, b); outcome = λ e. absurd (let z : _≡_ {A = ℕ} 8 0 = rw a at e in omega arith) })
         (le-or-lt (total N) mostFrames)
 
-    end-alike : (end : End) → Alike (orElse (refusalToEndBy rounding ms vs frames end) (over (fitToEndBy rounding ms vs frames end))) (orElse (refusalToEnd ms vs frames end) (over (fitToEnd ms vs frames end))) (fitToEndBy rounding ms vs frames end) (fitToEnd ms vs frames end)
+    end-alike : (end : End) → Alike (orElse (refusalToEndBy rounding ss frames end) (over (fitToEndBy rounding ss frames end))) (orElse (refusalToEnd ss frames end) (over (fitToEnd ss frames end))) (fitToEndBy rounding ss frames end) (fitToEnd ss frames end)
     end-alike (At x) =
-        let f = fit-alike ms vs (targetOfBy rounding x frames) (targetOf x frames) (caps _) in
+        let f = fit-alike ss (targetOfBy rounding x frames) (targetOf x frames) (caps _) in
         record {
-          refusal = or-same (refusalToBy rounding ms vs (targetOfBy rounding x frames)) (refusalTo ms vs (targetOf x frames)) _ _ (f .refusal) (λ e. ap over (f .outcome e));
-          outcome = λ e. f .outcome (or-none (refusalTo ms vs (targetOf x frames)) _ e .0);
+          refusal = or-same (refusalToBy rounding ss (targetOfBy rounding x frames)) (refusalTo ss (targetOf x frames)) _ _ (f .refusal) (λ e. ap over (f .outcome e));
+          outcome = λ e. f .outcome (or-none (refusalTo ss (targetOf x frames)) _ e .0);
         }
     end-alike Open = tail-alike
 
   -- of a group, and of an alignment
-  module _ (ms vs : List Float) where
-    group-alike : (g : Group) (frames : ℕ) → Alike (refusalOfBy rounding ms vs g frames) (refusalOf ms vs g frames) (fitOfBy rounding ms vs g frames) (fitOf ms vs g frames)
+  module _ (ss : States) where
+    group-alike : (g : Group) (frames : ℕ) → Alike (refusalOfBy rounding ss g frames) (refusalOf ss g frames) (fitOfBy rounding ss g frames) (fitOf ss g frames)
     unfolding refusalOfBy refusalOf
-    group-alike g frames = end-alike (within g ms) (within g vs) frames (g .end)
+    group-alike g frames = end-alike (statesIn g ss) frames (g .end)
 
-    along-alike : (gs : List Group) (frames : ℕ) → Alike (refusalAlongBy rounding ms vs gs frames) (refusalAlong ms vs gs frames) (fitAlongBy rounding ms vs gs frames) (fitAlong ms vs gs frames)
+    along-alike : (gs : List Group) (frames : ℕ) → Alike (refusalAlongBy rounding ss gs frames) (refusalAlong ss gs frames) (fitAlongBy rounding ss gs frames) (fitAlong ss gs frames)
     unfolding refusalAlongBy refusalAlong fitAlongBy fitAlong
     along-alike [] frames = record { refusal = refl; outcome = λ e. refl }
     along-alike (g ∷ gs) frames =
         let f = group-alike g frames in
-        let later = along-alike gs (frames + total (fitOf ms vs g frames .durations)) in
+        let later = along-alike gs (frames + total (fitOf ss g frames .durations)) in
         record {
-          refusal = or-same (refusalOfBy rounding ms vs g frames) (refusalOf ms vs g frames) _ _ (f .refusal) (λ e. ap (λ (o : Outcome). refusalAlongBy rounding ms vs gs (frames + total (o .durations))) (f .outcome e) ∙ later .refusal);
-          outcome = λ e. (let z = or-none (refusalOf ms vs g frames) _ e in rw (f .outcome (z .0), later .outcome (z .1)));
+          refusal = or-same (refusalOfBy rounding ss g frames) (refusalOf ss g frames) _ _ (f .refusal) (λ e. ap (λ (o : Outcome). refusalAlongBy rounding ss gs (frames + total (o .durations))) (f .outcome e) ∙ later .refusal);
+          outcome = λ e. (let z = or-none (refusalOf ss g frames) _ e in rw (f .outcome (z .0), later .outcome (z .1)));
         }
 
 -- ---- the count of frames with no cap
@@ -243,23 +251,23 @@ module _ (big : ℕ) (above : mostFrames < big) where
   pub target-uncapped : (x : Float) → roundedOf x ≤ mostFrames → counted big x ≡ roundedOf x
   target-uncapped x h = caps-same (counted big x) (roundedOf x) (counted-caps x) h
 
-  pub start-uncapped : (ms vs : List Float) (t : ℕ) → total (startOf ms vs t) ≤ mostFrames → startBy (counted big) ms vs t ≡ startOf ms vs t
-  start-uncapped ms vs t h = capped-same (start-capped (counted big) counted-caps ms vs t) h
+  pub start-uncapped : (ss : States) (t : ℕ) → total (startOf ss t) ≤ mostFrames → startBy (counted big) ss t ≡ startOf ss t
+  start-uncapped ss t h = capped-same (start-capped (counted big) counted-caps ss t) h
 
-  module _ (ms vs : List Float) (x : Float) (out work : List ℕ) (r : Fitted) (out′ work′ : List ℕ) where
+  module _ (ss : States) (x : Float) (out work : List ℕ) (r : Fitted) (out′ work′ : List ℕ) where
     abbrev Told : ℕ → Outcome → Type 0
-    Told = Said (λ o. o .changes ∷ []) (length ms) out work (fitted r) out′ work′ (refusalOfLists (length ms) (length vs) (length out) (length work))
+    Told = Said (λ o. o .changes ∷ []) (size ss) out work (fitted r) out′ work′ (refusalOfLists (size ss) (length (ss .varis)) (length out) (length work))
 
     told-both : {j k : ℕ} {o p : Outcome} → Alike j k o p → Told k p ↔ Told j o
-    told-both = said-both (λ o. o .changes ∷ []) (length ms) out work (fitted r) out′ work′ (refusalOfLists (length ms) (length vs) (length out) (length work))
+    told-both = said-both (λ o. o .changes ∷ []) (size ss) out work (fitted r) out′ work′ (refusalOfLists (size ss) (length (ss .varis)) (length out) (length work))
 
-    pub fit-uncapped : FitSays ms vs x out work r out′ work′ ↔ FitSaysBy (counted big) ms vs x out work r out′ work′
-    fit-uncapped = told-both (fit-alike (counted big) counted-caps ms vs (counted big x) (roundedOf x) (counted-caps x))
+    pub fit-uncapped : FitSays ss x out work r out′ work′ ↔ FitSaysBy (counted big) ss x out work r out′ work′
+    fit-uncapped = told-both (fit-alike (counted big) counted-caps ss (counted big x) (roundedOf x) (counted-caps x))
 
-    pub speed-uncapped : SpeedSays ms vs x out work r out′ work′ ↔ SpeedSaysBy (counted big) ms vs x out work r out′ work′
-    speed-uncapped = told-both (speed-alike (counted big) counted-caps ms vs x)
+    pub speed-uncapped : SpeedSays ss x out work r out′ work′ ↔ SpeedSaysBy (counted big) ss x out work r out′ work′
+    speed-uncapped = told-both (speed-alike (counted big) counted-caps ss x)
 
-  pub align-uncapped : (ms vs : List Float) (nstate : ℕ) (ends : List Float) (out work : List ℕ) (r : Aligned) (out′ work′ : List ℕ) → AlignSays ms vs nstate ends out work r out′ work′ ↔ AlignSaysBy (counted big) ms vs nstate ends out work r out′ work′
-  align-uncapped ms vs nstate ends out work r out′ work′ =
-      said-both (λ o. length ms ∷ o .changes ∷ []) (length ms) out work (aligned r) out′ work′ (refusalOfLabels nstate (length ends) (length ms) (length vs) (length out) (length work))
-      (along-alike (counted big) counted-caps ms vs (groups nstate 0 0 ends) 0)
+  pub align-uncapped : (ss : States) (nstate : ℕ) (ends : List Float) (out work : List ℕ) (r : Aligned) (out′ work′ : List ℕ) → AlignSays ss nstate ends out work r out′ work′ ↔ AlignSaysBy (counted big) ss nstate ends out work r out′ work′
+  align-uncapped ss nstate ends out work r out′ work′ =
+      said-both (λ o. size ss ∷ o .changes ∷ []) (size ss) out work (aligned r) out′ work′ (refusalOfLabels nstate (length ends) (size ss) (length (ss .varis)) (length out) (length work))
+      (along-alike (counted big) counted-caps ss (groups nstate 0 0 ends) 0)

@@ -12,7 +12,7 @@ use Rattle.floats.specs.Numbers.{nought, number}
 use Rattle.duration.specs.declared.align.End.{End}
 use Rattle.duration.specs.declared.align.End.the-variants.{At, Open}
 use Rattle.duration.specs.declared.align.Label.{Label}
-use Rattle.steps.specs.Steps.{Outcome, unchanged}
+use Rattle.steps.specs.Steps.{States, states, Outcome, unchanged}
 use Rattle.duration.specs.Estimate.{naturals}
 use Rattle.duration.specs.Fit.{fitTo, refusalTo}
 use Rattle.lists.specs.Refusals.{orElse}
@@ -54,43 +54,47 @@ unfoldable pub groups : ℕ → ℕ → ℕ → List Float → List Group
 groups k done first [] = tail done first ∷ []
 groups k done first (x ∷ xs) = closing done (labelOf first x .first + k) (labelOf first x .end) (λ d. groups k d (first + k) xs)
 
--- a group's means or variances
-abbrev pub within : Group → List Float → List Float
+-- a group's part of a list, one number a state
+abbrev pub within : {A : Type 0} → Group → List A → List A
 within g xs = take (g .to - g .from) (drop (g .from) xs)
+
+-- and its states
+abbrev pub statesIn : Group → States → States
+statesIn g ss = states (within g (ss .means)) (within g (ss .varis))
 
 -- RULES, Durations: the target of an end is the end less the frames before its group, rounded
 abbrev pub targetOf : Float → ℕ → ℕ
 targetOf end frames = roundedOf (sub binary64 end (number frames))
 
 -- RULES, Durations: states with an end are fitted to its target; those of the tail have their natural durations, and nothing is changed
-abbrev pub fitToEnd : List Float → List Float → ℕ → End → Outcome
-fitToEnd ms vs frames (At x) = fitTo ms vs (targetOf x frames)
-fitToEnd ms vs frames Open = unchanged (naturals ms vs)
+abbrev pub fitToEnd : States → ℕ → End → Outcome
+fitToEnd ss frames (At x) = fitTo ss (targetOf x frames)
+fitToEnd ss frames Open = unchanged (naturals ss)
 
 -- a group's fit, after so many frames
-abbrev pub fitOf : List Float → List Float → Group → ℕ → Outcome
-fitOf ms vs g frames = fitToEnd (within g ms) (within g vs) frames (g .end)
+abbrev pub fitOf : States → Group → ℕ → Outcome
+fitOf ss g frames = fitToEnd (statesIn g ss) frames (g .end)
 
 -- group after group, from the frames so far: the durations, and the changes of all groups
-unfoldable pub fitAlong : List Float → List Float → List Group → ℕ → Outcome
-fitAlong ms vs [] frames = unchanged []
-fitAlong ms vs (g ∷ gs) frames =
-    let o = fitOf ms vs g frames in
-    let later = fitAlong ms vs gs (frames + total (o .durations)) in
+unfoldable pub fitAlong : States → List Group → ℕ → Outcome
+fitAlong ss [] frames = unchanged []
+fitAlong ss (g ∷ gs) frames =
+    let o = fitOf ss g frames in
+    let later = fitAlong ss gs (frames + total (o .durations)) in
     record { durations = o .durations ++ later .durations; changes = o .changes + later .changes }
 
 -- RULES, Refusals: 7 for a target, then 8 for a start above 65,536 frames; the tail has no target, and 8 for its natural durations
-abbrev pub refusalToEnd : List Float → List Float → ℕ → End → ℕ
-refusalToEnd ms vs frames (At x) = refusalTo ms vs (targetOf x frames)
-refusalToEnd ms vs frames Open = cond (ltb mostFrames (total (naturals ms vs))) 8 0
+abbrev pub refusalToEnd : States → ℕ → End → ℕ
+refusalToEnd ss frames (At x) = refusalTo ss (targetOf x frames)
+refusalToEnd ss frames Open = cond (ltb mostFrames (total (naturals ss))) 8 0
 
 -- RULES, Refusals: of a group those come first, then 8 for the total with the groups before it
-unfoldable pub refusalOf : List Float → List Float → Group → ℕ → ℕ
-refusalOf ms vs g frames =
-    orElse (refusalToEnd (within g ms) (within g vs) frames (g .end))
-    (cond (ltb mostFrames (frames + total (fitOf ms vs g frames .durations))) 8 0)
+unfoldable pub refusalOf : States → Group → ℕ → ℕ
+refusalOf ss g frames =
+    orElse (refusalToEnd (statesIn g ss) frames (g .end))
+    (cond (ltb mostFrames (frames + total (fitOf ss g frames .durations))) 8 0)
 
 -- of the first group that is refused
-unfoldable pub refusalAlong : List Float → List Float → List Group → ℕ → ℕ
-refusalAlong ms vs [] frames = 0
-refusalAlong ms vs (g ∷ gs) frames = orElse (refusalOf ms vs g frames) (refusalAlong ms vs gs (frames + total (fitOf ms vs g frames .durations)))
+unfoldable pub refusalAlong : States → List Group → ℕ → ℕ
+refusalAlong ss [] frames = 0
+refusalAlong ss (g ∷ gs) frames = orElse (refusalOf ss g frames) (refusalAlong ss gs (frames + total (fitOf ss g frames .durations)))

@@ -8,7 +8,7 @@ use native.Mathlib.Omega.{arith}
 use lib.IntN.{negsuc}
 use lib.Ieee.{Float, nan, inf, fin, binary64, ofBits, ofInt, add, sub, mul, div, neg, lt, le, eq, isNan}
 use Rattle.lists.specs.Totals.{total, gap}
-use Rattle.lists.specs.Build.{foldFrom}
+use Rattle.lists.specs.Build.{build, foldFrom}
 use Rattle.floats.specs.Rounding.{nearestHalf, roundedOf}
 use Rattle.floats.specs.Order.{absOf, costBelow}
 use Rattle.floats.specs.Numbers.{number}
@@ -17,7 +17,7 @@ use Rattle.duration.specs.declared.Fitted.the-variants as fit
 use Rattle.duration.specs.declared.Aligned.the-variants as align
 use Rattle.duration.specs.declared.align.End.the-variants.{At, Open}
 use Rattle.duration.specs.Estimate.{estimates, naturals}
-use Rattle.steps.specs.Steps.{keyOf, keys, leastOf, step, settle}
+use Rattle.steps.specs.Steps.{states, keyOf, keys, leastOf, step, settle}
 use Rattle.duration.specs.Fit.{startOf, fitTo, refusalTo}
 use Rattle.duration.specs.Speed.{targetAt, fitAt, refusalAt}
 use Rattle.duration.specs.Align.{endOf, groups, fitAlong, refusalOf, refusalAlong}
@@ -48,17 +48,17 @@ unfolding le ofBits
 end-nan = refl
 
 -- so -0 closes the first state, with one frame, and the second has the seven that are left
-pub align-minus-zero : AlignSays two-three one-one 1 (minus-zero ∷ number 8 ∷ []) sevens nines (align.Done 2 0) (1 ∷ 7 ∷ 7 ∷ []) cleared
-unfolding workOf refusalOfLists refusalOfLabels groups refusalAlong refusalOf fitAlong naturals neg le eq refusalTo fitTo settle step keys keyOf leastOf costBelow absOf total startOf estimates roundedOf sumOf foldFrom pairsOf ofBits ofInt add sub mul div lt isNan
+pub align-minus-zero : AlignSays (states two-three one-one) 1 (minus-zero ∷ number 8 ∷ []) sevens nines (align.Done 2 0) (1 ∷ 7 ∷ 7 ∷ []) cleared
+unfolding workOf refusalOfLists refusalOfLabels groups refusalAlong refusalOf fitAlong naturals neg le eq refusalTo fitTo settle step keys keyOf leastOf costBelow absOf total startOf estimates build roundedOf sumOf foldFrom pairsOf ofBits ofInt add sub mul div lt isNan
 align-minus-zero = record { answer = refl; output = refl; workspace = refl }
 
 -- the others leave both states to the second end
-pub align-least-below : AlignSays two-three one-one 1 (least-below ∷ number 8 ∷ []) sevens nines (align.Done 2 1) (3 ∷ 5 ∷ 7 ∷ []) cleared
-unfolding workOf refusalOfLists refusalOfLabels groups refusalAlong refusalOf fitAlong naturals neg le eq refusalTo fitTo settle step keys keyOf leastOf costBelow absOf total startOf estimates roundedOf sumOf foldFrom pairsOf ofBits ofInt add sub mul div lt isNan
+pub align-least-below : AlignSays (states two-three one-one) 1 (least-below ∷ number 8 ∷ []) sevens nines (align.Done 2 1) (3 ∷ 5 ∷ 7 ∷ []) cleared
+unfolding workOf refusalOfLists refusalOfLabels groups refusalAlong refusalOf fitAlong naturals neg le eq refusalTo fitTo settle step keys keyOf leastOf costBelow absOf total startOf estimates build roundedOf sumOf foldFrom pairsOf ofBits ofInt add sub mul div lt isNan
 align-least-below = record { answer = refl; output = refl; workspace = refl }
 
-pub align-nan : AlignSays two-three one-one 1 (nan ∷ number 8 ∷ []) sevens nines (align.Done 2 1) (3 ∷ 5 ∷ 7 ∷ []) cleared
-unfolding workOf refusalOfLists refusalOfLabels groups refusalAlong refusalOf fitAlong naturals neg le eq refusalTo fitTo settle step keys keyOf leastOf costBelow absOf total startOf estimates roundedOf sumOf foldFrom pairsOf ofBits ofInt add sub mul div lt isNan
+pub align-nan : AlignSays (states two-three one-one) 1 (nan ∷ number 8 ∷ []) sevens nines (align.Done 2 1) (3 ∷ 5 ∷ 7 ∷ []) cleared
+unfolding workOf refusalOfLists refusalOfLabels groups refusalAlong refusalOf fitAlong naturals neg le eq refusalTo fitTo settle step keys keyOf leastOf costBelow absOf total startOf estimates build roundedOf sumOf foldFrom pairsOf ofBits ofInt add sub mul div lt isNan
 align-nan = record { answer = refl; output = refl; workspace = refl }
 
 -- ---- a group whose target is not above its count: two labels of two states each
@@ -79,35 +79,35 @@ abbrev all-cleared : List ℕ
 all-cleared = 0 ∷ 0 ∷ cleared
 
 -- an end of 1 gives two frames all the same, and so the second group has 10 - 2
-pub end-below-count : AlignSays means varis 2 (number 1 ∷ number 10 ∷ []) output workspace (align.Done 4 1) (1 ∷ 1 ∷ 3 ∷ 5 ∷ 7 ∷ []) all-cleared
-unfolding workOf refusalOfLists refusalOfLabels groups refusalAlong refusalOf fitAlong naturals neg le eq refusalTo fitTo settle step keys keyOf leastOf costBelow absOf total startOf estimates roundedOf sumOf foldFrom pairsOf ofBits ofInt add sub mul div lt isNan
+pub end-below-count : AlignSays (states means varis) 2 (number 1 ∷ number 10 ∷ []) output workspace (align.Done 4 1) (1 ∷ 1 ∷ 3 ∷ 5 ∷ 7 ∷ []) all-cleared
+unfolding workOf refusalOfLists refusalOfLabels groups refusalAlong refusalOf fitAlong naturals neg le eq refusalTo fitTo settle step keys keyOf leastOf costBelow absOf total startOf estimates build roundedOf sumOf foldFrom pairsOf ofBits ofInt add sub mul div lt isNan
 end-below-count = record { answer = refl; output = refl; workspace = refl }
 
 -- an end of 2 is at the count
-pub end-at-count : AlignSays means varis 2 (number 2 ∷ number 10 ∷ []) output workspace (align.Done 4 1) (1 ∷ 1 ∷ 3 ∷ 5 ∷ 7 ∷ []) all-cleared
-unfolding workOf refusalOfLists refusalOfLabels groups refusalAlong refusalOf fitAlong naturals neg le eq refusalTo fitTo settle step keys keyOf leastOf costBelow absOf total startOf estimates roundedOf sumOf foldFrom pairsOf ofBits ofInt add sub mul div lt isNan
+pub end-at-count : AlignSays (states means varis) 2 (number 2 ∷ number 10 ∷ []) output workspace (align.Done 4 1) (1 ∷ 1 ∷ 3 ∷ 5 ∷ 7 ∷ []) all-cleared
+unfolding workOf refusalOfLists refusalOfLabels groups refusalAlong refusalOf fitAlong naturals neg le eq refusalTo fitTo settle step keys keyOf leastOf costBelow absOf total startOf estimates build roundedOf sumOf foldFrom pairsOf ofBits ofInt add sub mul div lt isNan
 end-at-count = record { answer = refl; output = refl; workspace = refl }
 
 -- an end of 3 is above it
-pub end-above-count : AlignSays means varis 2 (number 3 ∷ number 11 ∷ []) output workspace (align.Done 4 1) (1 ∷ 2 ∷ 3 ∷ 5 ∷ 7 ∷ []) all-cleared
-unfolding workOf refusalOfLists refusalOfLabels groups refusalAlong refusalOf fitAlong naturals neg le eq refusalTo fitTo settle step keys keyOf leastOf costBelow absOf total startOf estimates roundedOf sumOf foldFrom pairsOf ofBits ofInt add sub mul div lt isNan
+pub end-above-count : AlignSays (states means varis) 2 (number 3 ∷ number 11 ∷ []) output workspace (align.Done 4 1) (1 ∷ 2 ∷ 3 ∷ 5 ∷ 7 ∷ []) all-cleared
+unfolding workOf refusalOfLists refusalOfLabels groups refusalAlong refusalOf fitAlong naturals neg le eq refusalTo fitTo settle step keys keyOf leastOf costBelow absOf total startOf estimates build roundedOf sumOf foldFrom pairsOf ofBits ofInt add sub mul div lt isNan
 end-above-count = record { answer = refl; output = refl; workspace = refl }
 
 -- the second end is before the first: its target is -4, and so 1
-pub end-passed : AlignSays means varis 2 (number 8 ∷ number 4 ∷ []) output workspace (align.Done 4 1) (3 ∷ 5 ∷ 1 ∷ 1 ∷ 7 ∷ []) all-cleared
-unfolding workOf refusalOfLists refusalOfLabels groups refusalAlong refusalOf fitAlong naturals neg le eq refusalTo fitTo settle step keys keyOf leastOf costBelow absOf total startOf estimates roundedOf sumOf foldFrom pairsOf ofBits ofInt add sub mul div lt isNan
+pub end-passed : AlignSays (states means varis) 2 (number 8 ∷ number 4 ∷ []) output workspace (align.Done 4 1) (3 ∷ 5 ∷ 1 ∷ 1 ∷ 7 ∷ []) all-cleared
+unfolding workOf refusalOfLists refusalOfLabels groups refusalAlong refusalOf fitAlong naturals neg le eq refusalTo fitTo settle step keys keyOf leastOf costBelow absOf total startOf estimates build roundedOf sumOf foldFrom pairsOf ofBits ofInt add sub mul div lt isNan
 end-passed = record { answer = refl; output = refl; workspace = refl }
 
 -- ---- no drift: four labels of one state each
 
 -- 2.4, 4.8, 7.2 and 9.6: each label has 2.4 frames, which alone would be 2; the totals are 2, 5, 7 and 10
-pub chapter-on-time : AlignSays means varis 1 (ofBits binary64 0x4003_3333_3333_3333 ∷ ofBits binary64 0x4013_3333_3333_3333 ∷ ofBits binary64 0x401c_cccc_cccc_cccd ∷ ofBits binary64 0x4023_3333_3333_3333 ∷ []) output workspace (align.Done 4 0) (2 ∷ 3 ∷ 2 ∷ 3 ∷ 7 ∷ []) all-cleared
-unfolding workOf refusalOfLists refusalOfLabels groups refusalAlong refusalOf fitAlong naturals neg le eq refusalTo fitTo settle step keys keyOf leastOf costBelow absOf total startOf estimates roundedOf sumOf foldFrom pairsOf ofBits ofInt add sub mul div lt isNan
+pub chapter-on-time : AlignSays (states means varis) 1 (ofBits binary64 0x4003_3333_3333_3333 ∷ ofBits binary64 0x4013_3333_3333_3333 ∷ ofBits binary64 0x401c_cccc_cccc_cccd ∷ ofBits binary64 0x4023_3333_3333_3333 ∷ []) output workspace (align.Done 4 0) (2 ∷ 3 ∷ 2 ∷ 3 ∷ 7 ∷ []) all-cleared
+unfolding workOf refusalOfLists refusalOfLabels groups refusalAlong refusalOf fitAlong naturals neg le eq refusalTo fitTo settle step keys keyOf leastOf costBelow absOf total startOf estimates build roundedOf sumOf foldFrom pairsOf ofBits ofInt add sub mul div lt isNan
 chapter-on-time = record { answer = refl; output = refl; workspace = refl }
 
 -- 2.5, 2.6, 2.7 and 7.5: the second and the third have no room, so their totals are 4 and 5; the fourth's is right again, 8
-pub chapter-right-again : AlignSays means varis 1 (halves 5 ∷ ofBits binary64 0x4004_cccc_cccc_cccd ∷ ofBits binary64 0x4005_9999_9999_999a ∷ halves 15 ∷ []) output workspace (align.Done 4 0) (3 ∷ 1 ∷ 1 ∷ 3 ∷ 7 ∷ []) all-cleared
-unfolding workOf refusalOfLists refusalOfLabels groups refusalAlong refusalOf fitAlong naturals neg le eq refusalTo fitTo settle step keys keyOf leastOf costBelow absOf total startOf estimates roundedOf sumOf foldFrom pairsOf ofBits ofInt add sub mul div lt isNan
+pub chapter-right-again : AlignSays (states means varis) 1 (halves 5 ∷ ofBits binary64 0x4004_cccc_cccc_cccd ∷ ofBits binary64 0x4005_9999_9999_999a ∷ halves 15 ∷ []) output workspace (align.Done 4 0) (3 ∷ 1 ∷ 1 ∷ 3 ∷ 7 ∷ []) all-cleared
+unfolding workOf refusalOfLists refusalOfLabels groups refusalAlong refusalOf fitAlong naturals neg le eq refusalTo fitTo settle step keys keyOf leastOf costBelow absOf total startOf estimates build roundedOf sumOf foldFrom pairsOf ofBits ofInt add sub mul div lt isNan
 chapter-right-again = record { answer = refl; output = refl; workspace = refl }
 
 -- an end rounded: 2.5 goes up, the float below it down, and -0 is 0; a tie is as far as the claim allows
@@ -119,8 +119,8 @@ end-rounded = (refl, refl, refl, refl)
 abbrev near-tie : Float
 near-tie = fin false (13 * 2 ^ 79 - 1) (negsuc 79)
 
-pub beyond-f64 : AlignSays two-three one-one 1 (number 5 ∷ near-tie ∷ []) sevens nines (align.Done 2 0) (5 ∷ 2 ∷ 7 ∷ []) cleared × (endRounded near-tie ≡ 6)
-unfolding workOf refusalOfLists refusalOfLabels groups refusalAlong refusalOf fitAlong naturals neg le eq refusalTo fitTo settle step keys keyOf leastOf costBelow absOf total startOf estimates roundedOf sumOf foldFrom pairsOf ofBits ofInt add sub mul div lt isNan nearestHalf
+pub beyond-f64 : AlignSays (states two-three one-one) 1 (number 5 ∷ near-tie ∷ []) sevens nines (align.Done 2 0) (5 ∷ 2 ∷ 7 ∷ []) cleared × (endRounded near-tie ≡ 6)
+unfolding workOf refusalOfLists refusalOfLabels groups refusalAlong refusalOf fitAlong naturals neg le eq refusalTo fitTo settle step keys keyOf leastOf costBelow absOf total startOf estimates build roundedOf sumOf foldFrom pairsOf ofBits ofInt add sub mul div lt isNan nearestHalf
 beyond-f64 = (record { answer = refl; output = refl; workspace = refl }, refl)
 
 -- labels of two states with the ends 8, open, open and 20: the last closes the six states of three labels
@@ -149,23 +149,23 @@ half-down d = let r : _≡_ {A = ℕ} 2 3 = d 0 (omega arith) refl .larger in om
 -- ---- the tail
 
 -- with no given end every state is natural
-pub all-open : AlignSays two-three one-one 1 (unset ∷ nan ∷ []) sevens nines (align.Done 2 0) (2 ∷ 3 ∷ 7 ∷ []) cleared
-unfolding workOf refusalOfLists refusalOfLabels groups refusalAlong refusalOf fitAlong naturals neg le eq refusalTo fitTo settle step keys keyOf leastOf costBelow absOf total startOf estimates roundedOf sumOf foldFrom pairsOf ofBits ofInt add sub mul div lt isNan
+pub all-open : AlignSays (states two-three one-one) 1 (unset ∷ nan ∷ []) sevens nines (align.Done 2 0) (2 ∷ 3 ∷ 7 ∷ []) cleared
+unfolding workOf refusalOfLists refusalOfLabels groups refusalAlong refusalOf fitAlong naturals neg le eq refusalTo fitTo settle step keys keyOf leastOf costBelow absOf total startOf estimates build roundedOf sumOf foldFrom pairsOf ofBits ofInt add sub mul div lt isNan
 all-open = record { answer = refl; output = refl; workspace = refl }
 
 -- with no label the answer is empty
-pub no-label : AlignSays [] [] 1 [] sevens nines (align.Done 0 0) sevens nines
-unfolding workOf refusalOfLists refusalOfLabels groups refusalAlong refusalOf fitAlong naturals neg le eq refusalTo fitTo settle step keys keyOf leastOf costBelow absOf total startOf estimates roundedOf sumOf foldFrom pairsOf ofBits ofInt add sub mul div lt isNan
+pub no-label : AlignSays (states [] []) 1 [] sevens nines (align.Done 0 0) sevens nines
+unfolding workOf refusalOfLists refusalOfLabels groups refusalAlong refusalOf fitAlong naturals neg le eq refusalTo fitTo settle step keys keyOf leastOf costBelow absOf total startOf estimates build roundedOf sumOf foldFrom pairsOf ofBits ofInt add sub mul div lt isNan
 no-label = record { answer = refl; output = refl; workspace = refl }
 
 -- two labels of two states each: the first group is fitted, the tail is not
-pub tail-natural : AlignSays means varis 2 (number 8 ∷ unset ∷ []) output workspace (align.Done 4 1) (3 ∷ 5 ∷ 2 ∷ 3 ∷ 7 ∷ []) all-cleared
-unfolding workOf refusalOfLists refusalOfLabels groups refusalAlong refusalOf fitAlong naturals neg le eq refusalTo fitTo settle step keys keyOf leastOf costBelow absOf total startOf estimates roundedOf sumOf foldFrom pairsOf ofBits ofInt add sub mul div lt isNan
+pub tail-natural : AlignSays (states means varis) 2 (number 8 ∷ unset ∷ []) output workspace (align.Done 4 1) (3 ∷ 5 ∷ 2 ∷ 3 ∷ 7 ∷ []) all-cleared
+unfolding workOf refusalOfLists refusalOfLabels groups refusalAlong refusalOf fitAlong naturals neg le eq refusalTo fitTo settle step keys keyOf leastOf costBelow absOf total startOf estimates build roundedOf sumOf foldFrom pairsOf ofBits ofInt add sub mul div lt isNan
 tail-natural = record { answer = refl; output = refl; workspace = refl }
 
 -- its estimate is the mean plus 0 times the variance: of an infinite one that is NaN, and so 1
-pub tail-infinite : AlignSays two-three (number 1 ∷ inf false ∷ []) 1 (number 4 ∷ unset ∷ []) sevens nines (align.Done 2 0) (4 ∷ 1 ∷ 7 ∷ []) cleared
-unfolding workOf refusalOfLists refusalOfLabels groups refusalAlong refusalOf fitAlong naturals neg le eq refusalTo fitTo settle step keys keyOf leastOf costBelow absOf total startOf estimates roundedOf sumOf foldFrom pairsOf ofBits ofInt add sub mul div lt isNan
+pub tail-infinite : AlignSays (states two-three (number 1 ∷ inf false ∷ [])) 1 (number 4 ∷ unset ∷ []) sevens nines (align.Done 2 0) (4 ∷ 1 ∷ 7 ∷ []) cleared
+unfolding workOf refusalOfLists refusalOfLabels groups refusalAlong refusalOf fitAlong naturals neg le eq refusalTo fitTo settle step keys keyOf leastOf costBelow absOf total startOf estimates build roundedOf sumOf foldFrom pairsOf ofBits ofInt add sub mul div lt isNan
 tail-infinite = record { answer = refl; output = refl; workspace = refl }
 
 -- the tail begins behind the last given end, whatever is open before it
@@ -187,72 +187,72 @@ abbrev frames-and-one : ℕ → List Float
 frames-and-one n = number n ∷ number 1 ∷ []
 
 -- a tail of 65,536 frames, and of one more
-pub tail-most : AlignSays (frames-and-one 65535) one-one 2 (unset ∷ []) sevens nines (align.Done 2 0) (65535 ∷ 1 ∷ 7 ∷ []) cleared
-unfolding workOf refusalOfLists refusalOfLabels groups refusalAlong refusalOf fitAlong naturals neg le eq refusalTo fitTo settle step keys keyOf leastOf costBelow absOf total startOf estimates roundedOf sumOf foldFrom pairsOf ofBits ofInt add sub mul div lt isNan
+pub tail-most : AlignSays (states (frames-and-one 65535) one-one) 2 (unset ∷ []) sevens nines (align.Done 2 0) (65535 ∷ 1 ∷ 7 ∷ []) cleared
+unfolding workOf refusalOfLists refusalOfLabels groups refusalAlong refusalOf fitAlong naturals neg le eq refusalTo fitTo settle step keys keyOf leastOf costBelow absOf total startOf estimates build roundedOf sumOf foldFrom pairsOf ofBits ofInt add sub mul div lt isNan
 tail-most = record { answer = refl; output = refl; workspace = refl }
 
-pub tail-over : AlignSays (frames-and-one 65536) one-one 2 (unset ∷ []) sevens nines (align.Refused 8) sevens cleared
-unfolding workOf refusalOfLists refusalOfLabels groups refusalAlong refusalOf fitAlong naturals neg le eq refusalTo fitTo settle step keys keyOf leastOf costBelow absOf total startOf estimates roundedOf sumOf foldFrom pairsOf ofBits ofInt add sub mul div lt isNan
+pub tail-over : AlignSays (states (frames-and-one 65536) one-one) 2 (unset ∷ []) sevens nines (align.Refused 8) sevens cleared
+unfolding workOf refusalOfLists refusalOfLabels groups refusalAlong refusalOf fitAlong naturals neg le eq refusalTo fitTo settle step keys keyOf leastOf costBelow absOf total startOf estimates build roundedOf sumOf foldFrom pairsOf ofBits ofInt add sub mul div lt isNan
 tail-over = record { answer = refl; output = refl; workspace = refl }
 
 -- the same behind a group
-pub total-most : AlignSays two-three one-one 1 (number 65533 ∷ unset ∷ []) sevens nines (align.Done 2 0) (65533 ∷ 3 ∷ 7 ∷ []) cleared
-unfolding workOf refusalOfLists refusalOfLabels groups refusalAlong refusalOf fitAlong naturals neg le eq refusalTo fitTo settle step keys keyOf leastOf costBelow absOf total startOf estimates roundedOf sumOf foldFrom pairsOf ofBits ofInt add sub mul div lt isNan
+pub total-most : AlignSays (states two-three one-one) 1 (number 65533 ∷ unset ∷ []) sevens nines (align.Done 2 0) (65533 ∷ 3 ∷ 7 ∷ []) cleared
+unfolding workOf refusalOfLists refusalOfLabels groups refusalAlong refusalOf fitAlong naturals neg le eq refusalTo fitTo settle step keys keyOf leastOf costBelow absOf total startOf estimates build roundedOf sumOf foldFrom pairsOf ofBits ofInt add sub mul div lt isNan
 total-most = record { answer = refl; output = refl; workspace = refl }
 
-pub total-over : AlignSays two-three one-one 1 (number 65534 ∷ unset ∷ []) sevens nines (align.Refused 8) sevens cleared
-unfolding workOf refusalOfLists refusalOfLabels groups refusalAlong refusalOf fitAlong naturals neg le eq refusalTo fitTo settle step keys keyOf leastOf costBelow absOf total startOf estimates roundedOf sumOf foldFrom pairsOf ofBits ofInt add sub mul div lt isNan
+pub total-over : AlignSays (states two-three one-one) 1 (number 65534 ∷ unset ∷ []) sevens nines (align.Refused 8) sevens cleared
+unfolding workOf refusalOfLists refusalOfLabels groups refusalAlong refusalOf fitAlong naturals neg le eq refusalTo fitTo settle step keys keyOf leastOf costBelow absOf total startOf estimates build roundedOf sumOf foldFrom pairsOf ofBits ofInt add sub mul div lt isNan
 total-over = record { answer = refl; output = refl; workspace = refl }
 
 -- a group's target is found before a tail that is too long
-pub target-before-tail : AlignSays (number 1 ∷ number 65537 ∷ []) one-one 1 (inf false ∷ unset ∷ []) sevens nines (align.Refused 7) sevens cleared
-unfolding workOf refusalOfLists refusalOfLabels groups refusalAlong refusalOf fitAlong naturals neg le eq refusalTo fitTo settle step keys keyOf leastOf costBelow absOf total startOf estimates roundedOf sumOf foldFrom pairsOf ofBits ofInt add sub mul div lt isNan
+pub target-before-tail : AlignSays (states (number 1 ∷ number 65537 ∷ []) one-one) 1 (inf false ∷ unset ∷ []) sevens nines (align.Refused 7) sevens cleared
+unfolding workOf refusalOfLists refusalOfLabels groups refusalAlong refusalOf fitAlong naturals neg le eq refusalTo fitTo settle step keys keyOf leastOf costBelow absOf total startOf estimates build roundedOf sumOf foldFrom pairsOf ofBits ofInt add sub mul div lt isNan
 target-before-tail = record { answer = refl; output = refl; workspace = refl }
 
 -- ---- 7 and 8: the first in the work order, whatever would come after it
 
 -- an end of 65,536 gives 8, and an endless one 7
-pub estimate-alone : AlignSays means varis 2 (unset ∷ number 65536 ∷ []) output workspace (align.Refused 8) output all-cleared
-unfolding workOf refusalOfLists refusalOfLabels groups refusalAlong refusalOf fitAlong naturals neg le eq refusalTo fitTo settle step keys keyOf leastOf costBelow absOf total startOf estimates roundedOf sumOf foldFrom pairsOf ofBits ofInt add sub mul div lt isNan
+pub estimate-alone : AlignSays (states means varis) 2 (unset ∷ number 65536 ∷ []) output workspace (align.Refused 8) output all-cleared
+unfolding workOf refusalOfLists refusalOfLabels groups refusalAlong refusalOf fitAlong naturals neg le eq refusalTo fitTo settle step keys keyOf leastOf costBelow absOf total startOf estimates build roundedOf sumOf foldFrom pairsOf ofBits ofInt add sub mul div lt isNan
 estimate-alone = record { answer = refl; output = refl; workspace = refl }
 
-pub target-alone : AlignSays means varis 2 (unset ∷ inf false ∷ []) output workspace (align.Refused 7) output all-cleared
-unfolding workOf refusalOfLists refusalOfLabels groups refusalAlong refusalOf fitAlong naturals neg le eq refusalTo fitTo settle step keys keyOf leastOf costBelow absOf total startOf estimates roundedOf sumOf foldFrom pairsOf ofBits ofInt add sub mul div lt isNan
+pub target-alone : AlignSays (states means varis) 2 (unset ∷ inf false ∷ []) output workspace (align.Refused 7) output all-cleared
+unfolding workOf refusalOfLists refusalOfLabels groups refusalAlong refusalOf fitAlong naturals neg le eq refusalTo fitTo settle step keys keyOf leastOf costBelow absOf total startOf estimates build roundedOf sumOf foldFrom pairsOf ofBits ofInt add sub mul div lt isNan
 target-alone = record { answer = refl; output = refl; workspace = refl }
 
 -- one after the other
-pub estimate-first : AlignSays means varis 2 (number 65536 ∷ inf false ∷ []) output workspace (align.Refused 8) output all-cleared
-unfolding workOf refusalOfLists refusalOfLabels groups refusalAlong refusalOf fitAlong naturals neg le eq refusalTo fitTo settle step keys keyOf leastOf costBelow absOf total startOf estimates roundedOf sumOf foldFrom pairsOf ofBits ofInt add sub mul div lt isNan
+pub estimate-first : AlignSays (states means varis) 2 (number 65536 ∷ inf false ∷ []) output workspace (align.Refused 8) output all-cleared
+unfolding workOf refusalOfLists refusalOfLabels groups refusalAlong refusalOf fitAlong naturals neg le eq refusalTo fitTo settle step keys keyOf leastOf costBelow absOf total startOf estimates build roundedOf sumOf foldFrom pairsOf ofBits ofInt add sub mul div lt isNan
 estimate-first = record { answer = refl; output = refl; workspace = refl }
 
-pub target-first : AlignSays means varis 2 (inf false ∷ number 65536 ∷ []) output workspace (align.Refused 7) output all-cleared
-unfolding workOf refusalOfLists refusalOfLabels groups refusalAlong refusalOf fitAlong naturals neg le eq refusalTo fitTo settle step keys keyOf leastOf costBelow absOf total startOf estimates roundedOf sumOf foldFrom pairsOf ofBits ofInt add sub mul div lt isNan
+pub target-first : AlignSays (states means varis) 2 (inf false ∷ number 65536 ∷ []) output workspace (align.Refused 7) output all-cleared
+unfolding workOf refusalOfLists refusalOfLabels groups refusalAlong refusalOf fitAlong naturals neg le eq refusalTo fitTo settle step keys keyOf leastOf costBelow absOf total startOf estimates build roundedOf sumOf foldFrom pairsOf ofBits ofInt add sub mul div lt isNan
 target-first = record { answer = refl; output = refl; workspace = refl }
 
 -- one state fills all 65,536 frames, so the second's one frame gives 8 before the third's target gives 7
-pub total-first : AlignSays means varis 1 (number 65536 ∷ number 65536 ∷ inf false ∷ unset ∷ []) output workspace (align.Refused 8) output all-cleared
-unfolding workOf refusalOfLists refusalOfLabels groups refusalAlong refusalOf fitAlong naturals neg le eq refusalTo fitTo settle step keys keyOf leastOf costBelow absOf total startOf estimates roundedOf sumOf foldFrom pairsOf ofBits ofInt add sub mul div lt isNan
+pub total-first : AlignSays (states means varis) 1 (number 65536 ∷ number 65536 ∷ inf false ∷ unset ∷ []) output workspace (align.Refused 8) output all-cleared
+unfolding workOf refusalOfLists refusalOfLabels groups refusalAlong refusalOf fitAlong naturals neg le eq refusalTo fitTo settle step keys keyOf leastOf costBelow absOf total startOf estimates build roundedOf sumOf foldFrom pairsOf ofBits ofInt add sub mul div lt isNan
 total-first = record { answer = refl; output = refl; workspace = refl }
 
 -- and where the second's own target is too large, that is found before the total
-pub target-before-total : AlignSays means varis 1 (number 65536 ∷ inf false ∷ unset ∷ unset ∷ []) output workspace (align.Refused 7) output all-cleared
-unfolding workOf refusalOfLists refusalOfLabels groups refusalAlong refusalOf fitAlong naturals neg le eq refusalTo fitTo settle step keys keyOf leastOf costBelow absOf total startOf estimates roundedOf sumOf foldFrom pairsOf ofBits ofInt add sub mul div lt isNan
+pub target-before-total : AlignSays (states means varis) 1 (number 65536 ∷ inf false ∷ unset ∷ unset ∷ []) output workspace (align.Refused 7) output all-cleared
+unfolding workOf refusalOfLists refusalOfLabels groups refusalAlong refusalOf fitAlong naturals neg le eq refusalTo fitTo settle step keys keyOf leastOf costBelow absOf total startOf estimates build roundedOf sumOf foldFrom pairsOf ofBits ofInt add sub mul div lt isNan
 target-before-total = record { answer = refl; output = refl; workspace = refl }
 
 -- two states of 40,000 frames, fitted to twice as many
 abbrev long : List Float
 long = number 40000 ∷ number 40000 ∷ []
 
-pub long-target : FitSays long one-one (number 160000) sevens nines (fit.Refused 7) sevens cleared
-unfolding workOf refusalOfLists refusalOfLabels groups refusalAlong refusalOf fitAlong naturals neg le eq refusalTo fitTo settle step keys keyOf leastOf costBelow absOf total startOf estimates roundedOf sumOf foldFrom pairsOf ofBits ofInt add sub mul div lt isNan
+pub long-target : FitSays (states long one-one) (number 160000) sevens nines (fit.Refused 7) sevens cleared
+unfolding workOf refusalOfLists refusalOfLabels groups refusalAlong refusalOf fitAlong naturals neg le eq refusalTo fitTo settle step keys keyOf leastOf costBelow absOf total startOf estimates build roundedOf sumOf foldFrom pairsOf ofBits ofInt add sub mul div lt isNan
 long-target = record { answer = refl; output = refl; workspace = refl }
 
 -- at half the speed their first estimate gives 8 before that target does
-pub speed-estimate-first : SpeedSays long one-one (halves 1) sevens nines (fit.Refused 8) sevens cleared
-unfolding workOf refusalOfLists refusalAt fitAt targetAt naturals eq refusalTo fitTo settle step keys keyOf leastOf costBelow absOf total startOf estimates roundedOf sumOf foldFrom pairsOf ofBits ofInt add sub mul div lt isNan
+pub speed-estimate-first : SpeedSays (states long one-one) (halves 1) sevens nines (fit.Refused 8) sevens cleared
+unfolding workOf refusalOfLists refusalAt fitAt targetAt naturals eq refusalTo fitTo settle step keys keyOf leastOf costBelow absOf total startOf estimates build roundedOf sumOf foldFrom pairsOf ofBits ofInt add sub mul div lt isNan
 speed-estimate-first = record { answer = refl; output = refl; workspace = refl }
 
 -- at 2 ^ -14 five frames become 81,920, which are too many before they are estimated
-pub speed-target-first : SpeedSays two-three one-one (fin false 1 (negsuc 13)) sevens nines (fit.Refused 7) sevens cleared
-unfolding workOf refusalOfLists refusalAt fitAt targetAt naturals eq refusalTo fitTo settle step keys keyOf leastOf costBelow absOf total startOf estimates roundedOf sumOf foldFrom pairsOf ofBits ofInt add sub mul div lt isNan
+pub speed-target-first : SpeedSays (states two-three one-one) (fin false 1 (negsuc 13)) sevens nines (fit.Refused 7) sevens cleared
+unfolding workOf refusalOfLists refusalAt fitAt targetAt naturals eq refusalTo fitTo settle step keys keyOf leastOf costBelow absOf total startOf estimates build roundedOf sumOf foldFrom pairsOf ofBits ofInt add sub mul div lt isNan
 speed-target-first = record { answer = refl; output = refl; workspace = refl }

@@ -11,6 +11,7 @@ use Rattle.duration.specs.declared.Fitted.{Fitted}
 use Rattle.duration.specs.declared.Fitted.the-variants as fit
 use Rattle.duration.specs.declared.Aligned.{Aligned}
 use Rattle.duration.specs.declared.Aligned.the-variants as align
+use Rattle.steps.specs.Steps.{States, size}
 use Rattle.duration.specs.Fit.{fitTo, refusalTo}
 use Rattle.lists.specs.Sizes.{mostStates, mostLabelStates}
 use Rattle.lists.specs.Refusals.{orElse}
@@ -56,26 +57,26 @@ abbrev pub Says : ℕ → List ℕ → List ℕ → ℕ → List ℕ → List �
 Says k values = Answers (answerOf k values)
 
 -- `estimate_duration_with_frame_length`
-abbrev pub FitSays : List Float → List Float → Float → List ℕ → List ℕ → Fitted → List ℕ → List ℕ → Type 0
-FitSays ms vs len out work r =
-    let o = fitTo ms vs (roundedOf len) in
-    Says (orElse (refusalOfLists (length ms) (length vs) (length out) (length work)) (refusalTo ms vs (roundedOf len))) (o .changes ∷ []) (o .durations) (length ms) out work (fitted r)
+abbrev pub FitSays : States → Float → List ℕ → List ℕ → Fitted → List ℕ → List ℕ → Type 0
+FitSays ss len out work r =
+    let o = fitTo ss (roundedOf len) in
+    Says (orElse (refusalOfLists (size ss) (length (ss .varis)) (length out) (length work)) (refusalTo ss (roundedOf len))) (o .changes ∷ []) (o .durations) (size ss) out work (fitted r)
 
 -- `create`
-abbrev pub SpeedSays : List Float → List Float → Float → List ℕ → List ℕ → Fitted → List ℕ → List ℕ → Type 0
-SpeedSays ms vs speed out work r =
-    let o = fitAt ms vs speed in
-    Says (orElse (refusalOfLists (length ms) (length vs) (length out) (length work)) (refusalAt ms vs speed)) (o .changes ∷ []) (o .durations) (length ms) out work (fitted r)
+abbrev pub SpeedSays : States → Float → List ℕ → List ℕ → Fitted → List ℕ → List ℕ → Type 0
+SpeedSays ss speed out work r =
+    let o = fitAt ss speed in
+    Says (orElse (refusalOfLists (size ss) (length (ss .varis)) (length out) (length work)) (refusalAt ss speed)) (o .changes ∷ []) (o .durations) (size ss) out work (fitted r)
 
 -- an alignment: one duration a state
-abbrev pub AlignSays : List Float → List Float → ℕ → List Float → List ℕ → List ℕ → Aligned → List ℕ → List ℕ → Type 0
-AlignSays ms vs nstate ends out work r =
+abbrev pub AlignSays : States → ℕ → List Float → List ℕ → List ℕ → Aligned → List ℕ → List ℕ → Type 0
+AlignSays ss nstate ends out work r =
     let gs = groups nstate 0 0 ends in
-    let o = fitAlong ms vs gs 0 in
-    Says (orElse (refusalOfLabels nstate (length ends) (length ms) (length vs) (length out) (length work)) (refusalAlong ms vs gs 0)) (length ms ∷ o .changes ∷ []) (o .durations) (length ms) out work (aligned r)
+    let o = fitAlong ss gs 0 in
+    Says (orElse (refusalOfLabels nstate (length ends) (size ss) (length (ss .varis)) (length out) (length work)) (refusalAlong ss gs 0)) (size ss ∷ o .changes ∷ []) (o .durations) (size ss) out work (aligned r)
 
 -- `create_with_alignment`: and no call that is accepted drifts, since every end is an f64, off which the frames so far are taken with no error
 -- where it is not below them
-pub record AlignOnTime (ms vs : List Float) (nstate : ℕ) (ends : List Float) (out work : List ℕ) (r : Aligned) (out′ work′ : List ℕ) : Type 0 where
-  pub says : AlignSays ms vs nstate ends out work r out′ work′
+pub record AlignOnTime (ss : States) (nstate : ℕ) (ends : List Float) (out work : List ℕ) (r : Aligned) (out′ work′ : List ℕ) : Type 0 where
+  pub says : AlignSays ss nstate ends out work r out′ work′
   pub on-time : aligned r .number ≡ 0 → NoDrift nstate ends out′

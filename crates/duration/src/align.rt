@@ -1,6 +1,7 @@
 // Alignment: labels with an end close groups of states, and the states after the last of them are the tail.
 ghost use mathlib.Core.Path.{_≡_};
 ghost use mathlib.Core.List.{[], _∷_};
+ghost use Rattle.steps.specs.Steps.{states};
 ghost use Rattle.duration.specs.Align.{labelOf, given, tail, groups, fitAlong, refusalAlong};
 ghost use Rattle.duration.specs.Promise.{fitted};
 ghost use Rattle.duration.specs.Inner.Asked.{InPlace, Lies, closed, grown, Closes, Labelled};
@@ -62,8 +63,8 @@ fn close_group(
     to: usize,
     work: &mut [u32],
 ) -> Closed
-    requires { ⌜ Lies (now means) (now varis) (now work) (given from to end) frames ⌝ }
-    ensures { λ r. ⌜ Closes (now (means .entry)) (now (varis .entry)) (given from to end) frames (now (work .entry)) (grown (now (means .entry)) (now (varis .entry)) (given from to end) frames) (closed r) (now (work .exit)) ⌝ }
+    requires { ⌜ Lies (states (now means) (now varis)) (now work) (given from to end) frames ⌝ }
+    ensures { λ r. ⌜ Closes (states (now (means .entry)) (now (varis .entry))) (given from to end) frames (now (work .entry)) (grown (states (now (means .entry)) (now (varis .entry))) (given from to end) frames) (closed r) (now (work .exit)) ⌝ }
 {
     let target = floats::rounded(end - (frames as f64));
     let answer = crate::fit::fit(
@@ -93,8 +94,8 @@ fn close_tail(
     to: usize,
     work: &mut [u32],
 ) -> Fitted
-    requires { ⌜ Lies (now means) (now varis) (now work) (tail from to) frames ⌝ }
-    ensures { λ r. ⌜ Closes (now (means .entry)) (now (varis .entry)) (tail from to) frames (now (work .entry)) (changes ∷ []) (fitted r) (now (work .exit)) ⌝ }
+    requires { ⌜ Lies (states (now means) (now varis)) (now work) (tail from to) frames ⌝ }
+    ensures { λ r. ⌜ Closes (states (now (means .entry)) (now (varis .entry))) (tail from to) frames (now (work .entry)) (changes ∷ []) (fitted r) (now (work .exit)) ⌝ }
 {
     if from == to {
         return Fitted::Done(changes);
@@ -114,8 +115,8 @@ pub(crate) fn fit_along(
     ends: &[f64],
     work: &mut [u32],
 ) -> Fitted
-    requires { ⌜ Labelled (now means) (now varis) nstate (now ends) (now work) ⌝ }
-    ensures { λ r. ⌜ InPlace (refusalAlong (now (means .entry)) (now (varis .entry)) (groups nstate 0 0 (now (ends .entry))) 0) (fitAlong (now (means .entry)) (now (varis .entry)) (groups nstate 0 0 (now (ends .entry))) 0) r (now (work .exit)) ⌝ }
+    requires { ⌜ Labelled (states (now means) (now varis)) nstate (now ends) (now work) ⌝ }
+    ensures { λ r. ⌜ InPlace (refusalAlong (states (now (means .entry)) (now (varis .entry))) (groups nstate 0 0 (now (ends .entry))) 0) (fitAlong (states (now (means .entry)) (now (varis .entry))) (groups nstate 0 0 (now (ends .entry))) 0) r (now (work .exit)) ⌝ }
 {
     let mut done = 0;
     let mut first = 0;

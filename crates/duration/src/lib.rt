@@ -1,5 +1,6 @@
 // The durations of states: fitted to a length, to a speed, or to given ends.
 ghost use mathlib.Core.Path.{_≡_};
+ghost use Rattle.steps.specs.Steps.{states};
 ghost use Rattle.duration.specs.Inner.Asked.{HandsOut};
 ghost use Rattle.duration.specs.Promise.{fitted, refusalOfLists, refusalOfLabels, FitSays, SpeedSays, AlignOnTime};
 
@@ -100,7 +101,7 @@ pub fn estimate_duration_with_frame_length(
     out: &mut [u32],
     work: &mut [u32],
 ) -> Fitted
-    ensures { λ r. ⌜ FitSays (now (means .entry)) (now (varis .entry)) «frame_length» (now (out .entry)) (now (work .entry)) r (now (out .exit)) (now (work .exit)) ⌝ }
+    ensures { λ r. ⌜ FitSays (states (now (means .entry)) (now (varis .entry))) «frame_length» (now (out .entry)) (now (work .entry)) r (now (out .exit)) (now (work .exit)) ⌝ }
 {
     let n = means.len();
     let refusal = refusal_of_lists(n, varis.len(), out.len(), work.len());
@@ -113,7 +114,7 @@ pub fn estimate_duration_with_frame_length(
 
 // The states' durations at a speed.
 pub fn create(means: &[f64], varis: &[f64], speed: f64, out: &mut [u32], work: &mut [u32]) -> Fitted
-    ensures { λ r. ⌜ SpeedSays (now (means .entry)) (now (varis .entry)) speed (now (out .entry)) (now (work .entry)) r (now (out .exit)) (now (work .exit)) ⌝ }
+    ensures { λ r. ⌜ SpeedSays (states (now (means .entry)) (now (varis .entry))) speed (now (out .entry)) (now (work .entry)) r (now (out .exit)) (now (work .exit)) ⌝ }
 {
     let n = means.len();
     let refusal = refusal_of_lists(n, varis.len(), out.len(), work.len());
@@ -133,7 +134,7 @@ pub fn create_with_alignment(
     out: &mut [u32],
     work: &mut [u32],
 ) -> Aligned
-    ensures { λ r. ⌜ AlignOnTime (now (means .entry)) (now (varis .entry)) nstate (now (ends .entry)) (now (out .entry)) (now (work .entry)) r (now (out .exit)) (now (work .exit)) ⌝ }
+    ensures { λ r. ⌜ AlignOnTime (states (now (means .entry)) (now (varis .entry))) nstate (now (ends .entry)) (now (out .entry)) (now (work .entry)) r (now (out .exit)) (now (work .exit)) ⌝ }
 {
     let n = means.len();
     let width = nstate as usize;

@@ -7,13 +7,14 @@ use lib.ListN.{length, getD}
 use lib.Ieee.{Float, nan, le}
 use Rattle.lists.specs.Totals.{gap}
 use Rattle.floats.specs.Numbers.{nought}
+use Rattle.steps.specs.Steps.{States}
 use Rattle.duration.specs.Align.{targetOf}
 use Rattle.duration.specs.Drift.{Fraction, HalvesUp, framesBefore, groupStates, totalAt, NoDrift}
 use Rattle.duration.proofs.Chapters as chapter
 use Rattle.hejmirov.specs.Promise.{AlignCallSays}
 
-module _ (ms vs : List Float) (nstate : ℕ) (ends : List Float) (out work : List ℕ) (written changes : ℕ) (out′ work′ : List ℕ) (written′ changes′ : ℕ)
-    (a : AlignCallSays ms vs nstate ends out work written changes 0 out′ work′ written′ changes′) where
+module _ (ss : States) (nstate : ℕ) (ends : List Float) (out work : List ℕ) (written changes : ℕ) (out′ work′ : List ℕ) (written′ changes′ : ℕ)
+    (a : AlignCallSays ss nstate ends out work written changes 0 out′ work′ written′ changes′) where
   -- at each label with a given end, of the durations that were handed out
   pub no-drift : NoDrift nstate ends out′
   no-drift = a .says .on-time (sym (a .gives .answers))
@@ -31,7 +32,7 @@ module _ (ms vs : List Float) (nstate : ℕ) (ends : List Float) (out work : Lis
   right-again = chapter.right-again nstate ends out′ no-drift
 
   -- another call over the same ends, of as many states a label, with whatever means and variances: the same totals
-  pub however-fitted : (ns us : List Float) (other space : List ℕ) (w c : ℕ) (other′ space′ : List ℕ) (w′ c′ : ℕ)
-      → AlignCallSays ns us nstate ends other space w c 0 other′ space′ w′ c′
+  pub however-fitted : (rs : States) (other space : List ℕ) (w c : ℕ) (other′ space′ : List ℕ) (w′ c′ : ℕ)
+      → AlignCallSays rs nstate ends other space w c 0 other′ space′ w′ c′
       → (i : ℕ) → i < length ends → le nought (getD ends i nan) ≡ true → totalAt nstate out′ i ≡ totalAt nstate other′ i
-  however-fitted ns us other space w c other′ space′ w′ c′ b = chapter.totals-same nstate ends out′ other′ no-drift (b .says .on-time (sym (b .gives .answers)))
+  however-fitted rs other space w c other′ space′ w′ c′ b = chapter.totals-same nstate ends out′ other′ no-drift (b .says .on-time (sym (b .gives .answers)))

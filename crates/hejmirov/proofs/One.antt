@@ -5,6 +5,7 @@ use Prim.Native.Nat.{ℕ}
 use lib.Ieee.{Float}
 use Rattle.lists.specs.Answers.{Answer}
 use Rattle.lists.proofs.Answers.{same}
+use Rattle.steps.specs.Steps.{States}
 use Rattle.duration.specs.Promise.{fitted, aligned}
 use Rattle.duration.proofs.Calls.{fit-says-one, speed-says-one, align-says-one}
 use Rattle.lists.specs.Ends.{filled}
@@ -48,23 +49,23 @@ hands-job a b o₀ o₁ o₂ at r s x₀ x₁ x₂ p y₀ y₁ y₂ q e f g =
     let h = hands-three a b o₀ o₁ o₂ r s x₀ x₁ x₂ y₀ y₁ y₂ e (f .three) (g .three) in
     (h .0, h .1, h .2, h .3, f .place ∙ ap (λ c. handed c 0 at) (same e .2) ∙ sym (g .place))
 
-module _ (ms vs : List Float) (out work o₁ w₁ o₂ w₂ : List ℕ) (changes r s x y : ℕ) where
-  pub fit-call-one : (len : Float) → FitCallSays ms vs len out work changes r o₁ w₁ x → FitCallSays ms vs len out work changes s o₂ w₂ y → (r ≡ s) × (o₁ ≡ o₂) × (w₁ ≡ w₂) × (x ≡ y)
+module _ (ss : States) (out work o₁ w₁ o₂ w₂ : List ℕ) (changes r s x y : ℕ) where
+  pub fit-call-one : (len : Float) → FitCallSays ss len out work changes r o₁ w₁ x → FitCallSays ss len out work changes s o₂ w₂ y → (r ≡ s) × (o₁ ≡ o₂) × (w₁ ≡ w₂) × (x ≡ y)
   fit-call-one len f g =
-      let t = fit-says-one ms vs len out work o₁ o₂ w₁ w₂ (f .answer) (g .answer) (f .says) (g .says) in
+      let t = fit-says-one ss len out work o₁ o₂ w₁ w₂ (f .answer) (g .answer) (f .says) (g .says) in
       let h = hands-one (fitted (f .answer)) (fitted (g .answer)) changes r s x y (ap fitted (t .0)) (f .gives) (g .gives) in
       (h .0, t .1, t .2, h .1)
 
-  pub speed-call-one : (speed : Float) → SpeedCallSays ms vs speed out work changes r o₁ w₁ x → SpeedCallSays ms vs speed out work changes s o₂ w₂ y → (r ≡ s) × (o₁ ≡ o₂) × (w₁ ≡ w₂) × (x ≡ y)
+  pub speed-call-one : (speed : Float) → SpeedCallSays ss speed out work changes r o₁ w₁ x → SpeedCallSays ss speed out work changes s o₂ w₂ y → (r ≡ s) × (o₁ ≡ o₂) × (w₁ ≡ w₂) × (x ≡ y)
   speed-call-one speed f g =
-      let t = speed-says-one ms vs speed out work o₁ o₂ w₁ w₂ (f .answer) (g .answer) (f .says) (g .says) in
+      let t = speed-says-one ss speed out work o₁ o₂ w₁ w₂ (f .answer) (g .answer) (f .says) (g .says) in
       let h = hands-one (fitted (f .answer)) (fitted (g .answer)) changes r s x y (ap fitted (t .0)) (f .gives) (g .gives) in
       (h .0, t .1, t .2, h .1)
 
-  pub align-call-one : (nstate : ℕ) (ends : List Float) (written x₀ y₀ : ℕ) → AlignCallSays ms vs nstate ends out work written changes r o₁ w₁ x₀ x → AlignCallSays ms vs nstate ends out work written changes s o₂ w₂ y₀ y
+  pub align-call-one : (nstate : ℕ) (ends : List Float) (written x₀ y₀ : ℕ) → AlignCallSays ss nstate ends out work written changes r o₁ w₁ x₀ x → AlignCallSays ss nstate ends out work written changes s o₂ w₂ y₀ y
       → (r ≡ s) × (o₁ ≡ o₂) × (w₁ ≡ w₂) × (x₀ ≡ y₀) × (x ≡ y)
   align-call-one nstate ends written x₀ y₀ f g =
-      let t = align-says-one ms vs nstate ends out work o₁ o₂ w₁ w₂ (f .answer) (g .answer) (f .says) (g .says) in
+      let t = align-says-one ss nstate ends out work o₁ o₂ w₁ w₂ (f .answer) (g .answer) (f .says) (g .says) in
       let h = hands-two (aligned (f .answer)) (aligned (g .answer)) written changes r s x₀ x y₀ y (ap aligned (t .0)) (f .gives) (g .gives) in
       (h .0, t .1, t .2, h .1, h .2)
 

@@ -8,6 +8,7 @@ use lib.Ieee.{Float}
 use borrow.Author.Tests.{le-ltb, eq-eqb}
 use Rattle.lists.specs.Sizes.{mostStates, mostFrames}
 use Rattle.lists.specs.Totals.{total}
+use Rattle.steps.specs.Steps.{States, size}
 use Rattle.duration.specs.Promise.{aligned}
 use Rattle.duration.specs.Align.{groups}
 use Rattle.duration.specs.Fitting.{AcceptedAlong}
@@ -31,33 +32,33 @@ ready s widths coefs records gv switches out work marks n frames r =
     rw (r .windows, r .finite, r .components, eq-eqb (length coefs) (total widths) (r .coefficients), eq-eqb (length records) (n * stateSize s widths) (r .states), r .variance, r .room)
 
 -- what `hejmirov_align` has handed out
-module _ (ms vs : List Float) (nstate : ℕ) (ends : List Float) (out work : List ℕ) (written changes : ℕ) (out′ work′ : List ℕ) (written′ changes′ : ℕ)
-    (a : AlignCallSays ms vs nstate ends out work written changes 0 out′ work′ written′ changes′) where
-  accepted : AcceptedAlong ms vs (groups nstate 0 0 ends) out (a .answer) out′
-  accepted = align-theorem ms vs nstate ends out work (a .answer) out′ work′ (sym (a .gives .answers)) (a .says .says)
+module _ (ss : States) (nstate : ℕ) (ends : List Float) (out work : List ℕ) (written changes : ℕ) (out′ work′ : List ℕ) (written′ changes′ : ℕ)
+    (a : AlignCallSays ss nstate ends out work written changes 0 out′ work′ written′ changes′) where
+  accepted : AcceptedAlong ss (groups nstate 0 0 ends) out (a .answer) out′
+  accepted = align-theorem ss nstate ends out work (a .answer) out′ work′ (sym (a .gives .answers)) (a .says .says)
 
   -- as many durations as states
-  pub align-written : written′ ≡ length ms
+  pub align-written : written′ ≡ size ss
   align-written = a .gives .first ∙ ap (λ r. handed (aligned r .values) 0 written) (accepted .answer)
 
   -- within the sizes
-  pub align-durations : (length (take written′ out′) ≡ length ms) × (length (take written′ out′) ≤ mostStates) × (total (take written′ out′) ≤ mostFrames)
+  pub align-durations : (length (take written′ out′) ≡ size ss) × (length (take written′ out′) ≤ mostStates) × (total (take written′ out′) ≤ mostFrames)
   align-durations =
       let o = accepted .outcome in
-      let ds : take written′ out′ ≡ o .durations = ap (λ (m : ℕ). take m out′) align-written ∙ ap (take (length ms)) (accepted .output) ∙ take-at (o .durations) _ (length ms) (accepted .count) in
-      let n : length (take written′ out′) ≡ length ms = ap length ds ∙ accepted .count in
+      let ds : take written′ out′ ≡ o .durations = ap (λ (m : ℕ). take m out′) align-written ∙ ap (take (size ss)) (accepted .output) ∙ take-at (o .durations) _ (size ss) (accepted .count) in
+      let n : length (take written′ out′) ≡ size ss = ap length ds ∙ accepted .count in
       (n, rw n (accepted .states), rw ds (accepted .frames))
 
   -- in `hejmirov_trajectory`, with whatever records, windows and room
   pub align-blameless : (v masked : ℕ) (threshold none : Float) (gvOn : ℕ) (weight : Float) (widths : List ℕ) (coefs records gv : List Float) (switches : List ℕ)
       (numbers floats : List Float) (marks : List ℕ) (high low r : ℕ) (numbers′ floats′ : List Float) (marks′ : List ℕ) (high′ low′ : ℕ)
       → TrajectoryCallSays v masked threshold none gvOn weight widths coefs records (take written′ out′) gv switches numbers floats marks high low r numbers′ floats′ marks′ high′ low′
-      → Blameless (streamOf v masked threshold none gvOn weight) widths coefs records gv switches numbers floats marks (length ms) (take written′ out′) r
+      → Blameless (streamOf v masked threshold none gvOn weight) widths coefs records gv switches numbers floats marks (size ss) (take written′ out′) r
   align-blameless v masked threshold none gvOn weight widths coefs records gv switches numbers floats marks high low r numbers′ floats′ marks′ high′ low′ t =
-      let n : length (take written′ out′) ≡ length ms = align-durations .0 in
+      let n : length (take written′ out′) ≡ size ss = align-durations .0 in
       let f : total (take written′ out′) ≤ mostFrames = align-durations .2 in
-      let e : r ≡ refusalBeside (streamOf v masked threshold none gvOn weight) widths coefs records gv switches numbers floats marks (length ms) (total (take written′ out′)) =
+      let e : r ≡ refusalBeside (streamOf v masked threshold none gvOn weight) widths coefs records gv switches numbers floats marks (size ss) (total (take written′ out′)) =
       t .gives .answers ∙ t .says .number
       ∙ beside (streamOf v masked threshold none gvOn weight) widths coefs records gv switches numbers floats marks (take written′ out′) (align-durations .1) f
       ∙ ap (λ (m : ℕ). refusalBeside (streamOf v masked threshold none gvOn weight) widths coefs records gv switches numbers floats marks m (total (take written′ out′))) n in
-      record { count = n; frames = f; answers = e; accepted = λ q. e ∙ ready (streamOf v masked threshold none gvOn weight) widths coefs records gv switches numbers floats marks (length ms) (total (take written′ out′)) q }
+      record { count = n; frames = f; answers = e; accepted = λ q. e ∙ ready (streamOf v masked threshold none gvOn weight) widths coefs records gv switches numbers floats marks (size ss) (total (take written′ out′)) q }

@@ -7,6 +7,7 @@ use lib.Dec.{eqb}
 use lib.ListN.{getD}
 use lib.Ieee.{Float}
 use Rattle.lists.specs.Answers.{Answer}
+use Rattle.steps.specs.Steps.{States}
 use Rattle.duration.specs.Promise.{fitted, aligned, FitSays, SpeedSays, AlignOnTime}
 use Rattle.duration.specs.declared.Fitted.{Fitted}
 use Rattle.duration.specs.declared.Aligned.{Aligned}
@@ -56,21 +57,21 @@ pub record HandsJob (a : Answer) (old₀ old₁ old₂ at r new₀ new₁ new₂
   pub place : at′ ≡ handed (a .place) 0 at
 
 -- `hejmirov_fit`
-pub record FitCallSays (ms vs : List Float) (len : Float) (out work : List ℕ) (changes r : ℕ) (out′ work′ : List ℕ) (changes′ : ℕ) : Type 0 where
+pub record FitCallSays (ss : States) (len : Float) (out work : List ℕ) (changes r : ℕ) (out′ work′ : List ℕ) (changes′ : ℕ) : Type 0 where
   pub answer : Fitted
-  pub says : FitSays ms vs len out work answer out′ work′
+  pub says : FitSays ss len out work answer out′ work′
   pub gives : HandsOne (fitted answer) changes r changes′
 
 -- `hejmirov_speed`
-pub record SpeedCallSays (ms vs : List Float) (speed : Float) (out work : List ℕ) (changes r : ℕ) (out′ work′ : List ℕ) (changes′ : ℕ) : Type 0 where
+pub record SpeedCallSays (ss : States) (speed : Float) (out work : List ℕ) (changes r : ℕ) (out′ work′ : List ℕ) (changes′ : ℕ) : Type 0 where
   pub answer : Fitted
-  pub says : SpeedSays ms vs speed out work answer out′ work′
+  pub says : SpeedSays ss speed out work answer out′ work′
   pub gives : HandsOne (fitted answer) changes r changes′
 
 -- `hejmirov_align`
-pub record AlignCallSays (ms vs : List Float) (nstate : ℕ) (ends : List Float) (out work : List ℕ) (written changes r : ℕ) (out′ work′ : List ℕ) (written′ changes′ : ℕ) : Type 0 where
+pub record AlignCallSays (ss : States) (nstate : ℕ) (ends : List Float) (out work : List ℕ) (written changes r : ℕ) (out′ work′ : List ℕ) (written′ changes′ : ℕ) : Type 0 where
   pub answer : Aligned
-  pub says : AlignOnTime ms vs nstate ends out work answer out′ work′
+  pub says : AlignOnTime ss nstate ends out work answer out′ work′
   pub gives : HandsTwo (aligned answer) written changes r written′ changes′
 
 -- `hejmirov_mask`

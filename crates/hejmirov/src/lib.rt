@@ -2,6 +2,7 @@
 // were, but for the place of a damaged job.
 // A list is a pointer and a length.
 ghost use mathlib.Core.Path.{_≡_};
+ghost use Rattle.steps.specs.Steps.{states};
 ghost use Rattle.duration.specs.Promise.{fitted, aligned};
 ghost use Rattle.lists.specs.Ends.{filled};
 ghost use Rattle.mlpg_adjust.specs.Promise.{created};
@@ -38,7 +39,7 @@ pub extern "C" fn hejmirov_fit(
     work: &mut [u32],
     changes: &mut u32,
 ) -> u32
-    ensures { λ r. ⌜ FitCallSays (now (means .entry)) (now (varis .entry)) «frame_length» (now (out .entry)) (now (work .entry)) (now (changes .entry)) r (now (out .exit)) (now (work .exit)) (now (changes .exit)) ⌝ }
+    ensures { λ r. ⌜ FitCallSays (states (now (means .entry)) (now (varis .entry))) «frame_length» (now (out .entry)) (now (work .entry)) (now (changes .entry)) r (now (out .exit)) (now (work .exit)) (now (changes .exit)) ⌝ }
 {
     let answer = duration::estimate_duration_with_frame_length(
         means,
@@ -60,7 +61,7 @@ pub extern "C" fn hejmirov_speed(
     work: &mut [u32],
     changes: &mut u32,
 ) -> u32
-    ensures { λ r. ⌜ SpeedCallSays (now (means .entry)) (now (varis .entry)) speed (now (out .entry)) (now (work .entry)) (now (changes .entry)) r (now (out .exit)) (now (work .exit)) (now (changes .exit)) ⌝ }
+    ensures { λ r. ⌜ SpeedCallSays (states (now (means .entry)) (now (varis .entry))) speed (now (out .entry)) (now (work .entry)) (now (changes .entry)) r (now (out .exit)) (now (work .exit)) (now (changes .exit)) ⌝ }
 {
     let answer = duration::create(means, varis, speed, out, work);
     hand_out_fit(answer, changes)
@@ -91,7 +92,7 @@ pub extern "C" fn hejmirov_align(
     written: &mut u32,
     changes: &mut u32,
 ) -> u32
-    ensures { λ r. ⌜ AlignCallSays (now (means .entry)) (now (varis .entry)) nstate (now (ends .entry)) (now (out .entry)) (now (work .entry)) (now (written .entry)) (now (changes .entry)) r (now (out .exit)) (now (work .exit)) (now (written .exit)) (now (changes .exit)) ⌝ }
+    ensures { λ r. ⌜ AlignCallSays (states (now (means .entry)) (now (varis .entry))) nstate (now (ends .entry)) (now (out .entry)) (now (work .entry)) (now (written .entry)) (now (changes .entry)) r (now (out .exit)) (now (work .exit)) (now (written .exit)) (now (changes .exit)) ⌝ }
 {
     let answer = duration::create_with_alignment(means, varis, nstate, ends, out, work);
     hand_out_alignment(answer, written, changes)

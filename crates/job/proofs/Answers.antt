@@ -20,7 +20,7 @@ use Rattle.job.specs.declared.Damage.{Damage}
 use Rattle.job.specs.declared.Damage.the-variants.{Mark, Version, Count, Length}
 use Rattle.job.specs.declared.finding.Found.the-variants.{Sound, Wrong}
 use Rattle.job.specs.declared.Answered.the-variants.{Done, Damaged, Refused}
-use Rattle.job.specs.Format.{countOf, Job, jobAt, jobOf}
+use Rattle.job.specs.Format.{countOf, Job, jobStates, jobAt, jobOf}
 use Rattle.job.specs.Damage.{damageOf, damageNumber}
 use Rattle.job.specs.Inner.Reading.{StatesFitted}
 use Rattle.job.specs.Promise.{jobFit, jobRefusal, JobSays}
@@ -42,11 +42,11 @@ module _ (k : ℕ) (values new : List ℕ) (n : ℕ) (out work out′ work′ : 
 -- ---- durations that `create` does not refuse, at the front of its output
 
 module _ (j : Job) (out work out′ : List ℕ) (z : jobRefusal j out work ≡ 0) (o : out′ ≡ written (jobRefusal j out work) (jobFit j .durations) out) where
-  none : (refusalOfLists (length (j .means)) (length (j .varis)) (length out) (length work) ≡ 0) × (refusalAt (j .means) (j .varis) (j .speed) ≡ 0)
-  none = or-none (refusalOfLists (length (j .means)) (length (j .varis)) (length out) (length work)) (refusalAt (j .means) (j .varis) (j .speed)) z
+  none : (refusalOfLists (length (j .means)) (length (j .varis)) (length out) (length work) ≡ 0) × (refusalAt (jobStates j) (j .speed) ≡ 0)
+  none = or-none (refusalOfLists (length (j .means)) (length (j .varis)) (length out) (length work)) (refusalAt (jobStates j) (j .speed)) z
 
   pub fit-bounded : Bounded (length (j .means)) (jobFit j)
-  fit-bounded = let f = fitting _ _ _ _ (none .0) in speed-bounded (j .means) (j .varis) (f .few) (f .agree) (j .speed) (none .1)
+  fit-bounded = let f = fitting _ _ _ _ (none .0) in speed-bounded (jobStates j) (f .few) (j .speed) (none .1)
 
   out-is : out′ ≡ jobFit j .durations ++ drop (length (jobFit j .durations)) out
   out-is = o ∙ ap (λ (k : ℕ). written k (jobFit j .durations) out) z

@@ -16,7 +16,7 @@ use Rattle.job.specs.declared.finding.Found.{Found}
 use Rattle.job.specs.declared.finding.Found.the-variants.{Sound, Wrong}
 use Rattle.job.specs.declared.Answered.{Answered}
 use Rattle.job.specs.declared.Answered.the-variants.{Done, Damaged, Refused}
-use Rattle.job.specs.Format.{IsJob, Job, jobOf}
+use Rattle.job.specs.Format.{IsJob, Job, jobStates, jobOf}
 use Rattle.job.specs.Damage.{damageOf, damageNumber}
 use Rattle.job.specs.Places.{PlaceRight}
 use Rattle.job.specs.Promise.{answered, jobFit, jobRefusal, unlessFound, behind, JobSaysAfter, JobSays}
@@ -92,7 +92,7 @@ module _ (bytes out work : List ℕ) (r : Answered) (out′ work′ : List ℕ) 
   job-is s frames c e = sound-job bytes (accepted-found 0 (damageOf bytes) (jobRefusal (jobOf bytes) out work) _ _ (sym (ap answered e) ∙ f .answer) .1)
 
   -- and a job comes to what `create` does
-  pub job-creates : IsJob bytes → (s : Fitted) (o w : List ℕ) → SpeedSays (jobOf bytes .means) (jobOf bytes .varis) (jobOf bytes .speed) out work s o w → (answered r .number ≡ fitted s .number) × (out′ ≡ o) × (work′ ≡ w)
+  pub job-creates : IsJob bytes → (s : Fitted) (o w : List ℕ) → SpeedSays (jobStates (jobOf bytes)) (jobOf bytes .speed) out work s o w → (answered r .number ≡ fitted s .number) × (out′ ≡ o) × (work′ ≡ w)
   job-creates j s o w g =
       let e : damageOf bytes ≡ Sound = job-sound bytes j in
       let a = rw e at (f .answer) in

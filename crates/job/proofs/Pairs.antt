@@ -8,6 +8,7 @@ use lib.Seq.{length-take-le, take-at}
 use lib.Ieee.{Float}
 use Rattle.lists.proofs.Fills.{build-length}
 use Rattle.duration.specs.declared.Fitted.{Fitted}
+use Rattle.steps.specs.Steps.{states}
 use Rattle.duration.specs.Promise.{SpeedSays}
 use Rattle.job.specs.Format.{floatAt, floatsAt}
 
@@ -37,5 +38,5 @@ module _ (bytes : List ℕ) (at n : ℕ) (start w : List Float) (room : n ≤ le
   read-front = take-at w (drop n start) n read-long ∙ read-is
 
 -- the call with what was read
-pub create-is : (ms ns vs us : List Float) (x y : Float) (out work : List ℕ) (r : Fitted) (out′ work′ : List ℕ) → ms ≡ ns → vs ≡ us → x ≡ y → SpeedSays ms vs x out work r out′ work′ → SpeedSays ns us y out work r out′ work′
+pub create-is : (ms ns vs us : List Float) (x y : Float) (out work : List ℕ) (r : Fitted) (out′ work′ : List ℕ) → ms ≡ ns → vs ≡ us → x ≡ y → SpeedSays (states ms vs) x out work r out′ work′ → SpeedSays (states ns us) y out work r out′ work′
 create-is ms ns vs us x y out work r out′ work′ e f g h = rw (← e, ← f, ← g) h

@@ -25,7 +25,7 @@ use Rattle.job.specs.declared.finding.Found.{Found}
 use Rattle.job.specs.declared.finding.Found.the-variants.{Sound, Wrong}
 use Rattle.job.specs.declared.Answered.{Answered}
 use Rattle.job.specs.declared.Answered.the-variants.{Done, Damaged, Refused}
-use Rattle.job.specs.Format.{Job, jobOf}
+use Rattle.job.specs.Format.{Job, jobStates, jobOf}
 use Rattle.job.specs.Damage.{damageOf, damageNumber, isDamage}
 use Rattle.job.specs.Places.{PlaceTold}
 use Rattle.job.specs.Promise.{answered, jobRefusal, unlessFound, behind, JobSaysAfter}
@@ -60,18 +60,18 @@ unfolding refusalAt refusalTo
 job-below j out work =
     let ms = j .means in
     let vs = j .varis in
-    let t = targetAt ms vs (j .speed) in
+    let t = targetAt (jobStates j) (j .speed) in
     or-below
     (refusalOfLists (length ms) (length vs) (length out) (length work))
     _
     8
     (lists-below (length ms) (length vs) (length out) (length work))
-    (cond-below (ltb mostFrames (total (naturals ms vs))) _ _ 8 (omega arith)
+    (cond-below (ltb mostFrames (total (naturals (jobStates j)))) _ _ 8 (omega arith)
     (cond-below (eq (j .speed) one) _ _ 8 (omega arith)
     (cond-below (eqb (length ms) 0) _ _ 8 (omega arith)
     (cond-below (ltb mostFrames t) _ _ 8 (omega arith)
     (cond-below (leb t (length ms)) _ _ 8 (omega arith)
-    (cond-below (ltb mostFrames (total (startOf ms vs t))) _ _ 8 (omega arith) (omega arith)))))))
+    (cond-below (ltb mostFrames (total (startOf (jobStates j) t))) _ _ 8 (omega arith) (omega arith)))))))
 
 pub job-none : (j : Job) (out work : List ℕ) → isDamage (jobRefusal j out work) ≡ false
 job-none j out work = below-none (jobRefusal j out work) (job-below j out work)

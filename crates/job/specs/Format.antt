@@ -7,6 +7,7 @@ use lib.Ieee.{Float, binary64, ofBits}
 use Rattle.lists.specs.Sizes.{mostJobStates}
 use Rattle.lists.specs.Build.{build}
 use Rattle.lists.specs.Bytes.{wordAt, patternAt}
+use Rattle.steps.specs.Steps.{States, states}
 
 -- RULES, Job file: every number stands with its least byte first; the float at a place
 abbrev pub floatAt : List ℕ → ℕ → Float
@@ -46,6 +47,10 @@ pub record Job : Type 0 where
   pub speed : Float
   pub means : List Float
   pub varis : List Float
+
+-- its states
+abbrev pub jobStates : Job → States
+jobStates j = states (j .means) (j .varis)
 
 -- RULES, Job file: then the speed, and of each state its mean and its variance; here of n states
 abbrev pub jobAt : List ℕ → ℕ → Job

@@ -12,7 +12,7 @@ use Rattle.job.specs.declared.finding.Found.{Found}
 use Rattle.job.specs.declared.finding.Found.the-variants.{Sound, Wrong}
 use Rattle.job.specs.declared.Answered.{Answered}
 use Rattle.job.specs.declared.Answered.the-variants.{Done, Damaged, Refused}
-use Rattle.job.specs.Format.{Job, jobOf}
+use Rattle.job.specs.Format.{Job, jobStates, jobOf}
 use Rattle.job.specs.Damage.{damageOf, damageNumber}
 
 -- RULES, Job file: a job that is answered has its states, its frames and its changes, a damaged one the number of its damage and a place, any other its number
@@ -21,12 +21,12 @@ answered (Done states frames changes) = accepting (states ∷ frames ∷ changes
 answered (Damaged what at) = refusingAt (damageNumber what) at
 answered (Refused number) = refusing number
 
--- what `duration::create` comes to with the job's lists at its speed, and the number with which it refuses them
+-- what `duration::create` comes to with the job's states at its speed, and the number with which it refuses them
 abbrev pub jobFit : Job → Outcome
-jobFit j = fitAt (j .means) (j .varis) (j .speed)
+jobFit j = fitAt (jobStates j) (j .speed)
 
 abbrev pub jobRefusal : Job → List ℕ → List ℕ → ℕ
-jobRefusal j out work = orElse (refusalOfLists (length (j .means)) (length (j .varis)) (length out) (length work)) (refusalAt (j .means) (j .varis) (j .speed))
+jobRefusal j out work = orElse (refusalOfLists (length (j .means)) (length (j .varis)) (length out) (length work)) (refusalAt (jobStates j) (j .speed))
 
 -- RULES, Refusals: what is found wrong with a job comes before all others
 abbrev pub unlessFound : Found → Answer → Answer

@@ -11,7 +11,7 @@ use lib.Ieee.{Float}
 use Rattle.lists.specs.Sizes.{mostFrames}
 use Rattle.lists.specs.Totals.{total, gap}
 use Rattle.lists.proofs.Numbers.{le-or-lt}
-use Rattle.steps.specs.Steps.{keys, leastOf, step, Settles, Outcome, settle}
+use Rattle.steps.specs.Steps.{States, size, keys, leastOf, step, Settles, Outcome, settle}
 use Rattle.steps.specs.Steps.Settles.{there, above}
 use Rattle.steps.specs.Inner.Asked.{Ready, Aim, Lone}
 use Rattle.steps.proofs.Keys.{place-long}
@@ -38,25 +38,25 @@ passed-all ds i p f h j ne = ⊎-elim (λ (g : length ds ≤ j). rw (List·getD-
 
 -- ---- its steps
 
-module _ (rho : Float) (ms vs : List Float) (t : ℕ) (agree : length vs ≡ length ms) (room : length ms ≤ t) (p : ℕ) where
-  alone-least : (ds : List ℕ) → length ds ≡ length ms → Lone ds p → t < total ds → leastOf (keys false rho ms vs ds) ≡ p
+module _ (rho : Float) (ss : States) (t : ℕ) (room : size ss ≤ t) (p : ℕ) where
+  alone-least : (ds : List ℕ) → length ds ≡ size ss → Lone ds p → t < total ds → leastOf (keys false rho ss ds) ≡ p
   alone-least ds q l h =
-      let g : 1 < getD ds (leastOf (keys false rho ms vs ds)) 0 = place-long rho ms vs ds agree q (omega arith) in
-      ⊎-elim (λ e. e) (λ (ne : leastOf (keys false rho ms vs ds) ≡ p → ⊥). absurd (omega (arith, l _ ne))) (same (leastOf (keys false rho ms vs ds)) p)
+      let g : 1 < getD ds (leastOf (keys false rho ss ds)) 0 = place-long rho ss ds q (omega arith) in
+      ⊎-elim (λ e. e) (λ (ne : leastOf (keys false rho ss ds) ≡ p → ⊥). absurd (omega (arith, l _ ne))) (same (leastOf (keys false rho ss ds)) p)
 
-  alone-settles : (k : ℕ) (ds : List ℕ) → 0 < length ms → length ds ≡ length ms → p < length ds → Lone ds p → total ds ≡ t + k → (k ≤ getD ds p 0) × Settles rho ms vs t ds (set ds p (getD ds p 0 - k)) k
+  alone-settles : (k : ℕ) (ds : List ℕ) → 0 < size ss → length ds ≡ size ss → p < length ds → Lone ds p → total ds ≡ t + k → (k ≤ getD ds p 0) × Settles rho ss t ds (set ds p (getD ds p 0 - k)) k
   unfolding step
   alone-settles zero ds z q i l e =
       let d : getD ds p 0 - 0 ≡ getD ds p 0 = omega arith in
       (zero-le, rw (d, set-getD ds p 0) (there (let h : total ds ≡ t = omega arith in h)))
   alone-settles (suc k) ds z q i l e =
       let h : t < total ds = omega arith in
-      let at : leastOf (keys false rho ms vs ds) ≡ p = alone-least ds q l h in
-      let g : 1 < getD ds (leastOf (keys false rho ms vs ds)) 0 = place-long rho ms vs ds agree q (omega arith) in
+      let at : leastOf (keys false rho ss ds) ≡ p = alone-least ds q l h in
+      let g : 1 < getD ds (leastOf (keys false rho ss ds)) 0 = place-long rho ss ds q (omega arith) in
       let d : 1 < getD ds p 0 = rw at at g in
       let x : ℕ = getD ds p 0 - 1 in
-      let s : step false rho ms vs ds ≡ set ds p x = rw at in
-      let m : total (step false rho ms vs ds) + 1 ≡ total ds = total-down rho ms vs z agree ds q (omega arith) in
+      let s : step false rho ss ds ≡ set ds p x = rw at in
+      let m : total (step false rho ss ds) + 1 ≡ total ds = total-down rho ss z ds q (omega arith) in
       let n : total (set ds p x) + 1 ≡ total ds = rw (← s) m in
       let y : getD (set ds p x) p 0 ≡ x = getD-set-same ds p x 0 i in
       let r = alone-settles k (set ds p x) z (length-set ds p x ∙ q) (rw (length-set ds p x) i) (λ j ne. rw (getD-set-other ds p j x 0 ne) (l j ne)) (omega arith) in
@@ -64,15 +64,15 @@ module _ (rho : Float) (ms vs : List Float) (t : ℕ) (agree : length vs ≡ len
       (omega (arith, r .0), above {es = set ds p (getD ds p 0 - suc k)} {k = k} h (rw s (rw (c, set-set ds p x (getD ds p 0 - suc k)) at (r .1))))
 
 -- all at once
-module _ (rho : Float) (ms vs : List Float) (t sum : ℕ) (ds : List ℕ) (r : Ready ms vs ds) (a : Aim ms ds sum t) (h : t < sum) (p : ℕ) (i : p < length ds) (l : Lone ds p) where
-  at-once : (gap sum t ≤ getD ds p 0) × Settles rho ms vs t ds (set ds p (getD ds p 0 - gap sum t)) (gap sum t)
-  at-once = alone-settles rho ms vs t (r .varis) (omega (arith, a .above)) p (gap sum t) ds (r .some) (r .work) i l (omega (arith, a .known))
+module _ (rho : Float) (ss : States) (t sum : ℕ) (ds : List ℕ) (r : Ready ss ds) (a : Aim ss ds sum t) (h : t < sum) (p : ℕ) (i : p < length ds) (l : Lone ds p) where
+  at-once : (gap sum t ≤ getD ds p 0) × Settles rho ss t ds (set ds p (getD ds p 0 - gap sum t)) (gap sum t)
+  at-once = alone-settles rho ss t (omega (arith, a .above)) p (gap sum t) ds (r .some) (r .work) i l (omega (arith, a .known))
 
   pub alone-has : gap sum t ≤ getD ds p 0
   alone-has = at-once .0
 
-  pub alone-settled : settle mostFrames rho ms vs t ds ≡ record { durations = set ds p (getD ds p 0 - gap sum t); changes = gap sum t }
+  pub alone-settled : settle mostFrames rho ss t ds ≡ record { durations = set ds p (getD ds p 0 - gap sum t); changes = gap sum t }
   alone-settled =
-      let o : Outcome = settle mostFrames rho ms vs t ds in
-      let e = settles-one rho ms vs t (settle-settles rho ms vs t (r .some) (r .varis) (omega (arith, a .above)) mostFrames ds (r .work) (omega (arith, r .small))) (at-once .1) in
+      let o : Outcome = settle mostFrames rho ss t ds in
+      let e = settles-one rho ss t (settle-settles rho ss t (r .some) (omega (arith, a .above)) mostFrames ds (r .work) (omega (arith, r .small))) (at-once .1) in
       ap (λ (es : List ℕ). record { durations = es; changes = o .changes }) (e .0) ∙ ap (λ (k : ℕ). record { durations = set ds p (getD ds p 0 - gap sum t); changes = k }) (e .1)

@@ -12,7 +12,7 @@ use Rattle.lists.specs.Totals.{total}
 use Rattle.lists.proofs.Sums.{total-whole}
 use Rattle.steps.specs.declared.Settled.{Settled}
 use Rattle.steps.specs.declared.Settled.the-variants.{Done, Over}
-use Rattle.steps.specs.Steps.{Outcome, settle}
+use Rattle.steps.specs.Steps.{States, size, Outcome, settle}
 use Rattle.steps.specs.Promise.{opens, tooLong, SettleSays}
 use Rattle.steps.specs.Inner.Asked.{Ready, Aim}
 
@@ -47,57 +47,57 @@ stands-open n v d t o = rw (lt-ltb 0 n (o .some), le-leb n mostStates (o .few), 
 outcome-is : (o : Outcome) (k : ℕ) (es : List ℕ) → Done k ≡ Done (o .changes) → es ≡ o .durations → o ≡ record { durations = es; changes = k }
 outcome-is o k es e f = let n : k ≡ o .changes = cc in rw (n, f)
 
-module _ (rho : Float) (t : ℕ) (ms vs : List Float) (ds : List ℕ) where
+module _ (rho : Float) (t : ℕ) (ss : States) (ds : List ℕ) where
   abbrev Open : Type 0
-  Open = opens (length ms) (length vs) (length ds) t ≡ true
+  Open = opens (size ss) (length (ss .varis)) (length ds) t ≡ true
 
   -- ---- the ways through the call
 
-  pub settles-none : (b : Bool) → b ≡ opens (length ms) (length vs) (length ds) t → not b ≡ true → SettleSays rho t ms vs ds (Done 0) ds
-  settles-none b e h = let o : opens (length ms) (length vs) (length ds) t ≡ false = sym e ∙ not-true b h in record { answer = rw o; durations = rw o }
+  pub settles-none : (b : Bool) → b ≡ opens (size ss) (length (ss .varis)) (length ds) t → not b ≡ true → SettleSays rho t ss ds (Done 0) ds
+  settles-none b e h = let o : opens (size ss) (length (ss .varis)) (length ds) t ≡ false = sym e ∙ not-true b h in record { answer = rw o; durations = rw o }
 
   -- the door is open, and the total is taken
-  module _ (b : Bool) (e : b ≡ opens (length ms) (length vs) (length ds) t) (h : not b ≡ false) (sum : ℕ) (q : sum ≡ total (take (2 ^ 32) ds)) where
+  module _ (b : Bool) (e : b ≡ opens (size ss) (length (ss .varis)) (length ds) t) (h : not b ≡ false) (sum : ℕ) (q : sum ≡ total (take (2 ^ 32) ds)) where
     is-open : Open
     is-open = sym e ∙ not-false b h
 
-    behind : Opened (length ms) (length vs) (length ds) t
-    behind = opened (length ms) (length vs) (length ds) t is-open
+    behind : Opened (size ss) (length (ss .varis)) (length ds) t
+    behind = opened (size ss) (length (ss .varis)) (length ds) t is-open
 
     sum-is : sum ≡ total ds
     sum-is = q ∙ total-whole ds (omega (arith, behind .few, behind .work))
 
-    pub settles-over : mostFrames < sum → SettleSays rho t ms vs ds Over ds
+    pub settles-over : mostFrames < sum → SettleSays rho t ss ds Over ds
     settles-over l = let long : tooLong ds ≡ true = lt-ltb mostFrames (total ds) (omega (arith, sum-is)) in record { answer = rw (is-open, long); durations = rw (is-open, long) }
 
     module _ (l : sum ≤ mostFrames) where
       small : total ds ≤ mostFrames
       small = omega (arith, sum-is)
 
-      pub ready : Ready ms vs ds
+      pub ready : Ready ss ds
       ready = record { some = behind .some; few = behind .few; varis = behind .varis; work = behind .work; small = small }
 
-      pub aimed : Aim ms ds sum t
+      pub aimed : Aim ss ds sum t
       aimed = record { known = sum-is; above = behind .above; within = behind .within }
 
-      pub settles-all : (k : ℕ) (es : List ℕ) → settle mostFrames rho ms vs t ds ≡ record { durations = es; changes = k } → SettleSays rho t ms vs ds (Done k) es
+      pub settles-all : (k : ℕ) (es : List ℕ) → settle mostFrames rho ss t ds ≡ record { durations = es; changes = k } → SettleSays rho t ss ds (Done k) es
       settles-all k es f = let short : tooLong ds ≡ false = le-ltb mostFrames (total ds) small in record { answer = rw (is-open, short, f); durations = rw (is-open, short, f) }
 
   -- ---- what a caller learns, whose lists fit
 
-  module _ (o : Open) (r : Settled) (es : List ℕ) (s : SettleSays rho t ms vs ds r es) where
+  module _ (o : Open) (r : Settled) (es : List ℕ) (s : SettleSays rho t ss ds r es) where
     pub was-over : r ≡ Over → mostFrames < total ds
     was-over e =
         (elim (tooLong ds) as (λ b. tooLong ds ≡ b → mostFrames < total ds) [
           | true ↦ λ q. ltb-true mostFrames (total ds) q
-          | false ↦ λ q. absurd (let p : Over ≡ Done (settle mostFrames rho ms vs t ds .changes) = sym e ∙ s .answer ∙ rw (o, q) in let z : _≡_ {A = ℕ} 0 1 = cc in omega arith)
+          | false ↦ λ q. absurd (let p : Over ≡ Done (settle mostFrames rho ss t ds .changes) = sym e ∙ s .answer ∙ rw (o, q) in let z : _≡_ {A = ℕ} 0 1 = cc in omega arith)
         ])
         refl
 
-    pub was-settled : (k : ℕ) → r ≡ Done k → (total ds ≤ mostFrames) × (settle mostFrames rho ms vs t ds ≡ record { durations = es; changes = k })
+    pub was-settled : (k : ℕ) → r ≡ Done k → (total ds ≤ mostFrames) × (settle mostFrames rho ss t ds ≡ record { durations = es; changes = k })
     was-settled k e =
-        (elim (tooLong ds) as (λ b. tooLong ds ≡ b → (total ds ≤ mostFrames) × (settle mostFrames rho ms vs t ds ≡ record { durations = es; changes = k })) [
+        (elim (tooLong ds) as (λ b. tooLong ds ≡ b → (total ds ≤ mostFrames) × (settle mostFrames rho ss t ds ≡ record { durations = es; changes = k })) [
           | true ↦ λ q. absurd (let p : Done k ≡ Over = sym e ∙ s .answer ∙ rw (o, q) in let z : _≡_ {A = ℕ} 0 1 = cc in omega arith)
-          | false ↦ λ q. (ltb-false mostFrames (total ds) q, outcome-is (settle mostFrames rho ms vs t ds) k es (sym e ∙ s .answer ∙ rw (o, q)) (s .durations ∙ rw (o, q)))
+          | false ↦ λ q. (ltb-false mostFrames (total ds) q, outcome-is (settle mostFrames rho ss t ds) k es (sym e ∙ s .answer ∙ rw (o, q)) (s .durations ∙ rw (o, q)))
         ])
         refl

@@ -2,56 +2,51 @@
 use mathlib.Core.Path.{_≡_, refl, sym, ap, subst}
 use mathlib.Core.Bool.{Bool, true, false, cond}
 use mathlib.Core.List.{List, [], _∷_}
+use mathlib.Core.Logic.{⊎-elim}
 use Prim.Native.Nat.{ℕ, zero, suc, _-_, _≤_, _<_, suc-le-suc}
 use native.Mathlib.Nat.{not-suc-le-zero}
 use native.Mathlib.Omega.{arith}
 use lib.Dec.{T, ltb}
-use lib.ListN.{length, getD}
-use lib.Ieee.{Float, nan, binary64}
+use lib.ListN.{length, getD, List·getD-eq-default}
+use lib.Ieee.{Float, binary64}
 use lib.Ieee.Fits.{sub-fits}
 use borrow.Author.Tests.{ltb-true, ltb-false, lt-ltb}
 use Rattle.lists.specs.Sizes.{mostStates}
 use Rattle.lists.specs.Totals.{total}
+use Rattle.lists.proofs.Builds.{build-at}
+use Rattle.lists.proofs.Fills.{build-length}
+use Rattle.lists.proofs.Numbers.{le-or-lt}
 use Rattle.floats.proofs.Ordered.{abs-fits, abs-clear}
-use Rattle.steps.specs.Steps.{shortest, Key, costOf, keyOf, keys, sooner, leastOf}
+use Rattle.steps.specs.Steps.{shortest, State, States, size, stateAt, Key, costOf, keyOf, keys, sooner, leastOf}
 use Rattle.steps.specs.Steps.Key.{Fixed, Cost}
 use Rattle.steps.specs.Inner.Scores.{rank, keyAt, scores}
 use Rattle.steps.proofs.Order.{clash, Sound}
 use Rattle.steps.proofs.Order.Sound.{fixed, cost}
 use Rattle.steps.proofs.Least.{leastKey, least-first, least-later, least-in, least-score}
 
-key-sound : (up : Bool) (rho m v : Float) (d : ℕ) → Sound (keyOf up rho m v d)
+key-sound : (up : Bool) (rho : Float) (x : State) (d : ℕ) → Sound (keyOf up rho x d)
 unfolding keyOf
-key-sound true rho m v d = cost (abs-fits _ (sub-fits binary64 rho _)) (abs-clear _)
-key-sound false rho m v d =
-    elim (ltb shortest d) as (λ s. Sound (cond s (Cost (costOf rho m v (d - 1))) Fixed)) [
+key-sound true rho x d = cost (abs-fits _ (sub-fits binary64 rho _)) (abs-clear _)
+key-sound false rho x d =
+    elim (ltb shortest d) as (λ s. Sound (cond s (Cost (costOf rho x (d - 1))) Fixed)) [
       | true ↦ cost (abs-fits _ (sub-fits binary64 rho _)) (abs-clear _)
       | false ↦ fixed
     ]
 
-module _ (up : Bool) (rho : Float) where
-  pub length-keys : (ms vs : List Float) (ds : List ℕ) → length vs ≡ length ms → length ds ≡ length ms → length (keys up rho ms vs ds) ≡ length ms
+module _ (up : Bool) (rho : Float) (ss : States) (ds : List ℕ) where
+  pub length-keys : length (keys up rho ss ds) ≡ size ss
   unfolding keys
-  length-keys [] vs ds e q = refl
-  length-keys (m ∷ ms) [] ds e q = absurd (omega arith)
-  length-keys (m ∷ ms) (v ∷ vs) [] e q = absurd (omega arith)
-  length-keys (m ∷ ms) (v ∷ vs) (d ∷ ds) e q = ap suc (length-keys ms vs ds (omega arith) (omega arith))
+  length-keys = build-length _ (size ss)
 
-  pub getD-keys : (ms vs : List Float) (ds : List ℕ) (i : ℕ) → length vs ≡ length ms → length ds ≡ length ms → i < length ms → keyOf up rho (getD ms i nan) (getD vs i nan) (getD ds i 0) ≡ getD (keys up rho ms vs ds) i Fixed
+  pub getD-keys : (i : ℕ) → i < size ss → keyOf up rho (stateAt ss i) (getD ds i 0) ≡ getD (keys up rho ss ds) i Fixed
   unfolding keys
-  getD-keys [] vs ds i e q h = absurd (not-suc-le-zero h)
-  getD-keys (m ∷ ms) [] ds i e q h = absurd (omega arith)
-  getD-keys (m ∷ ms) (v ∷ vs) [] i e q h = absurd (omega arith)
-  getD-keys (m ∷ ms) (v ∷ vs) (d ∷ ds) zero e q h = refl
-  getD-keys (m ∷ ms) (v ∷ vs) (d ∷ ds) (suc i) e q h = getD-keys ms vs ds i (omega arith) (omega arith) (omega arith)
+  getD-keys i h = sym (build-at _ (size ss) i Fixed h)
 
-  pub keys-sound : (ms vs : List Float) (ds : List ℕ) (i : ℕ) → Sound (getD (keys up rho ms vs ds) i Fixed)
-  unfolding keys
-  keys-sound [] vs ds i = fixed
-  keys-sound (m ∷ ms) [] ds i = fixed
-  keys-sound (m ∷ ms) (v ∷ vs) [] i = fixed
-  keys-sound (m ∷ ms) (v ∷ vs) (d ∷ ds) zero = key-sound up rho m v d
-  keys-sound (m ∷ ms) (v ∷ vs) (d ∷ ds) (suc i) = keys-sound ms vs ds i
+  pub keys-sound : (i : ℕ) → Sound (getD (keys up rho ss ds) i Fixed)
+  keys-sound i = ⊎-elim
+      (λ (h : size ss ≤ i). subst Sound (sym (List·getD-eq-default (keys up rho ss ds) Fixed (rw length-keys h))) fixed)
+      (λ (h : i < size ss). subst Sound (getD-keys i h) (key-sound up rho (stateAt ss i) (getD ds i 0)))
+      (le-or-lt (size ss) i)
 
 -- ---- on the way down
 
@@ -101,42 +96,42 @@ some-long (d ∷ ds) h =
     ])
     refl
 
-key-moves : (rho m v : Float) (d : ℕ) → 1 < d → T (movable (keyOf false rho m v d))
+key-moves : (rho : Float) (x : State) (d : ℕ) → 1 < d → T (movable (keyOf false rho x d))
 unfolding keyOf movable
-key-moves rho m v d h = rw (lt-ltb 1 d h) tt
+key-moves rho x d h = rw (lt-ltb 1 d h) tt
 
-moves-long : (rho m v : Float) (d : ℕ) → T (movable (keyOf false rho m v d)) → 1 < d
+moves-long : (rho : Float) (x : State) (d : ℕ) → T (movable (keyOf false rho x d)) → 1 < d
 unfolding keyOf movable
-moves-long rho m v d =
-    (elim (ltb 1 d) as (λ s. ltb 1 d ≡ s → T (movable (cond s (Cost (costOf rho m v (d - 1))) Fixed)) → 1 < d) [
+moves-long rho x d =
+    (elim (ltb 1 d) as (λ s. ltb 1 d ≡ s → T (movable (cond s (Cost (costOf rho x (d - 1))) Fixed)) → 1 < d) [
       | true ↦ λ g t. ltb-true 1 d g
       | false ↦ λ g t. absurd t
     ])
     refl
 
-module _ (rho : Float) (ms vs : List Float) (ds : List ℕ) (e : length vs ≡ length ms) (q : length ds ≡ length ms) where
-  pub place-in : (up : Bool) → 0 < length ms → leastOf (keys up rho ms vs ds) < length ms
-  place-in up z = let n : length (keys up rho ms vs ds) ≡ length ms = length-keys up rho ms vs ds e q in subst (λ (n : ℕ). leastOf (keys up rho ms vs ds) < n) n (least-in (keys up rho ms vs ds) (omega arith))
+module _ (rho : Float) (ss : States) (ds : List ℕ) where
+  pub place-in : (up : Bool) → 0 < size ss → leastOf (keys up rho ss ds) < size ss
+  place-in up z = let n : length (keys up rho ss ds) ≡ size ss = length-keys up rho ss ds in subst (λ (n : ℕ). leastOf (keys up rho ss ds) < n) n (least-in (keys up rho ss ds) (omega arith))
 
   -- the state that gives a frame has one to give
-  pub place-long : length ms < total ds → 1 < getD ds (leastOf (keys false rho ms vs ds)) 0
+  pub place-long : length ds ≡ size ss → size ss < total ds → 1 < getD ds (leastOf (keys false rho ss ds)) 0
   unfolding movable
-  place-long h =
-      let ks : List Key = keys false rho ms vs ds in
+  place-long q h =
+      let ks : List Key = keys false rho ss ds in
       let i : ℕ = leastOf ks in
       let l = some-long ds (omega arith) in
-      let z : 0 < length ms = omega (arith, l .inside) in
-      let t : T (movable (leastKey ks)) = least-moves ks (l .place) (subst (λ (k : Key). T (movable k)) (getD-keys false rho ms vs ds (l .place) e q (omega (arith, l .inside))) (key-moves rho _ _ _ (l .long))) in
-      moves-long rho (getD ms i nan) (getD vs i nan) (getD ds i 0) (subst (λ (k : Key). T (movable k)) (sym (getD-keys false rho ms vs ds i e q (place-in false z))) t)
+      let z : 0 < size ss = omega (arith, l .inside) in
+      let t : T (movable (leastKey ks)) = least-moves ks (l .place) (subst (λ (k : Key). T (movable k)) (getD-keys false rho ss ds (l .place) (omega (arith, l .inside))) (key-moves rho _ _ (l .long))) in
+      moves-long rho (stateAt ss i) (getD ds i 0) (subst (λ (k : Key). T (movable k)) (sym (getD-keys false rho ss ds i (place-in false z))) t)
 
 -- the state of the least score is the one that a step changes
-module _ (up : Bool) (rho : Float) (ms vs : List Float) (ds : List ℕ) (e : length vs ≡ length ms) (q : length ds ≡ length ms) where
-  rank-is : (i : ℕ) → i < length ms → keyAt up rho ms vs ds i ≡ rank (getD (keys up rho ms vs ds) i Fixed)
+module _ (up : Bool) (rho : Float) (ss : States) (ds : List ℕ) where
+  rank-is : (i : ℕ) → i < size ss → keyAt up rho ss ds i ≡ rank (getD (keys up rho ss ds) i Fixed)
   unfolding keyAt
-  rank-is i h = ap rank (getD-keys up rho ms vs ds i e q h)
+  rank-is i h = ap rank (getD-keys up rho ss ds i h)
 
-  pub least-place : length ms ≤ mostStates → (p : ℕ) → p < length ms → ((j : ℕ) → j < length ms → scores (keyAt up rho ms vs ds) p ≤ scores (keyAt up rho ms vs ds) j) → p ≡ leastOf (keys up rho ms vs ds)
+  pub least-place : size ss ≤ mostStates → (p : ℕ) → p < size ss → ((j : ℕ) → j < size ss → scores (keyAt up rho ss ds) p ≤ scores (keyAt up rho ss ds) j) → p ≡ leastOf (keys up rho ss ds)
   least-place few p h least =
-      let n : length (keys up rho ms vs ds) ≡ length ms = length-keys up rho ms vs ds e q in
-      least-score (keys up rho ms vs ds) (keys-sound up rho ms vs ds) (omega arith) p (omega arith)
-      (λ j l. let m : j < length ms = omega arith in rw (rank-is p h, rank-is j m) at (least j m))
+      let n : length (keys up rho ss ds) ≡ size ss = length-keys up rho ss ds in
+      least-score (keys up rho ss ds) (keys-sound up rho ss ds) (omega arith) p (omega arith)
+      (λ j l. let m : j < size ss = omega arith in rw (rank-is p h, rank-is j m) at (least j m))

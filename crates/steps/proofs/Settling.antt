@@ -10,7 +10,7 @@ use lib.ListN.{length, getD, set}
 use lib.Ieee.{Float}
 use borrow.Author.Tests.{ltb-true, ltb-false, eqb-true, eqb-false}
 use Rattle.lists.specs.Totals.{total, gap}
-use Rattle.steps.specs.Steps.{keys, leastOf, step, Settles, Outcome, settle}
+use Rattle.steps.specs.Steps.{States, size, keys, leastOf, step, Settles, Outcome, settle}
 use Rattle.steps.specs.Steps.Settles.{there, below, above}
 use Rattle.steps.proofs.Keys.{place-long}
 use Rattle.steps.proofs.Stepping.{length-step, total-up, total-down, settle-there, settle-turn}
@@ -52,9 +52,9 @@ positive-set (more p ps) (suc i) y h = more p (positive-set ps i y h)
 
 -- ---- the rule
 
-module _ (rho : Float) (ms vs : List Float) (t : ℕ) where
+module _ (rho : Float) (ss : States) (t : ℕ) where
   -- it ends in one way
-  pub settles-one : {ds es fs : List ℕ} {j k : ℕ} → Settles rho ms vs t ds es j → Settles rho ms vs t ds fs k → (es ≡ fs) × (j ≡ k)
+  pub settles-one : {ds es fs : List ℕ} {j k : ℕ} → Settles rho ss t ds es j → Settles rho ss t ds fs k → (es ≡ fs) × (j ≡ k)
   settles-one (there p) (there q) = (refl, refl)
   settles-one (there p) (below h s) = absurd (omega arith)
   settles-one (there p) (above h s) = absurd (omega arith)
@@ -66,79 +66,79 @@ module _ (rho : Float) (ms vs : List Float) (t : ℕ) where
   settles-one (above h s) (above g u) = let r = settles-one s u in (r .0, ap suc (r .1))
 
   -- it ends at the target
-  pub settles-total : {ds es : List ℕ} {k : ℕ} → Settles rho ms vs t ds es k → total es ≡ t
+  pub settles-total : {ds es : List ℕ} {k : ℕ} → Settles rho ss t ds es k → total es ≡ t
   settles-total (there p) = p
   settles-total (below h s) = settles-total s
   settles-total (above h s) = settles-total s
 
-  pub settles-length : {ds es : List ℕ} {k : ℕ} → Settles rho ms vs t ds es k → length es ≡ length ds
+  pub settles-length : {ds es : List ℕ} {k : ℕ} → Settles rho ss t ds es k → length es ≡ length ds
   settles-length (there p) = refl
-  settles-length (below {ds = ds} h s) = settles-length s ∙ length-step rho ms vs true ds
-  settles-length (above {ds = ds} h s) = settles-length s ∙ length-step rho ms vs false ds
+  settles-length (below {ds = ds} h s) = settles-length s ∙ length-step rho ss true ds
+  settles-length (above {ds = ds} h s) = settles-length s ∙ length-step rho ss false ds
 
-  module _ (some : 0 < length ms) (agree : length vs ≡ length ms) (room : length ms ≤ t) where
+  module _ (some : 0 < size ss) (room : size ss ≤ t) where
     -- each step brings the total one nearer
-    risen : (ds : List ℕ) → length ds ≡ length ms → total (step true rho ms vs ds) ≡ total ds + 1
-    risen ds q = total-up rho ms vs some agree ds q
+    risen : (ds : List ℕ) → length ds ≡ size ss → total (step true rho ss ds) ≡ total ds + 1
+    risen ds q = total-up rho ss some ds q
 
-    fallen : (ds : List ℕ) → length ds ≡ length ms → t < total ds → total (step false rho ms vs ds) + 1 ≡ total ds
-    fallen ds q h = total-down rho ms vs some agree ds q (omega arith)
+    fallen : (ds : List ℕ) → length ds ≡ size ss → t < total ds → total (step false rho ss ds) + 1 ≡ total ds
+    fallen ds q h = total-down rho ss some ds q (omega arith)
 
-    stepped : (up : Bool) (ds : List ℕ) → length ds ≡ length ms → length (step up rho ms vs ds) ≡ length ms
-    stepped up ds q = length-step rho ms vs up ds ∙ q
+    stepped : (up : Bool) (ds : List ℕ) → length ds ≡ size ss → length (step up rho ss ds) ≡ size ss
+    stepped up ds q = length-step rho ss up ds ∙ q
 
     -- as many steps as the total is away from the target
-    pub settles-gap : {ds es : List ℕ} {k : ℕ} → length ds ≡ length ms → Settles rho ms vs t ds es k → k ≡ gap (total ds) t
+    pub settles-gap : {ds es : List ℕ} {k : ℕ} → length ds ≡ size ss → Settles rho ss t ds es k → k ≡ gap (total ds) t
     settles-gap q (there p) = omega arith
     settles-gap q (below {ds = ds} h s) = omega (arith, risen ds q, settles-gap (stepped true ds q) s)
     settles-gap q (above {ds = ds} h s) = omega (arith, fallen ds q h, settles-gap (stepped false ds q) s)
 
     -- none is shortened on the way up, and none lengthened on the way down
-    pub settles-up : {ds es : List ℕ} {k : ℕ} → length ds ≡ length ms → total ds ≤ t → Settles rho ms vs t ds es k → Pointwise ds es
+    pub settles-up : {ds es : List ℕ} {k : ℕ} → length ds ≡ size ss → total ds ≤ t → Settles rho ss t ds es k → Pointwise ds es
     unfolding step
     settles-up q l (there {ds = ds} p) = same ds
-    settles-up q l (below {ds = ds} h s) = through (set-longer ds (leastOf (keys true rho ms vs ds))) (settles-up (stepped true ds q) (omega (arith, risen ds q)) s)
+    settles-up q l (below {ds = ds} h s) = through (set-longer ds (leastOf (keys true rho ss ds))) (settles-up (stepped true ds q) (omega (arith, risen ds q)) s)
     settles-up q l (above h s) = absurd (omega arith)
 
-    pub settles-down : {ds es : List ℕ} {k : ℕ} → length ds ≡ length ms → t ≤ total ds → Settles rho ms vs t ds es k → Pointwise es ds
+    pub settles-down : {ds es : List ℕ} {k : ℕ} → length ds ≡ size ss → t ≤ total ds → Settles rho ss t ds es k → Pointwise es ds
     unfolding step
     settles-down q l (there {ds = ds} p) = same ds
     settles-down q l (below h s) = absurd (omega arith)
-    settles-down q l (above {ds = ds} h s) = through (settles-down (stepped false ds q) (omega (arith, fallen ds q h)) s) (set-shorter ds (leastOf (keys false rho ms vs ds)))
+    settles-down q l (above {ds = ds} h s) = through (settles-down (stepped false ds q) (omega (arith, fallen ds q h)) s) (set-shorter ds (leastOf (keys false rho ss ds)))
 
-    pub settles-positive : {ds es : List ℕ} {k : ℕ} → length ds ≡ length ms → Positive ds → Settles rho ms vs t ds es k → Positive es
+    pub settles-positive : {ds es : List ℕ} {k : ℕ} → length ds ≡ size ss → Positive ds → Settles rho ss t ds es k → Positive es
     unfolding step
     settles-positive q p (there e) = p
     settles-positive q p (below {ds = ds} h s) = settles-positive (stepped true ds q) (positive-set p _ _ (omega arith)) s
     settles-positive q p (above {ds = ds} h s) =
-        let i : ℕ = leastOf (keys false rho ms vs ds) in
-        let l : 1 < getD ds i 0 = place-long rho ms vs ds agree q (omega arith) in
+        let i : ℕ = leastOf (keys false rho ss ds) in
+        let l : 1 < getD ds i 0 = place-long rho ss ds q (omega arith) in
         settles-positive (stepped false ds q) (positive-set p i _ (omega arith)) s
 
     -- the computation ends there, however many steps more it is given
-    pub settle-settles : (most : ℕ) (ds : List ℕ) → length ds ≡ length ms → gap (total ds) t ≤ most → Settles rho ms vs t ds (settle most rho ms vs t ds .durations) (settle most rho ms vs t ds .changes)
-    settle-settles zero ds q h = let e : total ds ≡ t = omega arith in rw (settle-there rho ms vs t 0 ds e) (there e)
+    pub settle-settles : (most : ℕ) (ds : List ℕ) → length ds ≡ size ss → gap (total ds) t ≤ most → Settles rho ss t ds (settle most rho ss t ds .durations) (settle most rho ss t ds .changes)
+    settle-settles zero ds q h = let e : total ds ≡ t = omega arith in rw (settle-there rho ss t 0 ds e) (there e)
     settle-settles (suc most) ds q h =
-        (elim (eqb (total ds) t) as (λ s. eqb (total ds) t ≡ s → Settles rho ms vs t ds (settle (suc most) rho ms vs t ds .durations) (settle (suc most) rho ms vs t ds .changes)) [
-          | true ↦ λ e. rw (settle-there rho ms vs t (suc most) ds (eqb-true (total ds) t e)) (there (eqb-true (total ds) t e))
+        (elim (eqb (total ds) t) as (λ s. eqb (total ds) t ≡ s → Settles rho ss t ds (settle (suc most) rho ss t ds .durations) (settle (suc most) rho ss t ds .changes)) [
+          | true ↦ λ e. rw (settle-there rho ss t (suc most) ds (eqb-true (total ds) t e)) (there (eqb-true (total ds) t e))
           | false ↦ λ e.
-              (elim (ltb (total ds) t) as (λ s. ltb (total ds) t ≡ s → Settles rho ms vs t ds (settle (suc most) rho ms vs t ds .durations) (settle (suc most) rho ms vs t ds .changes)) [
+              (elim (ltb (total ds) t) as (λ s. ltb (total ds) t ≡ s → Settles rho ss t ds (settle (suc most) rho ss t ds .durations) (settle (suc most) rho ss t ds .changes)) [
                 | true ↦ λ w.
                     let l : total ds < t = ltb-true (total ds) t w in
-                    rw (settle-turn rho ms vs t most ds true (eqb-false (total ds) t e) w) (below l (settle-settles most (step true rho ms vs ds) (stepped true ds q) (omega (arith, risen ds q))))
+                    rw (settle-turn rho ss t most ds true (eqb-false (total ds) t e) w) (below l (settle-settles most (step true rho ss ds) (stepped true ds q) (omega (arith, risen ds q))))
                 | false ↦ λ w.
                     let k : t ≤ total ds = ltb-false (total ds) t w in
                     let d : total ds ≡ t → ⊥ = eqb-false (total ds) t e in
                     let l : t < total ds = omega arith in
-                    rw (settle-turn rho ms vs t most ds false d w) (above l (settle-settles most (step false rho ms vs ds) (stepped false ds q) (omega (arith, fallen ds q l))))
+                    rw (settle-turn rho ss t most ds false d w) (above l (settle-settles most (step false rho ss ds) (stepped false ds q) (omega (arith, fallen ds q l))))
               ])
               refl
         ])
         refl
 
-    pub settle-enough : (j k : ℕ) (ds : List ℕ) → length ds ≡ length ms → gap (total ds) t ≤ j → gap (total ds) t ≤ k → settle j rho ms vs t ds ≡ settle k rho ms vs t ds
+    pub settle-enough : (j k : ℕ) (ds : List ℕ) → length ds ≡ size ss → gap (total ds) t ≤ j → gap (total ds) t ≤ k → settle j rho ss t ds ≡ settle k rho ss t ds
     settle-enough j k ds q h l =
-        let o : Outcome = settle j rho ms vs t ds in
-        let p : Outcome = settle k rho ms vs t ds in
+        let o : Outcome = settle j rho ss t ds in
+        let p : Outcome = settle k rho ss t ds in
         let r = settles-one (settle-settles j ds q h) (settle-settles k ds q l) in
         ap (λ (es : List ℕ). record { durations = es; changes = o .changes }) (r .0) ∙ ap (λ (n : ℕ). record { durations = p .durations; changes = n }) (r .1)

@@ -4,11 +4,12 @@ use mathlib.Core.Bool.{false}
 use mathlib.Core.List.{List, [], _∷_}
 use lib.IntN.{negsuc}
 use lib.Ieee.{Float, inf, fin, ofBits, ofInt, sub, div, lt, isNan}
+use Rattle.lists.specs.Build.{build}
 use Rattle.lists.specs.Totals.{total}
 use Rattle.floats.specs.Order.{absOf, costBelow}
 use Rattle.floats.specs.Numbers.{number}
 use Rattle.steps.specs.declared.Settled.the-variants.{Done, Over}
-use Rattle.steps.specs.Steps.{keyOf, keys, leastOf, step, settle}
+use Rattle.steps.specs.Steps.{states, keyOf, keys, leastOf, step, settle}
 use Rattle.steps.specs.Promise.{SettleSays}
 
 abbrev means : List Float
@@ -22,30 +23,30 @@ abbrev rho : Float
 rho = fin false 3 (negsuc 0)
 
 -- RULES, Cases, 1: both states' costs are the same, and the first gives a frame
-pub gives-one : SettleSays rho 8 means varis (4 ∷ 5 ∷ []) (Done 1) (3 ∷ 5 ∷ [])
-unfolding settle step keys keyOf leastOf costBelow absOf total ofBits ofInt sub div lt isNan
+pub gives-one : SettleSays rho 8 (states means varis) (4 ∷ 5 ∷ []) (Done 1) (3 ∷ 5 ∷ [])
+unfolding settle step keys build keyOf leastOf costBelow absOf total ofBits ofInt sub div lt isNan
 gives-one = record { answer = refl; durations = refl }
 
 -- RULES, Cases, 5: without variance the costs are NaN or infinite, and the first state gets all frames
-pub gets-four : SettleSays (inf false) 6 (number 2 ∷ number 2 ∷ []) (number 0 ∷ number 0 ∷ []) (1 ∷ 1 ∷ []) (Done 4) (5 ∷ 1 ∷ [])
-unfolding settle step keys keyOf leastOf costBelow absOf total ofBits ofInt sub div lt isNan
+pub gets-four : SettleSays (inf false) 6 (states (number 2 ∷ number 2 ∷ []) (number 0 ∷ number 0 ∷ [])) (1 ∷ 1 ∷ []) (Done 4) (5 ∷ 1 ∷ [])
+unfolding settle step keys build keyOf leastOf costBelow absOf total ofBits ofInt sub div lt isNan
 gets-four = record { answer = refl; durations = refl }
 
 -- a start of 65,536 frames at its target, and one of a frame more
-pub longest : SettleSays rho 65536 means varis (65535 ∷ 1 ∷ []) (Done 0) (65535 ∷ 1 ∷ [])
-unfolding settle step keys keyOf leastOf costBelow absOf total ofBits ofInt sub div lt isNan
+pub longest : SettleSays rho 65536 (states means varis) (65535 ∷ 1 ∷ []) (Done 0) (65535 ∷ 1 ∷ [])
+unfolding settle step keys build keyOf leastOf costBelow absOf total ofBits ofInt sub div lt isNan
 longest = record { answer = refl; durations = refl }
 
-pub too-long : SettleSays rho 65536 means varis (65535 ∷ 2 ∷ []) Over (65535 ∷ 2 ∷ [])
+pub too-long : SettleSays rho 65536 (states means varis) (65535 ∷ 2 ∷ []) Over (65535 ∷ 2 ∷ [])
 unfolding total
 too-long = record { answer = refl; durations = refl }
 
 -- a target not above the number of states, one above 65,536 frames, and a variance too few
-pub target-low : SettleSays rho 2 means varis (4 ∷ 5 ∷ []) (Done 0) (4 ∷ 5 ∷ [])
+pub target-low : SettleSays rho 2 (states means varis) (4 ∷ 5 ∷ []) (Done 0) (4 ∷ 5 ∷ [])
 target-low = record { answer = refl; durations = refl }
 
-pub target-high : SettleSays rho 65537 means varis (4 ∷ 5 ∷ []) (Done 0) (4 ∷ 5 ∷ [])
+pub target-high : SettleSays rho 65537 (states means varis) (4 ∷ 5 ∷ []) (Done 0) (4 ∷ 5 ∷ [])
 target-high = record { answer = refl; durations = refl }
 
-pub uneven : SettleSays rho 8 means (number 1 ∷ []) (4 ∷ 5 ∷ []) (Done 0) (4 ∷ 5 ∷ [])
+pub uneven : SettleSays rho 8 (states means (number 1 ∷ [])) (4 ∷ 5 ∷ []) (Done 0) (4 ∷ 5 ∷ [])
 uneven = record { answer = refl; durations = refl }

@@ -10,7 +10,7 @@ use Rattle.lists.specs.Sizes.{mostStates, mostFrames}
 use Rattle.lists.specs.Totals.{total}
 use Rattle.steps.specs.declared.Settled.{Settled}
 use Rattle.steps.specs.declared.Settled.the-variants.{Done, Over}
-use Rattle.steps.specs.Steps.{settle}
+use Rattle.steps.specs.Steps.{States, size, settle}
 
 -- whether there is anything to settle: 1 to 4,096 states, of which v have a variance and d a duration, and a target above their number and within 65,536 frames
 abbrev pub opens : ℕ → ℕ → ℕ → ℕ → Bool
@@ -22,6 +22,6 @@ tooLong ds = ltb mostFrames (total ds)
 
 -- `settle`: the steps that the rule takes, and where it ends; with a start that is too long, or where the lists don't fit, no step is taken. The rule starts
 -- and ends within 65,536 frames, so it takes no more steps.
-pub record SettleSays (rho : Float) (t : ℕ) (ms vs : List Float) (ds : List ℕ) (r : Settled) (ds′ : List ℕ) : Type 0 where
-  pub answer : r ≡ cond (opens (length ms) (length vs) (length ds) t) (cond (tooLong ds) Over (Done (settle mostFrames rho ms vs t ds .changes))) (Done 0)
-  pub durations : ds′ ≡ cond (opens (length ms) (length vs) (length ds) t) (cond (tooLong ds) ds (settle mostFrames rho ms vs t ds .durations)) ds
+pub record SettleSays (rho : Float) (t : ℕ) (ss : States) (ds : List ℕ) (r : Settled) (ds′ : List ℕ) : Type 0 where
+  pub answer : r ≡ cond (opens (size ss) (length (ss .varis)) (length ds) t) (cond (tooLong ds) Over (Done (settle mostFrames rho ss t ds .changes))) (Done 0)
+  pub durations : ds′ ≡ cond (opens (size ss) (length (ss .varis)) (length ds) t) (cond (tooLong ds) ds (settle mostFrames rho ss t ds .durations)) ds

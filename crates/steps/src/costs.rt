@@ -4,7 +4,7 @@ ghost use Prim.Native.Nat.{_≤_, _<_};
 ghost use lib.Dec.{ltb};
 ghost use lib.Ieee.{binary64, toBits};
 ghost use Rattle.lists.specs.Sizes.{mostFrames, mostStates};
-ghost use Rattle.steps.specs.Steps.{costOf, keyOf};
+ghost use Rattle.steps.specs.Steps.{state, costOf, keyOf};
 ghost use Rattle.steps.specs.Inner.Scores.{rank, score, soonerOf};
 
 // A state's place, and its key.
@@ -14,7 +14,7 @@ pub(crate) struct Entry {
 }
 
 fn cost(rho: f64, mean: f64, vari: f64, d: u32) -> u64
-    ensures { λ r. ⌜ r ≡ toBits binary64 (costOf rho mean vari d) ⌝ }
+    ensures { λ r. ⌜ r ≡ toBits binary64 (costOf rho (state mean vari) d) ⌝ }
 {
     floats::magnitude_bits(rho - ((d as f64) - mean) / vari)
 }
@@ -22,7 +22,7 @@ fn cost(rho: f64, mean: f64, vari: f64, d: u32) -> u64
 // The bits of the cost of a state's step, and all ones where it may take none.
 pub(crate) fn key_of(up: bool, rho: f64, mean: f64, vari: f64, d: u32) -> u64
     requires { ⌜ d ≤ mostFrames ⌝ }
-    ensures { λ r. ⌜ r ≡ rank (keyOf up rho mean vari d) ⌝ }
+    ensures { λ r. ⌜ r ≡ rank (keyOf up rho (state mean vari) d) ⌝ }
 {
     if up {
         return cost(rho, mean, vari, d + 1);

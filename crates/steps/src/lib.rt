@@ -4,7 +4,7 @@ ghost use Prim.Native.Nat.{_<_};
 ghost use lib.ListN.{length};
 ghost use Rattle.lists.specs.Sizes.{mostFrames};
 ghost use Rattle.lists.specs.Totals.{gap};
-ghost use Rattle.steps.specs.Steps.{moved, settle};
+ghost use Rattle.steps.specs.Steps.{states, moved, settle};
 ghost use Rattle.steps.specs.Promise.{opens, SettleSays};
 ghost use Rattle.steps.specs.Inner.Asked.{Ready, MayMove, Aim, Lone};
 
@@ -77,9 +77,9 @@ fn settle_from(
     varis: &[f64],
     work: &mut [u32],
 ) -> u32
-    requires { ⌜ Ready (now means) (now varis) (now work) ⌝ }
-    requires { ⌜ Aim (now means) (now work) sum target ⌝ }
-    ensures { λ r. ⌜ settle mostFrames rho (now (means .entry)) (now (varis .entry)) target (now (work .entry)) ≡ record { durations = now (work .exit); changes = r } ⌝ }
+    requires { ⌜ Ready (states (now means) (now varis)) (now work) ⌝ }
+    requires { ⌜ Aim (states (now means) (now varis)) (now work) sum target ⌝ }
+    ensures { λ r. ⌜ settle mostFrames rho (states (now (means .entry)) (now (varis .entry))) target (now (work .entry)) ≡ record { durations = now (work .exit); changes = r } ⌝ }
 {
     let steps = distance(sum, target);
     if sum > target {
@@ -109,7 +109,7 @@ fn opens(states: usize, varis: usize, work: usize, target: usize) -> bool
 
 // Steps until the states' total is the target, and how many; none from more than 65,536 frames, and none where the lists and the target don't fit.
 pub fn settle(rho: f64, target: u32, means: &[f64], varis: &[f64], work: &mut [u32]) -> Settled
-    ensures { λ r. ⌜ SettleSays rho target (now (means .entry)) (now (varis .entry)) (now (work .entry)) r (now (work .exit)) ⌝ }
+    ensures { λ r. ⌜ SettleSays rho target (states (now (means .entry)) (now (varis .entry))) (now (work .entry)) r (now (work .exit)) ⌝ }
 {
     if !opens(means.len(), varis.len(), work.len(), target as usize) {
         return Settled::Done(0);

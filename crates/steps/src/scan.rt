@@ -4,16 +4,16 @@ ghost use Prim.Native.Nat.{_<_};
 ghost use lib.ListN.{length};
 ghost use Rattle.lists.specs.Sizes.{mostFrames};
 ghost use Rattle.lists.specs.Totals.{total};
-ghost use Rattle.steps.specs.Steps.{keys, leastOf, step, settle};
+ghost use Rattle.steps.specs.Steps.{states, keys, leastOf, step, settle};
 ghost use Rattle.steps.specs.Inner.Scores.{keyAt, keyed};
 ghost use Rattle.steps.specs.Inner.Asked.{Ready, RoomFor, Aim};
 use crate::costs::Entry;
 
 // The state at a place, with its key.
 fn entry_of(up: bool, rho: f64, means: &[f64], varis: &[f64], work: &[u32], p: usize) -> Entry
-    requires { ⌜ Ready (now means) (now varis) (now work) ⌝ }
+    requires { ⌜ Ready (states (now means) (now varis)) (now work) ⌝ }
     requires { ⌜ p < length (now means) ⌝ }
-    ensures { λ r. ⌜ r ≡ keyed (keyAt up rho (now (means .entry)) (now (varis .entry)) (now (work .entry))) p ⌝ }
+    ensures { λ r. ⌜ r ≡ keyed (keyAt up rho (states (now (means .entry)) (now (varis .entry))) (now (work .entry))) p ⌝ }
 {
     Entry {
         place: p,
@@ -23,8 +23,8 @@ fn entry_of(up: bool, rho: f64, means: &[f64], varis: &[f64], work: &[u32], p: u
 
 // The place of the state that a step changes.
 fn least_of(up: bool, rho: f64, means: &[f64], varis: &[f64], work: &[u32]) -> usize
-    requires { ⌜ Ready (now means) (now varis) (now work) ⌝ }
-    ensures { λ r. ⌜ r ≡ leastOf (keys up rho (now (means .entry)) (now (varis .entry)) (now (work .entry))) ⌝ }
+    requires { ⌜ Ready (states (now means) (now varis)) (now work) ⌝ }
+    ensures { λ r. ⌜ r ≡ leastOf (keys up rho (states (now (means .entry)) (now (varis .entry))) (now (work .entry))) ⌝ }
 {
     let mut best = entry_of(up, rho, means, varis, work, 0);
     let mut i = 1;
@@ -37,9 +37,9 @@ fn least_of(up: bool, rho: f64, means: &[f64], varis: &[f64], work: &[u32]) -> u
 }
 
 fn step_once(up: bool, rho: f64, means: &[f64], varis: &[f64], work: &mut [u32])
-    requires { ⌜ Ready (now means) (now varis) (now work) ⌝ }
+    requires { ⌜ Ready (states (now means) (now varis)) (now work) ⌝ }
     requires { ⌜ RoomFor up (length (now means)) (total (now work)) ⌝ }
-    ensures { λ _. ⌜ now (work .exit) ≡ step up rho (now (means .entry)) (now (varis .entry)) (now (work .entry)) ⌝ }
+    ensures { λ _. ⌜ now (work .exit) ≡ step up rho (states (now (means .entry)) (now (varis .entry))) (now (work .entry)) ⌝ }
 {
     let i = least_of(up, rho, means, varis, work);
     work[i] = crate::moved_one(up, work[i]);
@@ -54,9 +54,9 @@ pub(crate) fn settle(
     varis: &[f64],
     work: &mut [u32],
 ) -> u32
-    requires { ⌜ Ready (now means) (now varis) (now work) ⌝ }
-    requires { ⌜ Aim (now means) (now work) sum target ⌝ }
-    ensures { λ r. ⌜ settle mostFrames rho (now (means .entry)) (now (varis .entry)) target (now (work .entry)) ≡ record { durations = now (work .exit); changes = r } ⌝ }
+    requires { ⌜ Ready (states (now means) (now varis)) (now work) ⌝ }
+    requires { ⌜ Aim (states (now means) (now varis)) (now work) sum target ⌝ }
+    ensures { λ r. ⌜ settle mostFrames rho (states (now (means .entry)) (now (varis .entry))) target (now (work .entry)) ≡ record { durations = now (work .exit); changes = r } ⌝ }
 {
     let up = sum < target;
     let mut now_at = sum;

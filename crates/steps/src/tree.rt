@@ -4,7 +4,7 @@ ghost use Prim.Native.Nat.{_+_, _*_, _/_, _<_};
 ghost use lib.ListN.{length};
 ghost use Rattle.lists.specs.Sizes.{mostFrames};
 ghost use Rattle.lists.specs.Totals.{total};
-ghost use Rattle.steps.specs.Steps.{settle};
+ghost use Rattle.steps.specs.Steps.{states, settle};
 ghost use Rattle.steps.specs.Inner.Scores.{keyAt, scores, keyed};
 ghost use Rattle.steps.specs.Inner.Tree.{node, Path};
 ghost use Rattle.steps.specs.Inner.Pack.{lows, highs};
@@ -13,9 +13,9 @@ use crate::costs::Entry;
 
 // The state at a node, with its key.
 fn entry_at(up: bool, rho: f64, means: &[f64], varis: &[f64], work: &[u32], i: usize) -> Entry
-    requires { ⌜ Ready (now means) (now varis) (lows (now work)) ⌝ }
+    requires { ⌜ Ready (states (now means) (now varis)) (lows (now work)) ⌝ }
     requires { ⌜ node (highs (now work)) i < length (now means) ⌝ }
-    ensures { λ r. ⌜ r ≡ keyed (keyAt up rho (now (means .entry)) (now (varis .entry)) (lows (now (work .entry)))) (node (highs (now (work .entry))) i) ⌝ }
+    ensures { λ r. ⌜ r ≡ keyed (keyAt up rho (states (now (means .entry)) (now (varis .entry))) (lows (now (work .entry)))) (node (highs (now (work .entry))) i) ⌝ }
 {
     let place = crate::pack::place_at(work, i);
     let d = crate::pack::duration_at(work, place);
@@ -27,8 +27,8 @@ fn entry_at(up: bool, rho: f64, means: &[f64], varis: &[f64], work: &[u32], i: u
 
 // Plays all nodes, from the last to the root.
 fn play_all(up: bool, rho: f64, means: &[f64], varis: &[f64], work: &mut [u32])
-    requires { ⌜ Ready (now means) (now varis) (lows (now work)) ⌝ }
-    ensures { λ _. ⌜ Plays up rho (now (means .entry)) (now (varis .entry)) (now (work .entry)) (now (work .exit)) ⌝ }
+    requires { ⌜ Ready (states (now means) (now varis)) (lows (now work)) ⌝ }
+    ensures { λ _. ⌜ Plays up rho (states (now (means .entry)) (now (varis .entry))) (now (work .entry)) (now (work .exit)) ⌝ }
 {
     let mut i = work.len();
     while i > 1 {
@@ -42,10 +42,10 @@ fn play_all(up: bool, rho: f64, means: &[f64], varis: &[f64], work: &mut [u32])
 
 // Plays the nodes above the place p again, up to the root. The winner's key is carried up, so that a node works out one.
 fn play_above(up: bool, rho: f64, means: &[f64], varis: &[f64], work: &mut [u32], p: usize)
-    requires { ⌜ Ready (now means) (now varis) (lows (now work)) ⌝ }
+    requires { ⌜ Ready (states (now means) (now varis)) (lows (now work)) ⌝ }
     requires { ⌜ p < length (now means) ⌝ }
-    requires { ⌜ Path (scores (keyAt up rho (now means) (now varis) (lows (now work)))) (highs (now work)) ((length (now means) + p) / 2) ⌝ }
-    ensures { λ _. ⌜ Plays up rho (now (means .entry)) (now (varis .entry)) (now (work .entry)) (now (work .exit)) ⌝ }
+    requires { ⌜ Path (scores (keyAt up rho (states (now means) (now varis)) (lows (now work)))) (highs (now work)) ((length (now means) + p) / 2) ⌝ }
+    ensures { λ _. ⌜ Plays up rho (states (now (means .entry)) (now (varis .entry))) (now (work .entry)) (now (work .exit)) ⌝ }
 {
     let mut i = work.len() + p;
     let mut winner = entry_at(up, rho, means, varis, work, i);
@@ -59,10 +59,10 @@ fn play_above(up: bool, rho: f64, means: &[f64], varis: &[f64], work: &mut [u32]
 
 // One step, of the state at the root.
 fn step_once(up: bool, rho: f64, means: &[f64], varis: &[f64], work: &mut [u32])
-    requires { ⌜ Ready (now means) (now varis) (lows (now work)) ⌝ }
+    requires { ⌜ Ready (states (now means) (now varis)) (lows (now work)) ⌝ }
     requires { ⌜ RoomFor up (length (now means)) (total (lows (now work))) ⌝ }
-    requires { ⌜ Standing up rho (now means) (now varis) (now work) ⌝ }
-    ensures { λ _. ⌜ Stepped up rho (now (means .entry)) (now (varis .entry)) (now (work .entry)) (now (work .exit)) ⌝ }
+    requires { ⌜ Standing up rho (states (now means) (now varis)) (now work) ⌝ }
+    ensures { λ _. ⌜ Stepped up rho (states (now (means .entry)) (now (varis .entry))) (now (work .entry)) (now (work .exit)) ⌝ }
 {
     let p = crate::pack::place_at(work, 1);
     let d = crate::moved_one(up, crate::pack::duration_at(work, p));
@@ -79,9 +79,9 @@ pub(crate) fn settle(
     varis: &[f64],
     work: &mut [u32],
 ) -> u32
-    requires { ⌜ Ready (now means) (now varis) (now work) ⌝ }
-    requires { ⌜ Aim (now means) (now work) sum target ⌝ }
-    ensures { λ r. ⌜ settle mostFrames rho (now (means .entry)) (now (varis .entry)) target (now (work .entry)) ≡ record { durations = now (work .exit); changes = r } ⌝ }
+    requires { ⌜ Ready (states (now means) (now varis)) (now work) ⌝ }
+    requires { ⌜ Aim (states (now means) (now varis)) (now work) sum target ⌝ }
+    ensures { λ r. ⌜ settle mostFrames rho (states (now (means .entry)) (now (varis .entry))) target (now (work .entry)) ≡ record { durations = now (work .exit); changes = r } ⌝ }
 {
     let up = sum < target;
     let mut now_at = sum;

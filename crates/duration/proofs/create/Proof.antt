@@ -49,7 +49,7 @@ returns-2 : tie.Need-returns-2
 returns-2 c =
     let f = c .before .before .before .before .before .before .before .before .before in
     rw (none (f .before .before))
-    (says-handed _ _ _ _ _ (W f) (W-length f) (speed-clears _ _ _) _ _ _ _ _ (f .fit-at .ensures .answer) (f .fit-at .ensures .output) (lists (f .before .before) .output) (c .before .before .before .before .hand-out .ensures))
+    (says-handed _ _ _ _ _ (W f) (W-length f) (speed-clears _ _) _ _ _ _ _ (f .fit-at .ensures .answer) (f .fit-at .ensures .output) (lists (f .before .before) .output) (c .before .before .before .before .hand-out .ensures))
 
 pub create-spec : {M : Type 1} → statement M
 create-spec =

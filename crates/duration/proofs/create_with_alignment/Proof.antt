@@ -7,6 +7,7 @@ use borrow.Author.Needs.{needs}
 use lib.ListN.{length}
 use lib.Seq.{length-take-le}
 use Rattle.floats.specs.Numbers.{Held}
+use Rattle.steps.specs.Steps.{states}
 use Rattle.duration.specs.Promise.{fitted, refusalOfLabels, Says}
 use Rattle.duration.specs.Align.{groups, fitAlong, refusalAlong}
 use Rattle.duration.proofs.Refusals.{Labels, Fitting, labelled, labels-early}
@@ -42,7 +43,7 @@ module _ (c : tie.After-fit-along) where
 returns : tie.Need-returns
 returns c =
     let e = c .before .refusal-of-labels .ensures in
-    on-time-kept _ _ _ _ _ _ _ _ _ (held (c .before .before .before .before)) (rw (← e) (says-early _ _ _ _ _ _ _ (c .if1 .taken) (subst (λ (k : ℕ). k ≤ 6) (sym e) (labels-early _ _ _ _ _ _))))
+    on-time-kept _ _ _ _ _ _ _ _ (held (c .before .before .before .before)) (rw (← e) (says-early _ _ _ _ _ _ _ (c .if1 .taken) (subst (λ (k : ℕ). k ≤ 6) (sym e) (labels-early _ _ _ _ _ _))))
 
 slice-relend-prefix-fit-along : tie.Need-slice-relend-prefix-fit-along
 slice-relend-prefix-fit-along c = lists c .1 .workspace
@@ -60,8 +61,8 @@ module _ (c : tie.After-hand-out) where
   abbrev run : tie.After-fit-along
   run = c .before .before .before .before .before
 
-  says : let a = entry (run .before .before) .args in let gs = groups (a .nstate) 0 0 (a .ends .now) in let o = fitAlong (a .means .now) (a .varis .now) gs 0 in Says (refusalAlong (a .means .now) (a .varis .now) gs 0) (o .changes ∷ []) (o .durations) (length (a .means .now)) (a .out .now) (a .work .now) (fitted (c .hand-out .result)) (c .hand-out .last .1 .1 .0) (c .hand-out .last .1 .1 .1 .0)
-  says = says-handed _ _ _ _ _ (W run) (W-length run) (along-clears _ _ _ _) _ _ _ _ _ (run .fit-along .ensures .answer) (run .fit-along .ensures .output) (lists (run .before .before) .1 .output) (c .hand-out .ensures)
+  says : let a = entry (run .before .before) .args in let gs = groups (a .nstate) 0 0 (a .ends .now) in let o = fitAlong (states (a .means .now) (a .varis .now)) gs 0 in Says (refusalAlong (states (a .means .now) (a .varis .now)) gs 0) (o .changes ∷ []) (o .durations) (length (a .means .now)) (a .out .now) (a .work .now) (fitted (c .hand-out .result)) (c .hand-out .last .1 .1 .0) (c .hand-out .last .1 .1 .1 .0)
+  says = says-handed _ _ _ _ _ (W run) (W-length run) (along-clears _ _ _) _ _ _ _ _ (run .fit-along .ensures .answer) (run .fit-along .ensures .output) (lists (run .before .before) .1 .output) (c .hand-out .ensures)
 
   ends-held : Held (entry (run .before .before) .args .ends .now)
   ends-held = held (run .before .before .before .before .before .before)
@@ -72,12 +73,12 @@ cast-t25 c = omega (arith, lists (run (c .before .before .before .before .before
 returns-2 : tie.Need-returns-2
 returns-2 c =
     let h = c .before .before .before .before .before .before .before in
-    on-time-kept _ _ _ _ _ _ _ _ _ (ends-held h) (rw (none (run h .before .before)) (aligned-refused _ _ _ _ _ _ _ _ _ (says h) _ _ (c .before .enum-told .given .1) (c .number .ensures)))
+    on-time-kept _ _ _ _ _ _ _ _ (ends-held h) (rw (none (run h .before .before)) (aligned-refused _ _ _ _ _ _ _ _ _ (says h) _ _ (c .before .enum-told .given .1) (c .number .ensures)))
 
 returns-3 : tie.Need-returns-3
 returns-3 c =
     let h = c .before .before .before .before .before .before .before in
-    on-time-kept _ _ _ _ _ _ _ _ _ (ends-held h) (rw (none (run h .before .before)) (aligned-done _ _ _ _ _ _ _ _ _ (says h) _ (c .before .answer .given .1)))
+    on-time-kept _ _ _ _ _ _ _ _ (ends-held h) (rw (none (run h .before .before)) (aligned-done _ _ _ _ _ _ _ _ _ (says h) _ (c .before .answer .given .1)))
 
 pub create-with-alignment-spec : {M : Type 1} → statement M
 create-with-alignment-spec =

@@ -49,7 +49,7 @@ returns-2 : tie.Need-returns-2
 returns-2 c =
     let f = c .before .before .before .before .before .before .before .before .before in
     rw (none (f .before .before .before), ← f .before .before .rounded .ensures)
-    (says-handed _ _ _ _ _ (W f) (W-length f) (fit-clears _ _ _) _ _ _ _ _ (f .fit .ensures .answer) (f .fit .ensures .output) (lists (f .before .before .before) .output) (c .before .before .before .before .hand-out .ensures))
+    (says-handed _ _ _ _ _ (W f) (W-length f) (fit-clears _ _) _ _ _ _ _ (f .fit .ensures .answer) (f .fit .ensures .output) (lists (f .before .before .before) .output) (c .before .before .before .before .hand-out .ensures))
 
 pub estimate-duration-with-frame-length-spec : {M : Type 1} → statement M
 estimate-duration-with-frame-length-spec =

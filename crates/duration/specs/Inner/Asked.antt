@@ -11,16 +11,16 @@ use Rattle.duration.specs.declared.Fitted.{Fitted}
 use Rattle.duration.specs.declared.Fitted.the-variants as fit
 use Rattle.duration.specs.declared.align.Closed.{Closed}
 use Rattle.duration.specs.declared.align.Closed.the-variants as close
-use Rattle.steps.specs.Steps.{Outcome}
+use Rattle.steps.specs.Steps.{States, size, Outcome}
 use Rattle.duration.specs.Align.{Group, fitOf, refusalOf}
 use Rattle.lists.specs.Answers.{Answer, accepting, refusing, answerOf}
 use Rattle.duration.specs.Promise.{fitted}
 
 -- lists that agree, with one number of the work space a state
-pub record Agree (ms vs : List Float) (work : List ℕ) : Type 0 where
-  pub few : length ms ≤ mostStates
-  pub varis : length vs ≡ length ms
-  pub workspace : length work ≡ length ms
+pub record Agree (ss : States) (work : List ℕ) : Type 0 where
+  pub few : size ss ≤ mostStates
+  pub varis : length (ss .varis) ≡ size ss
+  pub workspace : length work ≡ size ss
 
 -- an outcome in place, or its refusal
 pub record InPlace (k : ℕ) (o : Outcome) (r : Fitted) (work′ : List ℕ) : Type 0 where
@@ -38,10 +38,10 @@ pub record HandsOut (answer : Fitted) (n : ℕ) (out work : List ℕ) (r : Fitte
   pub workspace : work′ ≡ sets work 0 (replicate n 0)
 
 -- a group that lies in the lists, after so many frames
-pub record Lies (ms vs : List Float) (work : List ℕ) (g : Group) (frames : ℕ) : Type 0 where
-  pub lists : Agree ms vs work
+pub record Lies (ss : States) (work : List ℕ) (g : Group) (frames : ℕ) : Type 0 where
+  pub lists : Agree ss work
   pub order : g .from ≤ g .to
-  pub inside : g .to ≤ length ms
+  pub inside : g .to ≤ size ss
   pub few : frames ≤ mostFrames
 
 -- a group's answer as a number and values: its changes and its frames
@@ -50,16 +50,16 @@ closed (close.Grown changes frames) = accepting (changes ∷ frames ∷ [])
 closed (close.Refused number) = refusing number
 
 -- what a group that is not refused adds
-abbrev pub grown : List Float → List Float → Group → ℕ → List ℕ
-grown ms vs g frames = fitOf ms vs g frames .changes ∷ total (fitOf ms vs g frames .durations) ∷ []
+abbrev pub grown : States → Group → ℕ → List ℕ
+grown ss g frames = fitOf ss g frames .changes ∷ total (fitOf ss g frames .durations) ∷ []
 
 -- a group's outcome in its place and these values as the answer, or its refusal
-pub record Closes (ms vs : List Float) (g : Group) (frames : ℕ) (work values : List ℕ) (a : Answer) (work′ : List ℕ) : Type 0 where
-  pub answer : a ≡ answerOf (refusalOf ms vs g frames) values
-  pub output : refusalOf ms vs g frames ≡ 0 → work′ ≡ take (g .from) work ++ (fitOf ms vs g frames .durations ++ drop (g .to) work)
+pub record Closes (ss : States) (g : Group) (frames : ℕ) (work values : List ℕ) (a : Answer) (work′ : List ℕ) : Type 0 where
+  pub answer : a ≡ answerOf (refusalOf ss g frames) values
+  pub output : refusalOf ss g frames ≡ 0 → work′ ≡ take (g .from) work ++ (fitOf ss g frames .durations ++ drop (g .to) work)
 
 -- labels of k states each that cover the lists
-pub record Labelled (ms vs : List Float) (k : ℕ) (ends : List Float) (work : List ℕ) : Type 0 where
-  pub lists : Agree ms vs work
+pub record Labelled (ss : States) (k : ℕ) (ends : List Float) (work : List ℕ) : Type 0 where
+  pub lists : Agree ss work
   pub some : 1 ≤ k
-  pub cover : length ends * k ≡ length ms
+  pub cover : length ends * k ≡ size ss

@@ -3,8 +3,8 @@ use mathlib.Core.List.{List}
 use Prim.Native.Nat.{ℕ}
 use Rattle.duration.specs.declared.Fitted.{Fitted}
 use Rattle.duration.specs.Promise.{SpeedSays}
-use Rattle.job.specs.Format.{Job}
+use Rattle.job.specs.Format.{Job, jobStates}
 
 -- what `duration::create` promises, of a job
 abbrev pub StatesFitted : Job → List ℕ → List ℕ → Fitted → List ℕ → List ℕ → Type 0
-StatesFitted j = SpeedSays (j .means) (j .varis) (j .speed)
+StatesFitted j = SpeedSays (jobStates j) (j .speed)

@@ -7,17 +7,17 @@ use lib.ListN.{length, getD, set}
 use lib.Ieee.{Float}
 use Rattle.lists.specs.Sizes.{mostFrames, mostStates}
 use Rattle.lists.specs.Totals.{total}
-use Rattle.steps.specs.Steps.{step}
+use Rattle.steps.specs.Steps.{States, size, step}
 use Rattle.steps.specs.Inner.Scores.{keyAt, scores}
 use Rattle.steps.specs.Inner.Tree.{Kept}
 use Rattle.steps.specs.Inner.Pack.{lows, highs}
 
 -- durations that a step is taken from
-pub record Ready (ms vs : List Float) (ds : List ℕ) : Type 0 where
-  pub some : 0 < length ms
-  pub few : length ms ≤ mostStates
-  pub varis : length vs ≡ length ms
-  pub work : length ds ≡ length ms
+pub record Ready (ss : States) (ds : List ℕ) : Type 0 where
+  pub some : 0 < size ss
+  pub few : size ss ≤ mostStates
+  pub varis : length (ss .varis) ≡ size ss
+  pub work : length ds ≡ size ss
   pub small : total ds ≤ mostFrames
 
 -- there is room for a step up (true) or down (false), of n states with this total
@@ -31,9 +31,9 @@ MayMove true d = d ≤ mostFrames
 MayMove false d = 1 ≤ d
 
 -- what the rule is asked for: a target above the count, from a start whose total is known
-pub record Aim (ms : List Float) (ds : List ℕ) (sum target : ℕ) : Type 0 where
+pub record Aim (ss : States) (ds : List ℕ) (sum target : ℕ) : Type 0 where
   pub known : sum ≡ total ds
-  pub above : length ms < target
+  pub above : size ss < target
   pub within : target ≤ mostFrames
 
 -- no other state is above 1
@@ -50,14 +50,14 @@ pub record PutsPlace (w : List ℕ) (i p : ℕ) (w′ : List ℕ) : Type 0 where
   pub tree : highs w′ ≡ set (highs w) i p
 
 -- the tree of a packed list is played out over its durations
-abbrev pub Standing : Bool → Float → List Float → List Float → List ℕ → Type 0
-Standing up rho ms vs w = Kept (scores (keyAt up rho ms vs (lows w))) (highs w) 1
+abbrev pub Standing : Bool → Float → States → List ℕ → Type 0
+Standing up rho ss w = Kept (scores (keyAt up rho ss (lows w))) (highs w) 1
 
-pub record Plays (up : Bool) (rho : Float) (ms vs : List Float) (w w′ : List ℕ) : Type 0 where
+pub record Plays (up : Bool) (rho : Float) (ss : States) (w w′ : List ℕ) : Type 0 where
   pub durations : lows w′ ≡ lows w
-  pub tree : Standing up rho ms vs w′
+  pub tree : Standing up rho ss w′
 
 -- and one step is taken
-pub record Stepped (up : Bool) (rho : Float) (ms vs : List Float) (w w′ : List ℕ) : Type 0 where
-  pub durations : lows w′ ≡ step up rho ms vs (lows w)
-  pub tree : Standing up rho ms vs w′
+pub record Stepped (up : Bool) (rho : Float) (ss : States) (w w′ : List ℕ) : Type 0 where
+  pub durations : lows w′ ≡ step up rho ss (lows w)
+  pub tree : Standing up rho ss w′

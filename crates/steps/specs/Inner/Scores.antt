@@ -4,10 +4,10 @@ use mathlib.Core.List.{List}
 use Prim.Native.Nat.{ℕ, _+_, _*_}
 use lib.Dec.{ltb}
 use lib.ListN.{getD}
-use lib.Ieee.{Float, nan, binary64, toBits}
+use lib.Ieee.{Float, binary64, toBits}
 use Rattle.lists.specs.Sizes.{mostStates}
 use Rattle.steps.specs.declared.costs.Entry.{Entry}
-use Rattle.steps.specs.Steps.{Key, keyOf}
+use Rattle.steps.specs.Steps.{States, stateAt, Key, keyOf}
 use Rattle.steps.specs.Steps.Key.{Fixed, Cost}
 
 -- a key as a number: costs have no sign, and so they come as their bit patterns do; a fixed state comes after all of them
@@ -16,8 +16,8 @@ rank Fixed = 0xffff_ffff_ffff_ffff
 rank (Cost x) = toBits binary64 x
 
 -- the key of the state at a place
-unfoldable pub keyAt : Bool → Float → List Float → List Float → List ℕ → ℕ → ℕ
-keyAt up rho ms vs ds p = rank (keyOf up rho (getD ms p nan) (getD vs p nan) (getD ds p 0))
+unfoldable pub keyAt : Bool → Float → States → List ℕ → ℕ → ℕ
+keyAt up rho ss ds p = rank (keyOf up rho (stateAt ss p) (getD ds p 0))
 
 -- RULES, Durations: of equal costs the first state is taken: the key decides, and where keys are equal the place
 abbrev pub score : ℕ → ℕ → ℕ

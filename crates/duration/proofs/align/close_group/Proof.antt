@@ -6,10 +6,10 @@ use native.Mathlib.Omega.{arith}
 use borrow.Author.Needs.{needs}
 use borrow.Rule.Slice.PartMut.{mid-len, post-is, postOf}
 use lib.ListN.{length, take, drop}
-use lib.Ieee.{Float}
 use Rattle.lists.specs.Totals.{total}
+use Rattle.steps.specs.Steps.{States, states}
 use Rattle.duration.specs.Fit.{fitTo, refusalTo}
-use Rattle.duration.specs.Align.{Group, given, within, targetOf, fitOf}
+use Rattle.duration.specs.Align.{Group, given, statesIn, targetOf, fitOf}
 use Rattle.duration.specs.Inner.Asked.{InPlace}
 use Rattle.duration.proofs.Closing.{close-refused, close-long, close-grown, counted}
 use Rattle.duration.proofs.align.close_group.Statement.{statement}
@@ -23,17 +23,14 @@ module _ (c : tie.After-fit) where
   abbrev group : Group
   group = given (entry .args .from) (entry .args .to) (entry .args .end)
 
-  abbrev means : List Float
-  means = entry .args .means .now
-
-  abbrev varis : List Float
-  varis = entry .args .varis .now
+  abbrev all : States
+  all = states (entry .args .means .now) (entry .args .varis .now)
 
   abbrev W : List ℕ
   W = c .fit .last .1 .1 .1 .0
 
-  fits : InPlace (refusalTo (within group means) (within group varis) (targetOf (entry .args .end) (entry .args .frames))) (fitOf means varis group (entry .args .frames)) (c .fit .result) W
-  fits = subst (λ (t : ℕ). InPlace (refusalTo (within group means) (within group varis) t) (fitTo (within group means) (within group varis) t) (c .fit .result) W) (c .before .before .before .before .rounded .ensures) (c .fit .ensures)
+  fits : InPlace (refusalTo (statesIn group all) (targetOf (entry .args .end) (entry .args .frames))) (fitOf all group (entry .args .frames)) (c .fit .result) W
+  fits = subst (λ (t : ℕ). InPlace (refusalTo (statesIn group all) t) (fitTo (statesIn group all) t) (c .fit .result) W) (c .before .before .before .before .rounded .ensures) (c .fit .ensures)
 
 -- where the frames are counted
 module _ (c : tie.After-total-u32) where
@@ -50,18 +47,18 @@ module _ (c : tie.After-total-u32) where
       counted _ (a .work .now) w (postOf (a .from) (a .to - a .from) (a .work .now)) (a .from) (a .to - a .from) (c .total-u32 .ensures) h n (omega (arith, st .pre .inside, st .pre .lists .few))
 
 returns : tie.Need-returns
-returns c = close-refused _ _ _ _ _ _ _ _ _ _ (fits (c .before .before .before .before .before)) _ _ (c .before .enum-told .given .1) (c .number .ensures)
+returns c = close-refused _ _ _ _ _ _ _ _ _ (fits (c .before .before .before .before .before)) _ _ (c .before .enum-told .given .1) (c .number .ensures)
 
 returns-2 : tie.Need-returns-2
 returns-2 c =
     let f = fitted (c .before) in
-    close-long _ _ _ _ _ _ _ _ _ _ (fits f) _ _ (c .before .before .before .before .before .answer .given .1) (sum (c .before)) (omega (arith, c .if1 .taken, entry f .pre .few))
+    close-long _ _ _ _ _ _ _ _ _ (fits f) _ _ (c .before .before .before .before .before .answer .given .1) (sum (c .before)) (omega (arith, c .if1 .taken, entry f .pre .few))
 
 returns-3 : tie.Need-returns-3
 returns-3 c =
     let f = fitted (c .before) in
     let a = entry f .args in
-    close-grown _ _ _ _ _ _ _ _ _ _ (fits f) _ _ (c .before .before .before .before .before .answer .given .1) (sum (c .before)) (omega (arith, c .if1 .left, entry f .pre .few))
+    close-grown _ _ _ _ _ _ _ _ _ (fits f) _ _ (c .before .before .before .before .before .answer .given .1) (sum (c .before)) (omega (arith, c .if1 .left, entry f .pre .few))
     (ap (λ (l : List ℕ). take (a .from) (a .work .now) ++ (W f ++ l)) (post-is (a .from) (a .to) (a .work .now) (entry f .pre .order)))
 
 pub close-group-spec : {M : Type 1} → statement M

@@ -7,8 +7,9 @@ use borrow.Author.Needs.{needs}
 use borrow.Rule.Slice.PartMut.{mid-len, post-is, postOf}
 use lib.ListN.{length, take}
 use Rattle.lists.specs.Totals.{total}
+use Rattle.steps.specs.Steps.{states}
 use Rattle.duration.specs.Estimate.{naturals}
-use Rattle.duration.specs.Align.{Group, tail, within}
+use Rattle.duration.specs.Align.{Group, tail, statesIn}
 use Rattle.duration.proofs.Closing.{tail-none, tail-long, tail-fits, counted}
 use Rattle.duration.proofs.align.close_tail.Statement.{statement}
 use Rattle.duration.proofs.align.close_tail.Tie as tie
@@ -25,7 +26,7 @@ module _ (c : tie.After-total-u32) where
   group = tail (entry .args .from) (entry .args .to)
 
   abbrev durations : List ℕ
-  durations = naturals (within group (entry .args .means .now)) (within group (entry .args .varis .now))
+  durations = naturals (statesIn group (states (entry .args .means .now) (entry .args .varis .now)))
 
   -- the estimates in their place
   abbrev W : List ℕ
@@ -44,15 +45,15 @@ module _ (c : tie.After-total-u32) where
       ∙ ap total natural
 
 returns : tie.Need-returns
-returns c = tail-none _ _ _ _ _ _ _ (c .if1 .taken) (c .before .before .before .before .pre .few)
+returns c = tail-none _ _ _ _ _ _ (c .if1 .taken) (c .before .before .before .before .pre .few)
 
 returns-2 : tie.Need-returns-2
-returns-2 c = tail-long _ _ _ _ _ _ _ _ (omega (arith, c .if2 .taken, sum (c .before), entry (c .before) .pre .few))
+returns-2 c = tail-long _ _ _ _ _ _ _ (omega (arith, c .if2 .taken, sum (c .before), entry (c .before) .pre .few))
 
 returns-3 : tie.Need-returns-3
 returns-3 c =
     let a = entry (c .before) .args in
-    tail-fits _ _ _ _ _ _ _ (omega (arith, c .if2 .left, sum (c .before), entry (c .before) .pre .few)) (W (c .before)) _ (natural (c .before))
+    tail-fits _ _ _ _ _ _ (omega (arith, c .if2 .left, sum (c .before), entry (c .before) .pre .few)) (W (c .before)) _ (natural (c .before))
     (ap (λ (l : List ℕ). take (a .from) (a .work .now) ++ (W (c .before) ++ l)) (post-is (a .from) (a .to) (a .work .now) (entry (c .before) .pre .order)))
 
 pub close-tail-spec : {M : Type 1} → statement M

@@ -1,57 +1,42 @@
--- `duration::fit::estimate_duration` meets its contract.
-use Prim.Native.Nat.{_-_}
+-- `duration::fit::estimate_duration` meets its contract. The first i estimates are stored, and the rest is as it was.
+use mathlib.Core.Path.{_≡_, refl}
+use mathlib.Core.List.{_++_}
+use Prim.Native.Nat.{ℕ, _-_, _≤_, zero-le}
 use native.Mathlib.Omega.{arith}
 use borrow.Author.Needs.{needs}
-use lib.ListN.{length}
-use Rattle.duration.proofs.Estimates.{Estimating, estimating, estimating-next, estimated}
+use lib.ListN.{length, drop, length-set}
+use Rattle.lists.specs.Build.{build}
+use Rattle.lists.proofs.Fills.{build-next, build-done}
+use Rattle.steps.specs.Steps.{states, stateAt}
+use Rattle.duration.specs.Estimate.{estimateOf, estimates}
 use Rattle.duration.proofs.fit.estimate_duration.Statement.{statement}
 use Rattle.duration.proofs.fit.estimate_duration.Tie as tie
 
 abbrev Inv-loop : tie.InvT-loop
-Inv-loop means varis rho work₀ i₀ work i = Estimating rho means varis work₀ work i
+Inv-loop means varis rho work₀ i₀ work i = (i ≤ length means) × (work ≡ build (λ (k : ℕ). estimateOf rho (stateAt (states means varis) k)) i ++ drop i work₀) × (length work ≡ length work₀)
 
 abbrev μ-loop : tie.MeasureT-loop
 μ-loop means varis rho work₀ i₀ work i = length means - i
 
 loop-holds : tie.Need-loop-holds Inv-loop μ-loop
-loop-holds c = estimating _ _ _ _
-
-mul-estimate : tie.Need-mul-estimate Inv-loop μ-loop
-mul-estimate c = omega arith
-
-shared-slice-read-estimate : tie.Need-shared-slice-read-estimate Inv-loop μ-loop
-shared-slice-read-estimate c = omega arith
-
-mul-estimate-2 : tie.Need-mul-estimate-2 Inv-loop μ-loop
-mul-estimate-2 c = omega arith
-
-shared-slice-read-estimate-2 : tie.Need-shared-slice-read-estimate-2 Inv-loop μ-loop
-shared-slice-read-estimate-2 c = omega arith
-
-mul-work : tie.Need-mul-work Inv-loop μ-loop
-mul-work c = omega arith
-
-slice-write-work : tie.Need-slice-write-work Inv-loop μ-loop
-slice-write-work c = omega arith
-
-add-i : tie.Need-add-i Inv-loop μ-loop
-add-i c = omega arith
-
-loop-less : tie.Need-loop-less Inv-loop μ-loop
-loop-less c = omega arith
+unfolding build
+loop-holds c = (zero-le, refl, refl)
 
 loop-again : tie.Need-loop-again Inv-loop μ-loop
 loop-again c =
     let st = c .before .before .before .before .before .before .before .before in
-    estimating-next _ _ _ (st .pre .varis) (st .pre .workspace) (c .before .before .before .before .loop .inv) _ (c .before .before .before .loop-test .taken) (c .estimate .ensures)
+    let l = c .before .before .before .before .loop in
+    (omega arith, build-next _ (st .args .work .now) (l .work) (l .i) _ 0 (omega (arith, st .pre .workspace)) (c .estimate .ensures) (l .inv .1), simp length-set (l .inv .2))
 
 same-length : tie.Need-same-length Inv-loop μ-loop
-same-length c = c .before .loop .inv .long
+same-length c = c .before .loop .inv .2
 
 returns : tie.Need-returns Inv-loop μ-loop
+unfolding estimates
 returns c =
     let st = c .before .before .before .before .before in
-    estimated _ _ _ (st .pre .varis) (st .pre .workspace) (c .before .loop .inv) (c .loop-test .left)
+    let l = c .before .loop in
+    build-done _ (st .args .work .now) (l .work) (l .i) (length (st .args .means .now)) (omega (arith, l .inv .0, c .loop-test .left)) (omega (arith, st .pre .workspace)) (l .inv .1)
 
 pub estimate-duration-spec : {M : Type 1} → statement M
 estimate-duration-spec =
@@ -60,15 +45,15 @@ estimate-duration-spec =
     Inv-loop
     μ-loop
     loop-holds
-    mul-estimate
-    shared-slice-read-estimate
-    mul-estimate-2
-    shared-slice-read-estimate-2
+    (λ c. search needs)
+    (λ c. search needs)
+    (λ c. search needs)
+    (λ c. search needs)
     (λ c κs. search needs)
-    mul-work
-    slice-write-work
-    add-i
-    loop-less
+    (λ c. search needs)
+    (λ c. search needs)
+    (λ c. search needs)
+    (λ c. search needs)
     loop-again
     same-length
     returns)

@@ -31,27 +31,27 @@ module _ (c : tie.After-settle) where
   W-length = estimates .estimate-duration .kept .1 .1 .1 .0 ∙ entry .pre .workspace
 
 returns : tie.Need-returns
-returns c = let st = c .before .before .before .before in fit-none _ _ _ _ (st .pre) (c .if1 .taken)
+returns c = let st = c .before .before .before .before in fit-none _ _ _ (st .pre) (c .if1 .taken)
 
 returns-2 : tie.Need-returns-2
-returns-2 c = fit-over _ _ _ (some (c .before)) _ (c .if2 .taken)
+returns-2 c = fit-over _ _ (some (c .before)) _ (c .if2 .taken)
 
 returns-3 : tie.Need-returns-3
 returns-3 c =
     let t = c .before .before .before .before in
-    fit-shortest _ _ _ (some (t .before .before)) (t .before .if2 .left) _ (t .if3 .taken) (c .before .before .fill-u32 .ensures ∙ all-filled _ _ _ (t .before .before .before .before .before .before .pre .workspace))
+    fit-shortest _ _ (some (t .before .before)) (t .before .if2 .left) _ (t .if3 .taken) (c .before .before .fill-u32 .ensures ∙ all-filled _ _ _ (t .before .before .before .before .before .before .pre .workspace))
 
 returns-4 : tie.Need-returns-4
 returns-4 c =
     let s = c .before .before .before .before in
     let t = tests s in
-    fit-long _ _ _ (some (t .before .before)) (t .before .if2 .left) (t .if3 .left) _ (W s) _ _ (entry s .pre .few) (entry s .pre .varis) (W-length s) (estimates s .before .before .rho-of .ensures) (estimates s .estimate-duration .ensures) (s .settle .ensures) (c .enum-told .given .1)
+    fit-long _ _ (some (t .before .before)) (t .before .if2 .left) (t .if3 .left) _ (W s) _ _ (entry s .pre .few) (entry s .pre .varis) (W-length s) (estimates s .before .before .rho-of .ensures) (estimates s .estimate-duration .ensures) (s .settle .ensures) (c .enum-told .given .1)
 
 returns-5 : tie.Need-returns-5
 returns-5 c =
     let s = c .before .before .before .before .before in
     let t = tests s in
-    fit-settled _ _ _ (some (t .before .before)) (t .before .if2 .left) (t .if3 .left) _ (W s) _ _ (entry s .pre .few) (entry s .pre .varis) (W-length s) (estimates s .before .before .rho-of .ensures) (estimates s .estimate-duration .ensures) (s .settle .ensures) _ (c .before .changes .given .1)
+    fit-settled _ _ (some (t .before .before)) (t .before .if2 .left) (t .if3 .left) _ (W s) _ _ (entry s .pre .few) (entry s .pre .varis) (W-length s) (estimates s .before .before .rho-of .ensures) (estimates s .estimate-duration .ensures) (s .settle .ensures) _ (c .before .changes .given .1)
 
 pub fit-spec : {M : Type 1} → statement M
 fit-spec =

@@ -12,6 +12,7 @@ use Rattle.lists.proofs.Sums.{total-whole}
 use Rattle.floats.specs.Rounding.{roundedOf}
 use Rattle.floats.specs.Numbers.{number}
 use Rattle.floats.proofs.Casts.{exact}
+use Rattle.steps.specs.Steps.{states}
 use Rattle.duration.specs.Estimate.{naturals}
 use Rattle.duration.specs.Speed.{targetAt}
 use Rattle.duration.proofs.Fits.{speed-long, speed-one, speed-other}
@@ -29,20 +30,20 @@ module _ (c : tie.After-total-u32) where
   abbrev W : List ℕ
   W = made .estimate-duration .last .1 .1 .1 .0
 
-  natural : W ≡ naturals (entry .args .means .now) (entry .args .varis .now)
+  natural : W ≡ naturals (states (entry .args .means .now) (entry .args .varis .now))
   unfolding naturals
   natural = made .estimate-duration .ensures
 
-  sum : c .total-u32 .result ≡ total (naturals (entry .args .means .now) (entry .args .varis .now))
+  sum : c .total-u32 .result ≡ total (naturals (states (entry .args .means .now) (entry .args .varis .now)))
   sum =
       let n : length W ≡ length (entry .args .means .now) = made .estimate-duration .kept .1 .1 .1 .0 ∙ entry .pre .workspace in
       c .total-u32 .ensures ∙ total-whole W (omega (arith, entry .pre .few)) ∙ ap total natural
 
 returns : tie.Need-returns
-returns c = speed-long _ _ _ _ (subst (λ (n : ℕ). mostFrames < n) (sum (c .before)) (c .if1 .taken))
+returns c = speed-long _ _ _ (subst (λ (n : ℕ). mostFrames < n) (sum (c .before)) (c .if1 .taken))
 
 returns-2 : tie.Need-returns-2
-returns-2 c = speed-one _ _ _ _ (subst (λ (n : ℕ). n ≤ mostFrames) (sum (c .before .before)) (c .before .if1 .left)) (c .if2 .taken) (natural (c .before .before))
+returns-2 c = speed-one _ _ _ (subst (λ (n : ℕ). n ≤ mostFrames) (sum (c .before .before)) (c .before .if1 .left)) (c .if2 .taken) (natural (c .before .before))
 
 int-to-float-rounded : tie.Need-int-to-float-rounded
 int-to-float-rounded c = exact _ (omega (arith, c .before .before .if1 .left))
@@ -52,7 +53,7 @@ unfolding targetAt
 returns-3 c =
     let o = c .before .before .before .before .before .before in
     let t = o .before .before in
-    speed-other _ _ _ _ (subst (λ (n : ℕ). n ≤ mostFrames) (sum t) (o .before .if1 .left)) _ _ (o .if2 .left)
+    speed-other _ _ _ (subst (λ (n : ℕ). n ≤ mostFrames) (sum t) (o .before .if1 .left)) _ _ (o .if2 .left)
     (c .before .before .before .before .rounded .ensures ∙ ap (λ (n : ℕ). roundedOf (div binary64 (number n) (entry t .args .speed))) (sum t)) (c .before .before .fit .ensures)
 
 pub fit-at-spec : {M : Type 1} → statement M

@@ -3,6 +3,7 @@ use Prim.Native.Nat.{_-_}
 use native.Mathlib.Omega.{arith}
 use borrow.Author.Needs.{needs}
 use lib.ListN.{length}
+use Rattle.steps.specs.Steps.{states}
 use Rattle.steps.specs.Inner.Scores.{keyAt}
 use Rattle.steps.proofs.Keys.{least-place}
 use Rattle.steps.proofs.Scans.{Scanning, scan-start, scan-fits, scan-next}
@@ -10,7 +11,7 @@ use Rattle.steps.proofs.scan.least_of.Statement.{statement}
 use Rattle.steps.proofs.scan.least_of.Tie as tie
 
 abbrev Inv-loop : tie.InvT-loop
-Inv-loop up rho means varis work best₀ i₀ best i = Scanning (keyAt up rho means varis work) (length means) i best
+Inv-loop up rho means varis work best₀ i₀ best i = Scanning (keyAt up rho (states means varis) work) (length means) i best
 
 abbrev μ-loop : tie.MeasureT-loop
 μ-loop up rho means varis work best₀ i₀ best i = length means - i
@@ -34,7 +35,7 @@ returns : tie.Need-returns Inv-loop μ-loop
 returns c =
     let st = c .before .before .before .before .before .before in
     let s = c .before .loop .inv in
-    least-place _ _ _ _ _ (st .pre .varis) (st .pre .work) (st .pre .few) _ (omega (arith, s .place, s .within)) (λ j h. s .least j (omega (arith, s .within)))
+    least-place _ _ _ _ (st .pre .few) _ (omega (arith, s .place, s .within)) (λ j h. s .least j (omega (arith, s .within)))
 
 pub least-of-spec : {M : Type 1} → statement M
 least-of-spec =
