@@ -1,12 +1,13 @@
 -- A float by the fields of its bit pattern.
 use mathlib.Core.Path.{_≡_, refl, sym, ap, _∙_, subst}
 use mathlib.Core.Bool.{Bool, true, false, not, cond, true≢false}
-use Prim.Native.Nat.{ℕ, zero, suc, _+_, _/_, _%_, _^_, _≤_, _<_}
+use Prim.Native.Nat.{ℕ, zero, suc, _+_, _-_, _/_, _%_, _^_, _≤_, _<_}
 use native.Mathlib.Nat.{mod-lt, mod-eq-of-lt}
 use native.Mathlib.Omega.{arith}
 use lib.Dec.{T, leb, eqb, not-T, eqb→eq}
 use lib.Arith.{lt→nleb}
 use lib.Pow.{pow-pos, mod-mod-pow}
+use lib.Bits.{bitAnd, bitOr, and-mask, or-shifted-r}
 use lib.Ieee.{Float, nan, inf, fin, binary64, odd, fits, isNan, ofFields, ofBits, toBits, nanBits, ne}
 use lib.Ieee.Bits.{ofBits-toBits, toBits-lt, nanBits-is, nanBits-above, cond-no}
 use borrow.Author.Tests.{lt-ltb, le-ltb}
@@ -67,6 +68,10 @@ normal-is j t h = cond-no (eqb (suc j) 2047) (cond (eqb t 0) (inf false) nan) (o
 pub subnormal-is : (t : ℕ) → ofFields binary64 false 0 t ≡ odd 53 false t 0 1074
 unfolding ofFields
 subnormal-is t = refl
+
+-- the digits with their leading 1, as `bits & 0xf_ffff_ffff_ffff | 0x10_0000_0000_0000` has them
+pub digits-are : (b : ℕ) → bitOr (bitAnd b (2 ^ 52 - 1)) (2 ^ 52) ≡ 2 ^ 52 + b % 2 ^ 52
+digits-are b = ap (λ (k : ℕ). bitOr k (2 ^ 52)) (and-mask b 52) ∙ or-shifted-r 1 52 (b % 2 ^ 52) (mod-lt b (pow-pos 52))
 
 -- ---- the sign's bit cleared
 

@@ -1,9 +1,9 @@
 -- Rounding to the nearest whole number, halves upward.
 use mathlib.Core.Path.{_≡_, refl, sym, ap, _∙_}
 use Prim.Native.Nat.{ℕ, zero, suc, _+_, _-_, _*_, _/_, _^_, _≤_, _<_}
-use native.Mathlib.Nat.{mul-assoc, mul-comm, mul-left-comm, add-mul, mul-pos, suc-mul, add-div-right, add-mul-div-right, div-div-eq-div-mul, div-eq-of-lt, div-le-self, div-lt-iff-lt-mul, le-div-iff-mul-le, le-of-eq, le-of-suc-le-suc, lt-of-le-of-lt, lt-of-lt-of-le, pow-succ'}
+use native.Mathlib.Nat.{mul-assoc, mul-comm, mul-left-comm, mul-add, add-mul, mul-pos, suc-mul, add-mul-div-left, add-mul-div-right, div-div-eq-div-mul, div-le-self, div-lt-iff-lt-mul, le-div-iff-mul-le, le-of-suc-le-suc, mul-div-mul-left, mul-div-mul-right}
 use native.Mathlib.Omega.{arith}
-use lib.Pow.{pow-mono, shl-lt}
+use lib.Pow.{pow-pos, pow-add}
 use lib.Ieee.Nearest.{div-same}
 use mathlib.Core.Bool.{true}
 use lib.IntN.{pos}
@@ -26,17 +26,6 @@ half-same a b c d B D e = div-same (2 * a + b) (2 * b) (2 * c + d) (2 * d) (mul-
 -- so many halves and one more fit 64 bits
 pub one-more-fits : (n k : ℕ) → n < 2 ^ 54 → n / k + 1 < 2 ^ 64
 one-more-fits n k h = omega (arith, div-le-self n k)
-
--- below a half it is 0
-pub half-small : (a c : ℕ) → 2 * a < c → nearestHalf a c ≡ 0
-unfolding nearestHalf
-half-small a c h = div-eq-of-lt (omega arith)
-
--- q * 2 ^ k is below half of 2 ^ p, for a q of at most 53 digits
-pub under-half : (q k p : ℕ) → q < 2 ^ 53 → 53 + suc k ≤ p → 2 * (q * 2 ^ k) < 2 ^ p
-under-half q k p h g =
-    let e : 2 * (q * 2 ^ k) ≡ q * 2 ^ suc k = sym (mul-assoc 2 q (2 ^ k)) ∙ ap (λ (z : ℕ). z * 2 ^ k) (mul-comm 2 q) ∙ mul-assoc q 2 (2 ^ k) ∙ ap (λ (z : ℕ). q * z) (sym (pow-succ' 2 k)) in
-    lt-of-le-of-lt (le-of-eq e) (lt-of-lt-of-le (shl-lt 53 (suc k) h) (pow-mono g))
 
 -- from n on it is at least n
 pub half-large : (n a c : ℕ) → 0 < c → n * c ≤ a → n ≤ nearestHalf a c
@@ -67,21 +56,37 @@ half-few n a c C h =
     let t : suc n * (2 * c) ≡ 2 * (n * c) + 2 * c = suc-mul n (2 * c) ∙ ap (λ (z : ℕ). z + 2 * c) (mul-left-comm n 2 c) in
     le-of-suc-le-suc (div-lt-iff-lt-mul (mul-pos two-pos C) .1 (let q : 2 * a + c < suc n * (2 * c) = omega arith in q))
 
--- it is worked out from twice the number, cut: one more of that, halved
-pub half-cut : (a c : ℕ) → 0 < c → nearestHalf a c ≡ (2 * a / c + 1) / 2
+-- it is worked out by adding a half and cutting
+half-cut : (a c : ℕ) → nearestHalf a (2 * c) ≡ (a + c) / (2 * c)
 unfolding nearestHalf
-half-cut a c C =
-    ap (λ (k : ℕ). (2 * a + c) / k) (mul-comm 2 c)
-    ∙ sym (div-div-eq-div-mul (2 * a + c) c 2)
-    ∙ ap (λ (k : ℕ). k / 2) (add-div-right (2 * a) C)
+half-cut a c = ap (λ (k : ℕ). k / (2 * (2 * c))) (sym (mul-add 2 a c)) ∙ mul-div-mul-left (a + c) (2 * c) two-pos
+
+-- and where the last six of the digits lie below the half they are not missed: of d * 2 ^ k / 2 ^ 52
+pub half-short : (d k : ℕ) → k ≤ 45 → nearestHalf (d * 2 ^ k) (2 ^ 52) ≡ (d / 64 * 2 ^ k + 2 ^ 45) / 2 ^ 46
+half-short d k h =
+    let n = 45 - k in
+    let c = 2 ^ n in
+    let e : n + k ≡ 45 = omega arith in
+    let l : c * 2 ^ k ≡ 2 ^ 45 = sym (pow-add 2 n k) ∙ ap (λ (z : ℕ). 2 ^ z) e in
+    let m : 2 * c * 2 ^ k ≡ 2 ^ 46 = mul-assoc 2 c (2 ^ k) ∙ ap (λ (z : ℕ). 2 * z) l in
+    let q : 2 ^ k * (64 * c) ≡ 64 * 2 ^ 45 = mul-left-comm (2 ^ k) 64 c ∙ ap (λ (z : ℕ). 64 * z) (mul-comm (2 ^ k) c ∙ l) in
+    let w : d * 2 ^ k * (2 * (64 * c)) ≡ d * 2 ^ 52 = mul-assoc d (2 ^ k) (2 * (64 * c)) ∙ ap (λ (z : ℕ). d * z) (mul-left-comm (2 ^ k) 2 (64 * c) ∙ ap (λ (z : ℕ). 2 * z) q) in
+    half-same (d * 2 ^ k) (2 ^ 52) d (2 * (64 * c)) (pow-pos 52) (mul-pos two-pos (mul-pos (pow-pos 6) (pow-pos n))) w
+    ∙ half-cut d (64 * c)
+    ∙ ap (λ (z : ℕ). (d + 64 * c) / z) (mul-left-comm 2 64 c)
+    ∙ sym (div-div-eq-div-mul (d + 64 * c) 64 (2 * c))
+    ∙ ap (λ (z : ℕ). z / (2 * c)) (add-mul-div-left d c (pow-pos 6))
+    ∙ sym (mul-div-mul-right (d / 64 + c) (2 * c) (pow-pos k))
+    ∙ ap (λ (z : ℕ). z / (2 * c * 2 ^ k)) (add-mul (d / 64) c (2 ^ k) ∙ ap (λ (z : ℕ). d / 64 * 2 ^ k + z) l)
+    ∙ ap (λ (z : ℕ). (d / 64 * 2 ^ k + 2 ^ 45) / z) m
 
 -- ---- how many frames a whole number that is not below zero gives
 abbrev pub frames : ℕ → ℕ
 frames n = framesOf (whole (pos n))
 
-pub frames-none : frames 0 ≡ 1
+pub frames-few : (n : ℕ) → n ≤ 1 → frames n ≡ 1
 unfolding framesOf
-frames-none = refl
+frames-few n h = omega arith
 
 pub frames-many : (n : ℕ) → 65537 ≤ n → frames n ≡ 65537
 unfolding framesOf
@@ -96,8 +101,3 @@ pub frames-below : (n : ℕ) → framesOf (whole (signed true n)) ≡ 1
 unfolding framesOf
 frames-below zero = refl
 frames-below (suc n) = refl
-
--- from a half on it is at least 1
-pub half-some : (a c : ℕ) → 0 < c → c ≤ 2 * a → 1 ≤ nearestHalf a c
-unfolding nearestHalf
-half-some a c C h = le-div-iff-mul-le (mul-pos two-pos C) .1 (omega arith)

@@ -1,11 +1,12 @@
 -- Laws of the strict order of floats.
-use mathlib.Core.Path.{_≡_, refl}
-use mathlib.Core.Bool.{Bool, true, false}
+use mathlib.Core.Path.{_≡_, refl, sym, subst}
+use mathlib.Core.Bool.{Bool, true, false, _||_}
 use Prim.Native.Nat.{ℕ, _*_}
 use native.Mathlib.Omega.{arith}
 use borrow.Author.Tests.{le-ltb, ltb-true}
 use lib.IntN.{ℤ}
-use lib.Ieee.{Float, nan, inf, fin, up, down, below, lt}
+use lib.Dec.{T}
+use lib.Ieee.{Float, nan, inf, fin, up, down, below, lt, eq, le}
 use Rattle.floats.specs.Order.{absOf}
 
 -- of two numbers, each a sign and a size, one at most is below the other
@@ -38,3 +39,12 @@ above-size m e (inf true) h = absurd (let q : _≡_ {A = ℕ} 0 1 = cc in omega 
 above-size m e (inf false) h = refl
 above-size m e (fin true n d) h = absurd (let q : _≡_ {A = ℕ} 0 1 = cc in omega arith)
 above-size m e (fin false n d) h = refl
+
+-- and a strict order is an order
+pub lt-le : (x y : Float) → lt x y ≡ true → T (le x y)
+unfolding le
+lt-le x y h = or-left (lt x y) (eq x y) (subst T (sym h) tt)
+  where
+    or-left : (a b : Bool) → T a → T (a || b)
+    or-left true b t = tt
+    or-left false b t = absurd t

@@ -21,13 +21,13 @@ use Rattle.floats.specs.Rounding.{nearestHalf, roundedOf, toIntegral, fr
 use Rattle.floats.specs.Numbers.{nought}
 use Rattle.floats.proofs.Below.{round-below}
 use Rattle.floats.proofs.Differences.{opened, scaled, sub-whole, exact-less}
-use Rattle.floats.proofs.Halves.{half-large, half-less, half-few, frames, frames-none, frames-many}
+use Rattle.floats.proofs.Halves.{half-large, half-less, half-few, frames, frames-few, frames-many}
 use Rattle.floats.proofs.Whole.{value-rounded}
 
 -- ---- x below zero, or -0, and x below k: 1
 
 none-left : (n : ℕ) → n ≡ 0 → frames n ≡ 1
-none-left n e = ap frames e ∙ frames-none
+none-left n e = frames-few n (omega arith)
 
 sum-negative : (a b c : ℕ) → roundedOf (sum binary64 true a true b c) ≡ 1
 unfolding sum

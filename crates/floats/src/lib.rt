@@ -1,51 +1,55 @@
 // Float leaves, worked out from the bits.
 ghost use mathlib.Core.Path.{_≡_};
-ghost use Prim.Native.Nat.{_*_, _^_, _<_};
-ghost use lib.Ieee.{binary64, ofBits, toBits};
+ghost use Prim.Native.Nat.{_*_, _^_, _≤_, _<_};
+ghost use lib.Dec.{T};
+ghost use lib.Ieee.{binary64, ofBits, toBits, le};
 ghost use lib.ListN.{take, drop};
 ghost use lib.Seq.{sets};
 ghost use Rattle.lists.specs.Bytes.{little, bytesOf};
+ghost use Rattle.floats.specs.Numbers.{one};
 ghost use Rattle.floats.specs.Rounding.{roundedOf, nearestHalf};
 ghost use Rattle.floats.specs.Order.{absOf, costBelow};
 ghost use Rattle.floats.specs.Root.{nearestRoot, sqrtOf};
 ghost use Rattle.floats.specs.Inner.Scaled.{IsScaled};
 
-// digits / 2 ^ places to the nearest whole number, a half upward: one shift leaves the halves, and an odd one rounds up.
-fn without_fraction(digits: u64, places: u64) -> u64
-    requires { ⌜ digits < 2 ^ 53 ⌝ }
-    ensures { λ r. ⌜ r ≡ nearestHalf digits (2 ^ places) ⌝ }
+// digits * 2 ^ scale / 2 ^ 52 to the nearest whole number, a half upward: in units of 1 / 2 ^ 46 a half is added, and the rest cut.
+fn without_fraction(digits: u64, scale: u64) -> u64
+    requires { ⌜ (digits < 2 ^ 53) × (scale ≤ 16) ⌝ }
+    ensures { λ r. ⌜ r ≡ nearestHalf (digits * 2 ^ scale) (2 ^ 52) ⌝ }
 {
-    if places > 63 {
-        return 0;
+    // Six digits go to make room for the scale: they lie below every half.
+    let units = (digits / 64) << scale;
+    (units + 0x2000_0000_0000) / 0x4000_0000_0000
+}
+
+// x, or 1 where x is below it or NaN: both round to 1.
+fn at_least_one(x: f64) -> f64
+    ensures { λ r. ⌜ (roundedOf r ≡ roundedOf x) × T (le one r) ⌝ }
+{
+    if x > 1.0 {
+        return x;
     }
-    let halves = (2 * digits) >> places;
-    (halves + 1) / 2
+    1.0
+}
+
+// A number from 1 to 65,537 that rounds as x does. One end after the other, each test compiles to an instruction without a jump.
+fn within(x: f64) -> f64
+    ensures { λ r. ⌜ (roundedOf r ≡ roundedOf x) × T (le one r) × T (le r (ofBits binary64 0x40f0_0010_0000_0000)) ⌝ }
+{
+    let y = at_least_one(x);
+    if y < 65_537.0 {
+        return y;
+    }
+    65_537.0
 }
 
 // How many frames x stands for: the nearest whole number, halves away from zero, at least 1; 65,537 for all above 65,536.
 pub fn rounded(x: f64) -> u32
     ensures { λ r. ⌜ r ≡ roundedOf x ⌝ }
 {
-    if x != x {
-        return 1;
-    }
-    let bits: u64 = f64::to_bits(x);
-    let exponent: u64 = bits >> 52;
-    if exponent > 2047 {
-        return 1;
-    }
-    if exponent < 1022 {
-        return 1;
-    }
-    if exponent > 1039 {
-        return 65_537;
-    }
-    let digits: u64 = (bits & 0xf_ffff_ffff_ffff) | 0x10_0000_0000_0000;
-    let frames = without_fraction(digits, 1075 - exponent);
-    if frames > 65_537 {
-        return 65_537;
-    }
-    frames as u32
+    let bits: u64 = f64::to_bits(within(x));
+    let digits = bits % 0x10_0000_0000_0000 + 0x10_0000_0000_0000;
+    without_fraction(digits, (bits >> 52) - 1023) as u32
 }
 
 // |x|: the sign's bit is cleared.
