@@ -22,11 +22,13 @@ static double float_of(uint64_t bits) {
     return x;
 }
 
-/* At speed 1 a state of mean x and variance 0 lasts the frames that x stands for; more than 65,536 are refused. */
+/* At speed 1 a state of mean x, variance 0 and shortest 1 lasts the frames that x stands for; more than 65,536 are refused. */
 static uint32_t by_call(double x) {
     const double none = 0.0;
+    const uint32_t shortest = 1;
     uint32_t frames = 0, work = 0, changes = 0;
-    uint32_t refused = hejmirov_speed(&x, 1, &none, 1, 1.0, &frames, 1, &work, 1, &changes);
+    uint32_t refused =
+        hejmirov_speed(&x, 1, &none, 1, &shortest, 1, 1.0, &frames, 1, &work, 1, &changes);
     return refused ? (refused == 8 ? TOO_MANY : 0) : frames;
 }
 

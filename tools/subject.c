@@ -24,14 +24,15 @@
 #define OUT_LONGS(name) uint64_t *name, size_t n_##name
 
 #pragma weak hejmirov_fit
-uint32_t hejmirov_fit(DOUBLES(means), DOUBLES(varis), double frame_length, OUT_WHOLES(out),
-                      OUT_WHOLES(work), uint32_t *changes);
+uint32_t hejmirov_fit(DOUBLES(means), DOUBLES(varis), WHOLES(shortest), double frame_length,
+                      OUT_WHOLES(out), OUT_WHOLES(work), uint32_t *changes);
 #pragma weak hejmirov_speed
-uint32_t hejmirov_speed(DOUBLES(means), DOUBLES(varis), double speed, OUT_WHOLES(out),
-                        OUT_WHOLES(work), uint32_t *changes);
+uint32_t hejmirov_speed(DOUBLES(means), DOUBLES(varis), WHOLES(shortest), double speed,
+                        OUT_WHOLES(out), OUT_WHOLES(work), uint32_t *changes);
 #pragma weak hejmirov_align
-uint32_t hejmirov_align(DOUBLES(means), DOUBLES(varis), uint32_t nstate, DOUBLES(ends),
-                        OUT_WHOLES(out), OUT_WHOLES(work), uint32_t *written, uint32_t *changes);
+uint32_t hejmirov_align(DOUBLES(means), DOUBLES(varis), WHOLES(shortest), uint32_t nstate,
+                        DOUBLES(ends), OUT_WHOLES(out), OUT_WHOLES(work), uint32_t *written,
+                        uint32_t *changes);
 #pragma weak hejmirov_mask
 uint32_t hejmirov_mask(DOUBLES(weights), double threshold, WHOLES(durations), OUT_WHOLES(voiced),
                        OUT_WHOLES(left), OUT_WHOLES(right), uint32_t *frames);
@@ -299,24 +300,25 @@ static const uint32_t untouched = 0xA5A5A5A5u;
 static const uint64_t untouched_long = 0xA5A5A5A5A5A5A5A5u;
 
 static void run_fit(uint8_t kind) {
-    List *means = input(8), *varis = input(8);
+    List *means = input(8), *varis = input(8), *shortest = input(4);
     double number = take_f64();
     List *out = lent(4), *work = lent(4);
     uint32_t changes = untouched;
-    put_u32((kind == FIT ? hejmirov_fit : hejmirov_speed)(IN_D(means), IN_D(varis), number,
-                                                          OUT_W(out), OUT_W(work), &changes));
+    put_u32((kind == FIT ? hejmirov_fit : hejmirov_speed)(IN_D(means), IN_D(varis), IN_W(shortest),
+                                                          number, OUT_W(out), OUT_W(work),
+                                                          &changes));
     put_u32(changes);
     put_list(out);
     put_list(work);
 }
 
 static void run_align(void) {
-    List *means = input(8), *varis = input(8);
+    List *means = input(8), *varis = input(8), *shortest = input(4);
     uint32_t nstate = take_u32();
     List *ends = input(8), *out = lent(4), *work = lent(4);
     uint32_t written = untouched, changes = untouched;
-    put_u32(hejmirov_align(IN_D(means), IN_D(varis), nstate, IN_D(ends), OUT_W(out), OUT_W(work),
-                           &written, &changes));
+    put_u32(hejmirov_align(IN_D(means), IN_D(varis), IN_W(shortest), nstate, IN_D(ends), OUT_W(out),
+                           OUT_W(work), &written, &changes));
     put_u32(written);
     put_u32(changes);
     put_list(out);

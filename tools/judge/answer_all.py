@@ -6,7 +6,7 @@ from pathlib import Path
 
 from . import reading
 from .formats import KINDS, Case, decode, encode, split_answers
-from .reading.durations import TooLong
+from .reading.trajectory import TooLong
 
 NAMES = {kind.number: name for name, kind in KINDS.items()}
 

@@ -3,15 +3,19 @@
 from collections.abc import Callable
 from random import Random
 
-from .reading.jobs import HEAD, MARK, MAX_COUNT, PAIR
+from .reading.jobs import FIRST_VERSION, HEAD, MARK, MAX_COUNT, PAIR, SHORTEST, SHORTEST_VERSION, STATE
 
 VERSION_AT, COUNT_AT, SPEED_AT = 3, 5, 7
-LARGEST = HEAD + PAIR * MAX_COUNT
+# The largest job of each version.
+LARGEST = [HEAD + size * MAX_COUNT for size in STATE.values()]
 
-VERSIONS = [0, 2, 0x0100, 0x0101, 0x0102, 0x8001, 0xFFFF]
+# Of jobs, others around them, and with their bytes the other way round or a bit too many.
+VERSIONS = [FIRST_VERSION, SHORTEST_VERSION, 0, 3] * 3
+VERSIONS += [4, 0x0100, 0x0200, 0x0101, 0x0102, 0x0201, 0x8001, 0x8002, 0xFFFF]
 COUNTS = [0, MAX_COUNT - 1, MAX_COUNT, MAX_COUNT + 1, MAX_COUNT + 2, MAX_COUNT + 0x0100, 2 * MAX_COUNT, 0x8000, 0xFFFF]
-SURPLUS = [1, 2, 3, 8, PAIR - 1, PAIR, PAIR + 1, 100]
-LONG = [LARGEST - 1, LARGEST, LARGEST + 1, LARGEST + 2, LARGEST + PAIR, 20_000, 2 * LARGEST, 2**16 - 1, 2**16]
+SURPLUS = [1, 2, 3, SHORTEST, 8, PAIR - 1, PAIR, PAIR + 1, PAIR + SHORTEST - 1, PAIR + SHORTEST, 100]
+LONG = [whole + more for whole in LARGEST for more in (-1, 0, 1, 2, PAIR, PAIR + SHORTEST)]
+LONG += [20_000, 2 * max(LARGEST), 2**16 - 1, 2**16]
 
 # Changes the bytes of a file.
 Change = Callable[[Random, bytes], bytes]
@@ -31,8 +35,17 @@ def of_length(data: bytes, length: int) -> bytes:
     return data[:length].ljust(length, b"\0")
 
 
+def version_of(data: bytes) -> int:
+    return int.from_bytes(data[VERSION_AT:COUNT_AT], "little")
+
+
 def count_of(data: bytes) -> int:
     return int.from_bytes(data[COUNT_AT:SPEED_AT], "little")
+
+
+def state_size(data: bytes) -> int:
+    """How many bytes a state has by a file's version, if it is one of a job."""
+    return STATE.get(version_of(data), PAIR)
 
 
 def other_byte(rng: Random, byte: int) -> int:
@@ -66,6 +79,7 @@ def other_mark(rng: Random, data: bytes) -> bytes:
 
 
 def other_version(rng: Random, data: bytes) -> bytes:
+    """Also a job's own other one, with a length that is no longer its."""
     return put_number(data, VERSION_AT, rng.choice([*VERSIONS, rng.randrange(2**16)]))
 
 
@@ -79,8 +93,27 @@ def other_count(rng: Random, data: bytes) -> bytes:
 
 
 def other_length(rng: Random, data: bytes) -> bytes:
-    """One byte off, or one state."""
-    return of_length(data, max(0, len(data) + rng.choice([-1, 1]) * rng.choice([1, PAIR])))
+    """One byte off, one shortest, or one state, of either version."""
+    return of_length(data, max(0, len(data) + rng.choice([-1, 1]) * rng.choice([1, SHORTEST, *STATE.values()])))
+
+
+def length_of_the_other(rng: Random, data: bytes) -> bytes:
+    """As long as a file of so many states is in the other version."""
+    other = sum(STATE.values()) - state_size(data)
+    return of_length(data, HEAD + other * min(count_of(data), MAX_COUNT))
+
+
+def cut_in_a_shortest(rng: Random, data: bytes) -> bytes:
+    """Behind a state's pair, or within the four bytes that follow it in the second version."""
+    state = rng.randrange(max(1, count_of(data)))
+    return data[: HEAD + state * STATE[SHORTEST_VERSION] + PAIR + rng.randrange(SHORTEST)]
+
+
+def other_shortest(rng: Random, data: bytes) -> bytes:
+    """A shortest of the second version, or what stands there: another byte of it, all, or none."""
+    at = HEAD + rng.randrange(max(1, count_of(data))) * STATE[SHORTEST_VERSION] + PAIR
+    new = rng.choice([bytes(SHORTEST), rng.randbytes(SHORTEST), b"\xff" * SHORTEST, bytes([2, 0, 0, 0]), bytes([0, 0, 1, 0])])
+    return put(data, at, new) if rng.random() < 0.5 else put(data, at + rng.randrange(SHORTEST), rng.randbytes(1))
 
 
 def surplus(rng: Random, data: bytes) -> bytes:
@@ -89,9 +122,9 @@ def surplus(rng: Random, data: bytes) -> bytes:
 
 def of_any_count(rng: Random, data: bytes) -> bytes:
     """Any number of states that there may be, and a length up to theirs, around it or a state above it."""
-    count = rng.choice([MAX_COUNT, rng.randint(0, MAX_COUNT)])
-    whole = HEAD + PAIR * count
-    length = rng.choice([rng.randint(0, whole), rng.randint(0, whole), whole + rng.randint(-2, 2), whole + PAIR])
+    count, size = rng.choice([MAX_COUNT, rng.randint(0, MAX_COUNT)]), state_size(data)
+    whole = HEAD + size * count
+    length = rng.choice([rng.randint(0, whole), rng.randint(0, whole), whole + rng.randint(-2, 2), whole + size])
     return of_length(put_number(data, COUNT_AT, count), length)
 
 
@@ -121,6 +154,7 @@ def empty(rng: Random, data: bytes) -> bytes:
 CHANGES: list[Change] = [
     *[of_any_count] * 5,
     *[cut, cut_and_wrong, other_mark, other_version, other_count, other_length, surplus] * 2,
+    *[length_of_the_other, cut_in_a_shortest, other_shortest],
     *[other_bytes, any_bytes, too_long, empty],
 ]
 

@@ -7,11 +7,13 @@ from dataclasses import dataclass, field
 from itertools import groupby
 
 from . import drift, reading
-from .domain import Judge, answered, judge_of, oracle_answers, tail_of
+from .domain import WITH_SHORTEST, Judge, all_ones, answered, judge_of, oracle_answers, tail_of
 from .formats import ALIGNMENTS, KINDS, READ, Case, Fields, decode, encode, encode_case, store_calls
 from .programs import ANSWERED, LOST, MISTIMED, PANICKED, PARTED, STRAYED, Program
 from .reading import jobs, links
-from .reading.durations import TooLong
+from .reading.trajectory import TooLong
+
+BAD_SHORTEST = 15
 
 # As many equal bytes, or numbers of a list, are told one by one.
 LONG_RUN = 8
@@ -77,6 +79,11 @@ class Tally:
     refusals: Counter = field(default_factory=Counter)
     # Accepted alignments with a tail, which is not compared with the Rust.
     tails: int = 0
+    # By kind, over links too: cases with other shortest durations than ones, how many of them were accepted, and how many
+    # refused with 15.
+    other_shortest: Counter = field(default_factory=Counter)
+    shortest_accepted: Counter = field(default_factory=Counter)
+    shortest_refused: Counter = field(default_factory=Counter)
     # Accepted chapters whose totals were held to the claim.
     chapters: drift.Held = field(default_factory=drift.Held)
     # Accepted trajectories with clamped pairs, and such pairs in all, each once a voiced frame.
@@ -105,6 +112,8 @@ class Tally:
         line = f"{judged}; refused {numbered(self.refusals)}"
         if self.tails:
             line += f"; {self.tails} tails not compared with the Rust"
+        if self.other_shortest:
+            line += f"; shortest durations other than ones in {', '.join(map(self.of_kind, sorted(self.other_shortest)))}"
         if self.chapters.chapters:
             line += f"; {self.chapters}"
         if self.clamped:
@@ -122,6 +131,10 @@ class Tally:
         if self.timings:
             line += f"; {self.timings} timing files, refused {numbered(self.timing_refusals)}"
         return line
+
+    def of_kind(self, kind: str) -> str:
+        accepted, refused = self.shortest_accepted[kind], self.shortest_refused[kind]
+        return f"{kind} {self.other_shortest[kind]}, {accepted} accepted and {refused} refused with 15"
 
 
 def numbered(refusals: Counter) -> str:
@@ -167,6 +180,8 @@ class Comparison:
                 self.tally.judged["the reading alone"] += 1
             if case.kind in ALIGNMENTS and refusal == 0:
                 self.tally.tails += bool(tail_of(case))
+            if case.kind in WITH_SHORTEST:
+                self.count_shortest(case.kind, case, refusal)
             if case.kind == "trajectory" and values:
                 self.tally.clamped += bool(values["high"] or values["low"])
                 self.tally.high += values["high"]
@@ -180,6 +195,7 @@ class Comparison:
                 self.tally.link_refusals.update(number for number in followed.refusals if number)
                 for end in followed.ends:
                     self.count_damage(end.job, end.refusal)
+                    self.count_shortest(case.kind, end.job, end.refusal)
             if case.kind in ("store", "settings_file"):
                 self.count_store(case, values["refusals"])
             if case.kind == "words":
@@ -196,6 +212,12 @@ class Comparison:
         for read, number in zip(reads, refusals):
             if number:
                 (self.tally.file_refusals if read else self.tally.store_refusals)[number] += 1
+
+    def count_shortest(self, kind: str, case: Case, refusal: int) -> None:
+        if not all_ones(case):
+            self.tally.other_shortest[kind] += 1
+            self.tally.shortest_accepted[kind] += refusal == 0
+            self.tally.shortest_refused[kind] += refusal == BAD_SHORTEST
 
     def count_damage(self, job: Case, refusal: int) -> None:
         if refusal in jobs.DAMAGES:
@@ -257,7 +279,7 @@ class Comparison:
     def against_claim(self, case: Case, whose: str, durations: list[int]) -> list[Difference]:
         """Holds the totals of an accepted chapter to what is claimed of them."""
         try:
-            self.tally.chapters.add(drift.held(case["nstate"], case["ends"], durations))
+            self.tally.chapters.add(drift.held(case["nstate"], case["ends"], case["shortest"], durations))
         except drift.Drift as drifted:
             return [Difference(case, f"the totals of {whose}", None, str(drifted))]
         return []

@@ -60,8 +60,21 @@ def too_many_states(rng: Random, case: Case) -> Case:
         return case.with_fields(durations=(case["durations"] or [1])[:1] * count)
     case = case.with_fields(means=(case["means"] or [1.0])[:1] * count)
     if rng.random() < 0.5:
-        case = case.with_fields(varis=[1.0] * count, out=count, work=count)
+        shortest = (case["shortest"] or [1])[:1] * count
+        case = case.with_fields(varis=[1.0] * count, shortest=shortest, out=count, work=count)
     return case
+
+
+def other_shortest(rng: Random, case: Case) -> Case:
+    """A shortest duration of 0, or so long that the sum is above the limit, just so or far, 32 bits overflowing too."""
+    if not case["shortest"]:
+        return case
+    shortest = list(case["shortest"])
+    state = rng.randrange(len(shortest))
+    rest = sum(shortest) - shortest[state]
+    over = MAX_FRAMES + rng.choice([0, 1, 1, 2]) - min(rest, MAX_FRAMES)
+    shortest[state] = rng.choice([0, 0, over, over, 2**16, 2**32 - 1, (2**32 - rest) % 2**32])
+    return case.with_fields(shortest=shortest)
 
 
 def bad_windows(rng: Random, case: Case) -> Case:
@@ -224,9 +237,9 @@ def other_words(rng: Random, case: Case) -> Case:
 
 GENERAL: list[Damage] = [other_length, short_room, number_out_of_range]
 BY_KIND: dict[str, list[Damage]] = {
-    "fit": [*GENERAL, too_many_states],
-    "speed": [*GENERAL, too_many_states],
-    "align": [*GENERAL, too_many_states],
+    "fit": [*GENERAL, too_many_states, other_shortest],
+    "speed": [*GENERAL, too_many_states, other_shortest],
+    "align": [*GENERAL, too_many_states, other_shortest],
     "mask": [*GENERAL, too_many_states, too_many_frames],
     "band": [*GENERAL, bad_windows, too_many_band_frames],
     "trajectory": [*GENERAL, bad_windows, too_many_frames, too_many_states],
@@ -238,7 +251,7 @@ BY_KIND: dict[str, list[Damage]] = {
     "settings_file": [short_room, changed_bytes],
     "words": [*GENERAL, too_many_states, too_many_frames, longer_trajectory, other_words, other_words],
     "timing_file": [short_room, changed_bytes],
-    "chapter": [*GENERAL, too_many_states],
+    "chapter": [*GENERAL, too_many_states, other_shortest],
 }
 
 

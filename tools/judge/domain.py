@@ -7,7 +7,7 @@ from itertools import islice
 from .formats import ALIGNMENTS, KINDS, Case, Fields, decode, encode_case
 from .programs import Program
 from .reading import ieee, jobs, links
-from .reading.durations import estimate
+from .reading.durations import estimate, states_in
 from .reading.refusals import band_frames
 
 
@@ -17,6 +17,8 @@ class Judge(Enum):
     READING = auto()  # the second reading alone
 
 
+# The kinds whose states have shortest durations of their own, which the Rust doesn't know.
+WITH_SHORTEST = ("fit", "speed", "align", "chapter", "job")
 BY_RUST = ("float", "pair", "record", "fit", "speed", "align", "mask", "band", "trajectory", "job", "link", "chapter")
 
 
@@ -31,9 +33,24 @@ def drops_nothing(case: Case) -> bool:
     return True
 
 
+def shortest_of(case: Case) -> list[int]:
+    """Of a case that has them; a damaged job has none."""
+    if case.kind != "job":
+        return case["shortest"]
+    job = jobs.parse(case["bytes"])
+    return job.shortest if job else []
+
+
+def all_ones(case: Case) -> bool:
+    """Whether the rules are the Rust's: with a shortest of 1 everywhere there might as well be none."""
+    return all(number == 1 for number in shortest_of(case))
+
+
 def judge_of(case: Case) -> Judge:
-    """Of an accepted case."""
+    """Of an accepted case; of a link the Rust is asked those jobs that it can judge."""
     if case.kind not in BY_RUST:
+        return Judge.READING
+    if case.kind in WITH_SHORTEST and not all_ones(case):
         return Judge.READING
     if "widths" in case.fields and case["widths"][0] > 1:
         return Judge.PAPER
@@ -45,16 +62,17 @@ def judge_of(case: Case) -> Judge:
 def speed_of(job: bytes) -> Case:
     """A job as the Rust takes it: a speed over its pairs."""
     parsed = jobs.parse(job)
-    return Case("speed", {"means": parsed.means, "varis": parsed.varis, "speed": parsed.speed, "out": 0, "work": 0})
+    states = {"means": parsed.means, "varis": parsed.varis, "shortest": parsed.shortest}
+    return Case("speed", {**states, "speed": parsed.speed, "out": 0, "work": 0})
 
 
 def asked(case: Case) -> list[Case]:
-    """What the Rust is asked of an accepted case: mostly the case, of a link each accepted end, of a chapter its alignment;
-    NaNs are one."""
+    """What the Rust is asked of an accepted case: mostly the case, of a link each accepted end with ones, of a chapter its
+    alignment; NaNs are one."""
     if case.kind == "job":
         questions = [speed_of(case["bytes"])]
     elif case.kind == "link":
-        questions = [speed_of(end.job["bytes"]) for end in links.followed(case).accepted()]
+        questions = [speed_of(end.job["bytes"]) for end in links.followed(case).accepted() if all_ones(end.job)]
     elif case.kind == "chapter":
         questions = [Case("align", case.fields)]
     else:
@@ -79,7 +97,7 @@ def job_answered(answer: bytes) -> Fields:
 def tail_of(case: Case) -> list[int]:
     """The reading's durations of the states after the last given end, of an accepted alignment."""
     first = max((label for label, end in enumerate(case["ends"], 1) if end >= 0), default=0) * case["nstate"]
-    return estimate(case["means"][first:], case["varis"][first:], 0.0)
+    return estimate(states_in(case)[first:], 0.0)
 
 
 def align_answered(case: Case, answer: bytes) -> Fields:
@@ -91,7 +109,8 @@ def align_answered(case: Case, answer: bytes) -> Fields:
 def answered(case: Case, answers: list[bytes]) -> Fields:
     """The case's values, from the Rust's answers to what it was asked."""
     if case.kind == "link":
-        return links.joined([job_answered(answer) for answer in answers])
+        given, ends = iter(answers), links.followed(case).accepted()
+        return links.joined([job_answered(next(given)) if all_ones(end.job) else end.values for end in ends])
     (answer,) = answers
     if case.kind in ALIGNMENTS:
         return align_answered(case, answer)

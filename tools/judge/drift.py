@@ -25,7 +25,7 @@ class Held:
     chapters: int = 0
     longest: int = 0  # in labels
     ends: int = 0
-    short: int = 0  # ends whose target is not above the states of the group: the premise fails
+    short: int = 0  # ends whose target is not above the shortest of the group's states together: the premise fails
     again: int = 0  # ends with the premise though the end before is without
     ties: int = 0  # ends in the middle between two frames
     farthest: Fraction = Fraction(0)  # twice the distance from the end to the total, where the premise holds
@@ -59,7 +59,7 @@ class Group:
 
     label: int
     end: float
-    states: int
+    shortest: int  # of its states together
     before: int
     total: int
 
@@ -82,7 +82,7 @@ class Group:
         return target_of(*self.length())
 
     def meets_premise(self) -> bool:
-        return self.target > self.states
+        return self.target > self.shortest
 
     def distance(self) -> tuple[int, int]:
         """Twice that from the end to the total."""
@@ -101,7 +101,7 @@ class Group:
 
     def wrong(self) -> str:
         """What is not as claimed, nothing where all is."""
-        rounded, shortest = half_up(*self.fraction), self.before + self.states
+        rounded, shortest = half_up(*self.fraction), self.before + self.shortest
         due = rounded if self.meets_premise() else shortest
         distance, parts = self.distance()
         if not self.is_exact():
@@ -116,29 +116,30 @@ class Group:
 
     def __str__(self) -> str:
         number, parts = self.fraction
-        return f"its end is {number}/{parts}, {self.before} frames are before its group of {self.states} states"
+        return f"its end is {number}/{parts}, {self.before} frames are before its group of at least {self.shortest}"
 
 
-def groups(nstate: int, ends: list[float], durations: list[int]) -> Iterator[Group]:
+def groups(nstate: int, ends: list[float], shortest: list[int], durations: list[int]) -> Iterator[Group]:
     """A number below zero and NaN are no ends, -0 is one."""
-    total = before = first = 0
+    total = before = least = 0
     for label, end in enumerate(ends):
-        after = (label + 1) * nstate
-        total += sum(durations[after - nstate : after])
+        states = slice(label * nstate, (label + 1) * nstate)
+        total += sum(durations[states])
+        least += sum(shortest[states])
         if end >= 0:
             if end == float("inf"):
                 raise Drift(label, "its end is infinite, and it is accepted")
-            yield Group(label, end, after - first, before, total)
-            before, first = total, after
+            yield Group(label, end, least, before, total)
+            before, least = total, 0
 
 
-def held(nstate: int, ends: list[float], durations: list[int]) -> Held:
+def held(nstate: int, ends: list[float], shortest: list[int], durations: list[int]) -> Held:
     """Of a chapter that is accepted, with one duration a state; at the first end that is not as claimed Drift is raised."""
     if len(durations) != nstate * len(ends):
         raise Drift(len(ends), f"{len(durations)} durations of {len(ends)} labels with {nstate} states each")
     seen, was_short = Held(chapters=1, longest=len(ends)), False
     farthest, of_parts = 0, 1
-    for group in groups(nstate, ends, durations):
+    for group in groups(nstate, ends, shortest, durations):
         wrong = group.wrong()
         if wrong:
             raise Drift(group.label, f"{group}: {wrong}")

@@ -31,11 +31,11 @@ class Chapter:
         return self.name, self.case, values, 0, {}
 
 
-def case_of(ends: list[float], nstate: int = 1) -> Case:
-    """Every state has mean 2 and variance 1."""
+def case_of(ends: list[float], nstate: int = 1, shortest: list[int] | None = None) -> Case:
+    """Every state has mean 2 and variance 1, and without others a shortest of 1."""
     count = nstate * len(ends)
-    pairs = {"means": [2.0] * count, "varis": [1.0] * count}
-    return Case("chapter", {**pairs, "nstate": nstate, "ends": ends, "out": count + 1, "work": count + 2})
+    states = {"means": [2.0] * count, "varis": [1.0] * count, "shortest": shortest or [1] * count}
+    return Case("chapter", {**states, "nstate": nstate, "ends": ends, "out": count + 1, "work": count + 2})
 
 
 def steps_between(totals: list[int]) -> list[int]:
@@ -43,10 +43,16 @@ def steps_between(totals: list[int]) -> list[int]:
 
 
 def told(
-    name: str, ends: list[float], totals: list[int], short: Sequence[int] = (), again: int = 0, ties: int = 0
+    name: str,
+    ends: list[float],
+    totals: list[int],
+    short: Sequence[int] = (),
+    again: int = 0,
+    ties: int = 0,
+    shortest: list[int] | None = None,
 ) -> Chapter:
     """One state a label, all ends given. A state alone starts at its target, 2 + (T - 2) x 1, so nothing changes."""
-    return Chapter(name, case_of(ends), steps_between(totals), 0, totals, short, again, ties)
+    return Chapter(name, case_of(ends, 1, shortest), steps_between(totals), 0, totals, short, again, ties)
 
 
 # Floats beside a half, a bit away.
@@ -108,6 +114,32 @@ GROUPS = [
 ]
 
 
+# With shortest durations of their own. Where a target is not above their sum, the total is that before and the sum.
+BELOW_7_5 = math.nextafter(7.5, 0.0)
+SHORTEST = [
+    told("shortest 2, an end at 2.5", [2.5], [3], ties=1, shortest=[2]),
+    told("shortest 3, an end at 2.5", [2.5], [3], short=[0], ties=1, shortest=[3]),  # the target is 3: right, and no premise
+    told("shortest 4, an end at 2.5", [2.5], [4], short=[0], ties=1, shortest=[4]),
+    told("an end too near by its shortest, and the next one", [4.0, 5.0, 9.5], [4, 7, 10], [1], 1, 1, [1, 3, 1]),
+    told("a target at its shortest", [4.0, 7.4, 9.5], [4, 7, 10], [1], 1, 1, [1, 3, 1]),
+    told("a target a bit below the next", [4.0, BELOW_7_5, 9.5], [4, 7, 10], [1], 1, 1, [1, 3, 1]),
+    told("a target just above its shortest", [4.0, 7.5, 9.5], [4, 8, 10], ties=2, shortest=[1, 3, 1]),
+    # 8 - 8, 9 - 10 and 9.5 - 12 have targets of 1; 20 - 14 is 6, above 2.
+    told("four too near by their shortest", [1.0, 8.0, 9.0, 9.5, 20.0], [8, 10, 12, 14, 20], [0, 1, 2, 3], 1, 1, [8, 2, 2, 2, 2]),
+    told("an end at -0, shortest 5", [-0.0, 7.5], [5, 8], [0], 1, 1, [5, 1]),
+    told("an end backward, shortest 3", [10.0, 6.0, 14.5], [10, 13, 15], [1], 1, 1, [1, 3, 1]),
+    told("the limit in one label", [3.0], [65_536], short=[0], shortest=[65_536]),
+    told("the limit in the second label", [40000.0, 40001.0], [40_000, 65_536], short=[1], shortest=[1, 25_536]),
+    Chapter("two open labels at their sum", case_of([OPEN, OPEN, 5.4], 1, [1, 3, 1]), [1, 3, 1], 0, [5], [0], 0, 0),
+    # The target is 6 and rho 0: 2, 3 and 2, the second raised. A frame too many costs the others 1, and the first gives it.
+    Chapter("two open labels above their sum", case_of([OPEN, NAN, 5.5], 1, [1, 3, 1]), [1, 3, 2], 1, [6], [], 0, 1),
+    Chapter("a tail below its shortest", case_of([2.5, OPEN], 1, [1, 7]), [3, 7], 0, [3], [], 0, 1),
+    Chapter("no end is given, shortest 1, 2 and 3", case_of([OPEN, OPEN, OPEN], 1, [1, 2, 3]), [2, 2, 3], 0, [], [], 0, 0),
+    # 9 - 6 is 3, and rho -0.5: 1.5 and 1.5 are 2 and 2, and the first gives a frame.
+    Chapter("two states a label, 5 and 9", case_of([5.0, 9.0], 2, [4, 2, 1, 1]), [4, 2, 1, 2], 1, [6, 9], [0], 1, 0),
+]
+
+
 def summed(length: float, labels: int) -> list[float]:
     """As a program would do it: each end is the one before and the length."""
     ends = [length]
@@ -157,11 +189,31 @@ LONG = [
         [16] * 700 + [15] * 3_396, 700, [62_140], [], 0, 1,
     ),
 ]
-CHAPTERS = ONE_STATE + GROUPS + LONG
+STEPS_15_4 = steps_between(TOTALS_15_4)
+LONG += [
+    told("4,096 labels of 15.4 frames, shortest 2", [154 * label / 10 for label in LABELS], TOTALS_15_4, shortest=[2] * 4_096),
+    # A target is 15 or 16, so 15 is no premise; the totals are the same.
+    told(
+        "4,096 labels of 15.4 frames, shortest 15", [154 * label / 10 for label in LABELS], TOTALS_15_4,
+        [label for label, frames in enumerate(STEPS_15_4) if frames == 15],
+        sum(before == 15 and after == 16 for before, after in zip(STEPS_15_4, STEPS_15_4[1:])), shortest=[15] * 4_096,
+    ),
+    # The total runs ahead at every end, up to as many frames as there may be.
+    told(
+        "4,096 labels of 15.4 frames, shortest 16", [154 * label / 10 for label in LABELS],
+        [16 * label for label in LABELS], range(4_096), shortest=[16] * 4_096,
+    ),
+    # Ten labels of 20 frames at least: 200, where 154 were due. 169.4, 184.8 and 200.2 are too near, 215.6 is right again.
+    told(
+        "ten long labels, and others that catch up", [154 * label / 10 for label in range(1, 16)],
+        [*range(20, 201, 20), 201, 202, 203, 216, 231], range(13), again=1, shortest=[20] * 10 + [1] * 5,
+    ),
+]
+CHAPTERS = ONE_STATE + GROUPS + SHORTEST + LONG
 
 
-def refused(name: str, ends: list[float], number: int, nstate: int = 1) -> Told:
-    return name, case_of(ends, nstate), {}, number, {}
+def refused(name: str, ends: list[float], number: int, nstate: int = 1, shortest: list[int] | None = None) -> Told:
+    return name, case_of(ends, nstate, shortest), {}, number, {}
 
 
 REFUSED: list[Told] = [
@@ -175,6 +227,11 @@ REFUSED: list[Told] = [
     refused("an end at 65,536, and a tail", [65536.0, OPEN], 8),
     # 16.4 frames are 65,534.4 at label 3,996, and 65,550.8 at the next.
     refused("4,096 labels of 16.4 frames", [164 * label / 10 for label in LABELS], 8),
+    refused("a shortest of 0", [2.5, 5.0], 15, shortest=[1, 0]),
+    refused("a shortest of 0 and an end at infinity", [math.inf, 5.0], 15, shortest=[1, 0]),
+    refused("4,096 labels of 16 frames at least, and one of 17", [1.0] * 4_096, 15, shortest=[16] * 4_095 + [17]),
+    # The first target is 17, above its shortest, and the others have 16 each: 65,537.
+    refused("4,096 labels of 16 frames at least, a target of 17", [17.0] + [1.0] * 4_095, 8, shortest=[16] * 4_096),
 ]
 
 
@@ -194,4 +251,8 @@ DRIFTING = [
     Drifting("4,096 times 15 frames", LONG[0], [15] * 4_096, 1, -1_638),  # 30, where 30.8 is 31
     Drifting("4,096 times 3 frames", LONG[2], [3] * 4_096, 1, 2_048),  # 6, where 5 is due
     Drifting("4,096 times 2 frames", LONG[2], [2] * 4_096, 0, -2_048),  # 2, where 2.5 is 3
+    # As if one frame a state were enough: 4, 5 and 10, where 7 are due at the second end, and 10 at the third.
+    Drifting("one frame for a shortest of 3", SHORTEST[3], [4, 1, 5], 1, 0),
+    Drifting("one frame for a shortest of 3, backward", SHORTEST[9], [10, 1, 4], 1, 0),  # 11, where 13 are due
+    Drifting("one frame a state in a group", SHORTEST[12], [1, 1, 1], 2, -2),  # 3, where 5 are due
 ]

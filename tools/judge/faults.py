@@ -5,6 +5,7 @@ from dataclasses import dataclass
 IEEE, PAIRS, DURATIONS = "ieee.py", "pairs.py", "durations.py"
 TRAJECTORY, PLACES, JOBS, LINKS = "trajectory.py", "places.py", "jobs.py", "links.py"
 SETTINGS, WORDS, REFUSALS, EXITS = "settings.py", "words.py", "refusals.py", "exits.py"
+ANSWER = "__init__.py"
 
 
 @dataclass(frozen=True)
@@ -33,17 +34,57 @@ CLAMPS_AFTER_ZEROING = (
 CLAMPED = '    return {"out": out, "high": clamped.count(pairs.HIGH), "low": clamped.count(pairs.LOW)}'
 HIGH_LEFT = '        "high": values["high"],'
 NO_CALL = "a pair's operations are no C call; the operations show it"
-TAIL = "    tail = estimate(means[fitted:], varis[fitted:], 0.0)"
+ESTIMATE = "        return max(self.shortest, ieee.frames(self.mean + rho * self.vari))"
+NATURAL = "ieee.frames(state.mean + 0.0 * state.vari) for state in states"
+GIVES_NOTHING = "        if unit < 0 and frames <= state.shortest:"
+STEPS_BY_COST = (
+    "    costs = [(cost(place), place) for place in range(len(states))]\n"
+    "    heapq.heapify(costs)\n"
+    "    for _ in range(abs(steps)):\n"
+    "        _, place = costs[0]\n"
+    "        durations[place] += unit\n"
+    "        heapq.heapreplace(costs, (cost(place), place))"
+)
+ENOUGH = "    if target <= sum(shortest_of(states)):"
+SPEED_1 = "    if factor == 1.0:\n        return Fit(durations, 0)"
+SPEED = "    return fit(states, ieee.divide(float(sum(durations)), factor))"
+RHO = "    rho = ieee.divide(target - ieee.total(means), ieee.total(varis))"
+MEANS = "    means, varis = [state.mean for state in states], [state.vari for state in states]"
+TAIL = "    tail = estimate(states[fitted:], 0.0)"
 OPEN = "        if not end >= 0:"
-GROUP = "        group = fit(means[first:last], varis[first:last], end - sum(whole.durations))"
+GROUP = "        group = fit(states[first:last], end - sum(whole.durations))"
+# A group or tail whose shortest are those of other states.
+OTHER_SHORTEST = "[state._replace(shortest=states[{at}].shortest) for at, state in enumerate(states[{first}:{last}])]"
 LAST_END = "next((given for given in reversed(ends[:label]) if given >= 0), 0.0)"
-SHORTEST = "        return Fit([1] * len(means), 0)"
+SHORTEST = "        return Fit(shortest_of(states), 0)"
 STEPS = "    steps = target - sum(durations)"
 FIELD = "    for place, size, least, most, number in FIELDS:"
 ENDS = "        if len(data) < place + size:"
 WRONG = "            return Damage(number, place)"
 WHOLE = "        return Damage(WRONG_LENGTH, min(len(data), whole))  # where it ends, or the first byte too many"
 OLD = "    return WRONG_LENGTH if number in DAMAGES else number"
+VERSIONS = "    Field(3, 2, FIRST_VERSION, SHORTEST_VERSION, WRONG_VERSION),"
+VALUE = '        value = int.from_bytes(data[place : place + size], "little")'
+STATE_SIZES = "STATE = {FIRST_VERSION: PAIR, SHORTEST_VERSION: PAIR + SHORTEST}"
+JOB_PAIRS = '    pairs = [struct.unpack_from("<dd", data, place) for place in places]'
+FIRST_SHORTEST = "    shortest = [1] * count"
+JOB_SHORTEST = (
+    '        shortest = [int.from_bytes(data[place + PAIR : place + PAIR + SHORTEST], "little") for place in places]'
+)
+JOB_STATES = "    states = durations.states_of(job.means, job.varis, job.shortest)"
+KEPT_BYTES = "KEPT = jobs.HEAD + max(jobs.STATE.values()) * jobs.MAX_COUNT + 1"
+LINK_ENDED = "        return number == 0 or number > KEPT + 1"
+BAD_SHORTEST = "    return 0 in shortest or sum(shortest) > MAX_FRAMES"
+ONE_A_STATE = '        4: lambda: len(case["varis"]) != n or len(case["shortest"]) != n,'
+FIT_15 = '        15: lambda: bad_shortest(case["shortest"]),'
+FIT_4_TO_15 = f'{ONE_A_STATE}\n        6: lambda: case["out"] < n or case["work"] < n,\n{FIT_15}'
+LABELS_AGREE = "        4: lambda: fit[4]() or n != labels * nstate,"
+IN_ORDER = "    return next((number for number in sorted(checks) if checks[number]()), 0)"
+BEFORE_AND_WORK = (
+    "    if number:\n        return number, {}\n    try:\n"
+    "        return 0, ieee.one_nan(ANSWERS[case.kind](case))"
+)
+LEFT = "    fields = untouched(case)"
 PLACES_OF_ENDS = '        "places": [end["place"] for end in ends],'
 NAN_AS_ONE = "    return NAN_BITS if bits & SIZE_BITS > INFINITY else bits"
 FILE_MARK = "    if data[: len(MARK)] != MARK:"
@@ -174,32 +215,79 @@ FAULTS = [
           "    other_means, other_varis, other_given = split_record(other)",
           "    other_means, other_varis, other_given = *split_record(other)[:2], voicing_weight(split_record(other)[2])",
           "a record's operations are no C call; the operations show it"),
-    Fault("one rounding in the estimate", DURATIONS,
-          "    durations = [ieee.frames(mean + rho * vari) for mean, vari in zip(means, varis)]",
-          "    durations = [ieee.frames(float((F := __import__('fractions').Fraction)(m) + F(rho) * F(s))"
-          " if abs(m) + abs(s) + abs(rho) < 1e99 else m + rho * s) for m, s in zip(means, varis)]"),
-    Fault("last state on a tie", DURATIONS,
-          "        state = costs.index(min(costs))  # equal costs take the first state",
-          "        state = len(costs) - 1 - costs[::-1].index(min(costs))"),
+    Fault("one rounding in the estimate", DURATIONS, ESTIMATE,
+          "        m, s = self.mean, self.vari; return max(self.shortest, ieee.frames("
+          "float((F := __import__('fractions').Fraction)(m) + F(rho) * F(s))"
+          " if abs(m) + abs(s) + abs(rho) < 1e99 else m + rho * s))"),
+    Fault("an estimate without its shortest", DURATIONS, ESTIMATE,
+          "        return ieee.frames(self.mean + rho * self.vari)"),
+    Fault("a natural duration without its shortest", DURATIONS, ESTIMATE,
+          ESTIMATE.replace("self.shortest", "self.shortest if rho else 1")),
+    Fault("a fit's estimate without its shortest", DURATIONS, ESTIMATE,
+          ESTIMATE.replace("self.shortest", "1 if rho else self.shortest")),
+    Fault("an estimate and its shortest added", DURATIONS, ESTIMATE,
+          "        return self.shortest - 1 + ieee.frames(self.mean + rho * self.vari)"),
+    Fault("an estimate at most its shortest", DURATIONS, ESTIMATE, ESTIMATE.replace("max(", "min(")),
+    Fault("an estimate of NaN at 1 frame, not at its shortest", DURATIONS, ESTIMATE,
+          ESTIMATE + " if self.mean + rho * self.vari == self.mean + rho * self.vari else 1"),
+    Fault("an estimate below zero at 1 frame, not at its shortest", DURATIONS, ESTIMATE,
+          ESTIMATE + " if not self.mean + rho * self.vari < 0 else 1"),
+    Fault("the largest shortest for every estimate", DURATIONS,
+          "    durations = [state.frames(rho) for state in states]",
+          "    durations = [max([state.frames(rho), *shortest_of(states)]) for state in states]"),
+    Fault("last state on a tie", DURATIONS, STEPS_BY_COST,
+          STEPS_BY_COST.replace("(cost(place), place)", "(cost(place), -place)")
+          .replace("_, place = costs[0]", "place = -costs[0][1]")),
     Fault("cost at the duration itself", DURATIONS,
-          "        distance = durations[state] + unit - means[state]",
-          "        distance = durations[state] - means[state]"),
-    Fault("a state gives its last frame", DURATIONS,
-          "        if unit < 0 and durations[state] == 1:", "        if unit < 0 and durations[state] == 0:"),
-    Fault("target at the count fitted", DURATIONS,
-          "    if target <= len(means):", "    if target < len(means):"),
+          "        return state.cost(frames + unit, rho)", "        return state.cost(frames, rho)"),
+    Fault("a state at its shortest gives a frame", DURATIONS, GIVES_NOTHING, "        if unit < 0 and frames <= 1:"),
+    Fault("a state gives its last frame", DURATIONS, GIVES_NOTHING, "        if unit < 0 and frames < state.shortest:"),
+    Fault("a state gives nothing from a frame above its shortest on", DURATIONS, GIVES_NOTHING,
+          "        if unit < 0 and frames <= state.shortest + 1:"),
+    Fault("a state at its shortest gets no frame", DURATIONS, GIVES_NOTHING, "        if frames <= state.shortest:"),
+    Fault("the first state's shortest for all that give", DURATIONS, GIVES_NOTHING,
+          "        if unit < 0 and frames <= states[0].shortest:"),
+    Fault("the cost's distance from the shortest", DURATIONS,
+          "        return ieee.order(rho - ieee.divide(frames - self.mean, self.vari))",
+          "        return ieee.order(rho - ieee.divide(frames - max(self.mean, self.shortest), self.vari))"),
+    Fault("target at the sum of the shortest fitted", DURATIONS, ENOUGH, ENOUGH.replace("<=", "<")),
+    Fault("target a frame above the sum of the shortest not fitted", DURATIONS, ENOUGH,
+          ENOUGH.replace("):", ") + 1:"), drifts=True),
+    Fault("target compared with the number of states", DURATIONS, ENOUGH, "    if target <= len(states):", drifts=True),
+    Fault("target compared with the largest shortest", DURATIONS, ENOUGH,
+          "    if target <= max(shortest_of(states)):", drifts=True),
+    Fault("target compared with the sum of the shortest in 16 bits", DURATIONS, ENOUGH,
+          ENOUGH.replace("):", ") % 2**16:")),
+    Fault("target compared with the sum of the natural durations", DURATIONS, ENOUGH,
+          "    if target <= sum(state.frames(0.0) for state in states):", drifts=True),
+    Fault("rho by means that are raised to their shortest", DURATIONS, MEANS,
+          MEANS.replace("[state.mean for", "[max(state.mean, state.shortest) for")),
+    Fault("rho by what is above the shortest", DURATIONS, RHO,
+          RHO.replace("target -", "target - sum(shortest_of(states)) -")),
     Fault("empty list refused with 7", DURATIONS,
-          "    if not means:", "    if not means and ieee.frames(length) <= MAX_FRAMES:"),
+          "    if not states:", "    if not states and ieee.frames(length) <= MAX_FRAMES:"),
     Fault("changes upwards alone counted", DURATIONS,
-          "    return Fit(durations, abs(steps), walked)", "    return Fit(durations, max(steps, 0), walked)"),
+          "    return Fit(durations, abs(steps))", "    return Fit(durations, max(steps, 0))"),
     Fault("speed 1 fitted too", DURATIONS, "    if factor == 1.0:", "    if factor == 0.0:"),
     Fault("speed's target refused before its estimate", DURATIONS,
-          "    durations = estimate(means, varis, 0.0)",
-          "    durations = [ieee.frames(mean + 0.0 * vari) for mean, vari in zip(means, varis)]"),
+          "    durations = estimate(states, 0.0)", "    durations = [state.frames(0.0) for state in states]"),
+    Fault("speed 1 without the shortest", DURATIONS, SPEED_1,
+          f"    if factor == 1.0:\n        return Fit([{NATURAL}], 0)"),
+    Fault("a speed's length without the shortest", DURATIONS, SPEED,
+          f"    return fit(states, ieee.divide(float(sum({NATURAL})), factor))"),
+    Fault("a speed's length by the sum of the shortest", DURATIONS, SPEED,
+          SPEED.replace("sum(durations)", "sum(shortest_of(states))")),
     Fault("minus zero as open", DURATIONS, OPEN, '        if not end >= 0 or str(end) == "-0.0":', drifts=True),
     Fault("NaN end as given", DURATIONS, OPEN, "        if end < 0:"),
     Fault("groups fitted to the end itself", DURATIONS, GROUP,
-          "        group = fit(means[first:last], varis[first:last], end)", drifts=True),
+          "        group = fit(states[first:last], end)", drifts=True),
+    Fault("a group with the shortest of the list's first states", DURATIONS, GROUP,
+          GROUP.replace("states[first:last]", OTHER_SHORTEST.format(at="at", first="first", last="last")), drifts=True),
+    Fault("a group with the shortest of the first label's states", DURATIONS, GROUP,
+          GROUP.replace("states[first:last]", OTHER_SHORTEST.format(at="at % nstate", first="first", last="last")),
+          drifts=True),
+    Fault("a group of ones", DURATIONS, GROUP,
+          GROUP.replace("states[first:last]", "[state._replace(shortest=1) for state in states[first:last]]"), drifts=True),
     Fault("running total checked at the end alone", DURATIONS,
           "        if sum(whole.durations) > MAX_FRAMES:", "        if False:"),
     Fault("each label's own length rounded", DURATIONS, GROUP,
@@ -227,29 +315,36 @@ FAULTS = [
     Fault("a group at its shortest not among the frames so far", DURATIONS, GROUP,
           GROUP.replace("sum(whole.durations)", "getattr(whole, 'counted', 0)")
           + "; whole.counted = getattr(whole, 'counted', 0)"
-          " + sum(group.durations) * (sum(group.durations) > len(group.durations))", drifts=True),
+          " + sum(group.durations) * (sum(group.durations) > sum(shortest_of(states[first:last])))", drifts=True),
     Fault("a tie's frame not among the frames so far", DURATIONS, GROUP,
           GROUP.replace("sum(whole.durations)", "getattr(whole, 'counted', 0)")
           + "; whole.counted = getattr(whole, 'counted', 0) + sum(group.durations) - (end % 1.0 == 0.5)", drifts=True),
-    Fault("open labels a frame a state beside their group", DURATIONS, GROUP,
-          "        own = label * nstate; group = fit(means[own:last], varis[own:last], end - sum(whole.durations));"
-          " group.durations[:0] = [1] * (own - first)", drifts=True),
+    Fault("open labels at their shortest beside their group", DURATIONS, GROUP,
+          "        own = label * nstate; group = fit(states[own:last], end - sum(whole.durations));"
+          " group.durations[:0] = shortest_of(states[first:own])", drifts=True),
     Fault("open labels at their natural length, the label itself fitted to the rest", DURATIONS, GROUP,
-          "        own = label * nstate; open_ones = estimate(means[first:own], varis[first:own], 0.0);"
-          " group = fit(means[own:last], varis[own:last], end - sum(whole.durations) - sum(open_ones));"
+          "        own = label * nstate; open_ones = estimate(states[first:own], 0.0);"
+          " group = fit(states[own:last], end - sum(whole.durations) - sum(open_ones));"
           " group.durations[:0] = open_ones", drifts=True),
-    Fault("open labels a frame a state, the label itself fitted to the rest", DURATIONS, GROUP,
-          "        own = label * nstate; group = fit(means[own:last], varis[own:last], end - sum(whole.durations)"
-          " - (own - first)); group.durations[:0] = [1] * (own - first)"),
+    Fault("open labels at their shortest, the label itself fitted to the rest", DURATIONS, GROUP,
+          "        own = label * nstate; open_ones = shortest_of(states[first:own]);"
+          " group = fit(states[own:last], end - sum(whole.durations) - sum(open_ones)); group.durations[:0] = open_ones"),
     Fault("an end that goes backward as open", DURATIONS, OPEN,
           f"        if not end >= {LAST_END}:", drifts=True),
     Fault("an end with a target at the shortest as open", DURATIONS, OPEN,
-          "        if not end >= 0 or ieee.frames(end - sum(whole.durations)) <= (label + 1) * nstate"
-          " - len(whole.durations):", drifts=True),
-    Fault("a target below the count kept, the last states without frames", DURATIONS, SHORTEST,
-          "        return Fit([1] * target + [0] * (len(means) - target), 0)", drifts=True),
+          "        if not end >= 0 or ieee.frames(end - sum(whole.durations)) <= sum(shortest_of("
+          "states[len(whole.durations) : (label + 1) * nstate])):", drifts=True),
+    Fault("a target below the sum kept, the last states without frames", DURATIONS, SHORTEST,
+          "        return Fit([max(0, min(state.shortest, target - sum(shortest_of(states[:at]))))"
+          " for at, state in enumerate(states)], 0)", drifts=True),
+    Fault("ones where the target is not above the sum of the shortest", DURATIONS, SHORTEST,
+          "        return Fit([1] * len(states), 0)", drifts=True),
+    Fault("a target not above the sum divided among the states", DURATIONS, SHORTEST,
+          "        return Fit([max(1, target // len(states))] * len(states), 0)", drifts=True),
+    Fault("changes told where there is nothing to fit", DURATIONS, SHORTEST,
+          "        return Fit(shortest_of(states), sum(shortest_of(states)) - target)"),
     Fault("a state's natural length at least, in a group at its shortest", DURATIONS, SHORTEST,
-          "        return Fit(estimate(means, varis, 0.0), 0)", drifts=True),
+          "        return Fit(estimate(states, 0.0), 0)", drifts=True),
     Fault("a step too few upwards", DURATIONS, STEPS,
           "    steps = target - sum(durations) - (target > sum(durations))", drifts=True),
     Fault("a step too few downwards", DURATIONS, STEPS,
@@ -258,21 +353,25 @@ FAULTS = [
     Fault("an alignment's tail dropped", DURATIONS, TAIL, "    tail = []"),
     Fault("a tail dropped where no end is given", DURATIONS, TAIL, TAIL + " if fitted else []"),
     Fault("a tail with the last group's rho", DURATIONS, TAIL,
-          "    tail = estimate(means[fitted:], varis[fitted:], ieee.divide(sum(group.durations)"
-          " - ieee.total(means[first:last]), ieee.total(varis[first:last])) if fitted else 0.0)"),
+          "    tail = estimate(states[fitted:], ieee.divide(sum(group.durations)"
+          " - ieee.total([state.mean for state in states[first:last]]),"
+          " ieee.total([state.vari for state in states[first:last]])) if fitted else 0.0)"),
     Fault("a tail fitted to its summed means", DURATIONS, TAIL,
-          "    tail = fit(means[fitted:], varis[fitted:], ieee.total(means[fitted:])).durations"),
+          "    tail = fit(states[fitted:], ieee.total([state.mean for state in states[fitted:]])).durations"),
     Fault("a tail's means without their variances", DURATIONS, TAIL,
-          "    tail = [ieee.frames(mean) for mean in means[fitted:]]"),
+          "    tail = [max(state.shortest, ieee.frames(state.mean)) for state in states[fitted:]]"),
+    Fault("a tail at least a frame a state, not its shortest", DURATIONS, TAIL, f"    tail = [{NATURAL}[fitted:]]"),
+    Fault("a tail at its shortest", DURATIONS, TAIL, "    tail = shortest_of(states[fitted:])"),
+    Fault("a tail with the shortest of the list's first states", DURATIONS, TAIL,
+          TAIL.replace("states[fitted:]", OTHER_SHORTEST.format(at="at", first="fitted", last=""))),
     Fault("no 8 for a tail", DURATIONS, TAIL,
-          "    return Fit(whole.durations + [ieee.frames(mean + 0.0 * vari)"
-          " for mean, vari in list(zip(means, varis))[fitted:]], whole.changes, whole.walked)"),
+          "    return Fit(whole.durations + [state.frames(0.0) for state in states[fitted:]], whole.changes)"),
     Fault("running total without the tail", DURATIONS,
           "    if sum(whole.durations) + sum(tail) > MAX_FRAMES:", "    if sum(tail) > MAX_FRAMES:"),
     Fault("a tail's 8 before a group's 7", DURATIONS,
           "    whole = Fit([], 0)",
           "    whole, first = Fit([], 0), max((i for i, e in enumerate(ends, 1) if e >= 0), default=0) * nstate;"
-          " estimate(means[first:], varis[first:], 0.0)"),
+          " estimate(states[first:], 0.0)"),
     Fault("voiced at the threshold", TRAJECTORY,
           "    return expand([weight > threshold for weight in weights], durations)",
           "    return expand([weight >= threshold for weight in weights], durations)"),
@@ -377,6 +476,35 @@ FAULTS = [
     Fault("a job's version in 8 bits", JOBS,
           '        value = int.from_bytes(data[place : place + size], "little")',
           '        value = int.from_bytes(data[place : place + (1 if place == 3 else size)], "little")'),
+    Fault("a job's version with its high byte first", JOBS, VALUE,
+          '        value = int.from_bytes(data[place : place + size], "big" if place == 3 else "little")'),
+    Fault("version 2 refused with 13", JOBS, VERSIONS, VERSIONS.replace("SHORTEST_VERSION", "FIRST_VERSION")),
+    Fault("version 1 refused with 13", JOBS, VERSIONS, VERSIONS.replace("FIRST_VERSION", "SHORTEST_VERSION")),
+    Fault("version 3 taken", JOBS, VERSIONS,
+          VERSIONS.replace("SHORTEST_VERSION", "3") + " *(STATE.update({3: PAIR + SHORTEST}) or []),"),
+    Fault("version 0 taken", JOBS, VERSIONS,
+          VERSIONS.replace("FIRST_VERSION", "0") + " *(STATE.update({0: PAIR}) or []),"),
+    Fault("version 2 with 16 bytes a state", JOBS, STATE_SIZES, STATE_SIZES.replace("PAIR + SHORTEST", "PAIR")),
+    Fault("version 1 with 20 bytes a state", JOBS, STATE_SIZES, STATE_SIZES.replace("N: PAIR,", "N: PAIR + SHORTEST,")),
+    Fault("version 2 with a shortest in 64 bits", JOBS, STATE_SIZES, STATE_SIZES.replace("+ SHORTEST", "+ 8")),
+    Fault("version 1 read with zeros", JOBS, FIRST_SHORTEST, "    shortest = [0] * count"),
+    Fault("version 2 read with ones", JOBS, JOB_SHORTEST, "        shortest = [1] * count"),
+    Fault("a job's shortest left unused", JOBS, JOB_STATES, JOB_STATES.replace("job.shortest", "[1] * len(job.means)")),
+    Fault("a shortest before its pair", JOBS, JOB_SHORTEST,
+          "        pairs = [struct.unpack_from('<dd', data, place + 4) for place in places];"
+          " shortest = [struct.unpack_from('<I', data, place)[0] for place in places]"),
+    Fault("all pairs, then every shortest", JOBS, JOB_SHORTEST,
+          "        pairs = [struct.unpack_from('<dd', data, HEAD + 16 * at) for at in range(count)];"
+          " shortest = [struct.unpack_from('<I', data, HEAD + 16 * count + 4 * at)[0] for at in range(count)]"),
+    Fault("a shortest with its high bytes first", JOBS, JOB_SHORTEST, JOB_SHORTEST.replace("little", "big")),
+    Fault("a shortest in 8 bits", JOBS, JOB_SHORTEST, JOB_SHORTEST.replace("PAIR + SHORTEST", "PAIR + 1")),
+    Fault("a shortest in 16 bits", JOBS, JOB_SHORTEST, JOB_SHORTEST.replace("PAIR + SHORTEST", "PAIR + 2")),
+    Fault("a shortest in 24 bits", JOBS, JOB_SHORTEST, JOB_SHORTEST.replace("PAIR + SHORTEST", "PAIR + 3")),
+    Fault("a surplus told by the first version's length", JOBS, WHOLE,
+          "        return Damage(WRONG_LENGTH, min(len(data), HEAD + PAIR * count))"),
+    Fault("a shortest of 0 told as damage", JOBS, WHOLE + "\n    return None",
+          WHOLE + "\n    zeros = [at for at in range(HEAD + PAIR, whole, 20) if version == 2 and not any(data[at : at + 4])]"
+          "\n    return Damage(WRONG_LENGTH, zeros[0]) if zeros else None"),
     Fault("a job of 1,024 states refused", JOBS,
           "    Field(5, 2, 0, MAX_COUNT, TOO_MANY_STATES),", "    Field(5, 2, 0, MAX_COUNT - 1, TOO_MANY_STATES),"),
     Fault("the last wrong byte of the mark told", JOBS, WRONG,
@@ -390,14 +518,14 @@ FAULTS = [
           "    for place, size, least, most, number in [FIELDS[3], *FIELDS]:"),
     Fault("half a version told as 13", JOBS, ENDS, "        if len(data) <= place:"),
     Fault("a version's place at its second byte", JOBS, WRONG,
-          "            return Damage(number, place + (number == WRONG_VERSION and data[3] == VERSION))"),
+          "            return Damage(number, place + (number == WRONG_VERSION and data[3] in (1, 2)))"),
     Fault("a count's place at its second byte", JOBS, WRONG,
           "            return Damage(number, place + (number == TOO_MANY_STATES))"),
     Fault("too many states told by the length", JOBS,
           "        if not least <= value <= most:", "        if not least <= value <= most and place < 5:"),
     Fault("a file that ends in its head told before its fields", JOBS, ENDS, "        if len(data) < HEAD:"),
     Fault("a file longer than any job told by its length", JOBS, FIELD,
-          "    for place, size, least, most, number in FIELDS if len(data) <= 16_399 else FIELDS[4:]:"),
+          "    for place, size, least, most, number in FIELDS if len(data) <= 20_495 else FIELDS[4:]:"),
     Fault("a surplus told before a wrong version", JOBS, WRONG,
           '            return Damage(number, place) if number != 13 or len(data) <= (whole := HEAD + PAIR *'
           ' int.from_bytes(data[5:7], "little")) else Damage(WRONG_LENGTH, whole)'),
@@ -412,9 +540,9 @@ FAULTS = [
           "    return WRONG_LENGTH if number == 9 or number >= 12 else number"),
     Fault("the old number by the last 8 bits", JOBS, OLD,
           "    return WRONG_LENGTH if number % 256 in DAMAGES else number"),
-    Fault("a job's means, then its variances", JOBS,
-          "    return Job(speed, numbers[0::2], numbers[1::2])",
-          "    return Job(speed, numbers[:count], numbers[count:])"),
+    Fault("a job's means, then its variances", JOBS, JOB_PAIRS,
+          "    pairs = [(struct.unpack_from('<d', data, HEAD + 8 * at)[0],"
+          " struct.unpack_from('<d', data, HEAD + 8 * (count + at))[0]) for at in range(count)]"),
     Fault("a part of no bytes ends the job", LINKS,
           "            self.keep(self.came() + data)",
           '            self.keep(self.came() + data) if data else self.write(0, b"")'),
@@ -444,6 +572,14 @@ FAULTS = [
           "        return number == 0 or number > KEPT + 1", "        return number == 0"),
     Fault("a full memory as ended", LINKS,
           "        return number == 0 or number > KEPT + 1", "        return number == 0 or number > KEPT"),
+    Fault("a link for jobs of version 1 alone", LINKS, KEPT_BYTES, "KEPT = 16_400"),
+    Fault("a link for 1,024 states without the byte behind", LINKS, KEPT_BYTES, KEPT_BYTES.replace(" + 1", "")),
+    Fault("a memory of the size before taken", LINKS,
+          "        return len(self.memory) < SIZE", "        return len(self.memory) < 16_408"),
+    Fault("a number above 16,401 as ended", LINKS, LINK_ENDED, "        return number == 0 or number > 16_401"),
+    Fault("as many bytes kept as before", LINKS, "        kept = job[:KEPT]", "        kept = job[:16_400]"),
+    Fault("an end that is refused with 15 is no end", LINKS,
+          '        self.write(0, b"")', '        self.write(self.number() if answer(job)[0] == 15 else 0, b"")'),
     Fault("a memory of a byte too few taken", LINKS,
           "        return len(self.memory) < SIZE", "        return len(self.memory) < SIZE - 1"),
     Fault("a replaced voice moves to the end", SETTINGS, KEPT,
@@ -809,9 +945,49 @@ FAULTS = [
           "    return {'refusal': 0, 'spans': spans_in(data) + [0] * (room - 2 * count), 'words': count}"),
     Fault("the number of read frames for that of words", WORDS, READ_SPANS,
           READ_SPANS.replace('"words": count', '"words": 2 * count')),
-    Fault("the largest refusal that applies", REFUSALS,
-          "    return next((number for number in sorted(checks) if checks[number]()), 0)",
+    Fault("the largest refusal that applies", REFUSALS, IN_ORDER,
           "    return next((number for number in sorted(checks, reverse=True) if checks[number]()), 0)"),
+    Fault("15 before 6", REFUSALS, IN_ORDER,
+          IN_ORDER.replace("sorted(checks)", "sorted(checks, key=lambda number: 5.5 if number == 15 else number)")),
+    Fault("15 before 4", REFUSALS, IN_ORDER,
+          IN_ORDER.replace("sorted(checks)", "sorted(checks, key=lambda number: 3.5 if number == 15 else number)")),
+    Fault("15 before 3", REFUSALS, IN_ORDER,
+          IN_ORDER.replace("sorted(checks)", "sorted(checks, key=lambda number: 2.5 if number == 15 else number)")),
+    Fault("15 after 7", REFUSALS, FIT_15,
+          FIT_15.replace("),", ') and not case.fields.get("length", 0.0) >= 65536.5,')),
+    Fault("15 after 7 and 8", ANSWER, BEFORE_AND_WORK,
+          "    if number and number != 15:\n        return number, {}\n    try:\n"
+          "        values = ieee.one_nan(ANSWERS[case.kind](case)); return (number, {}) if number else (0, values)"),
+    Fault("a shortest of 0 taken", REFUSALS, BAD_SHORTEST, "    return sum(shortest) > MAX_FRAMES"),
+    Fault("a first shortest of 0 alone refused", REFUSALS, BAD_SHORTEST,
+          BAD_SHORTEST.replace("0 in shortest", "shortest[:1] == [0]")),
+    Fault("a last shortest of 0 taken", REFUSALS, BAD_SHORTEST,
+          BAD_SHORTEST.replace("0 in shortest", "0 in shortest[:-1]")),
+    Fault("a shortest of 1 refused", REFUSALS, BAD_SHORTEST,
+          BAD_SHORTEST.replace("0 in shortest", "any(number < 2 for number in shortest)")),
+    Fault("15 with no states", REFUSALS, BAD_SHORTEST, BAD_SHORTEST + " or not shortest"),
+    Fault("shortest durations of 65,536 together refused", REFUSALS, BAD_SHORTEST, BAD_SHORTEST.replace(">", ">=")),
+    Fault("shortest durations of 65,537 together taken", REFUSALS, BAD_SHORTEST,
+          BAD_SHORTEST.replace("MAX_FRAMES", "MAX_FRAMES + 1")),
+    Fault("the shortest summed in 16 bits", REFUSALS, BAD_SHORTEST,
+          BAD_SHORTEST.replace("sum(shortest)", "sum(shortest) % 2**16")),
+    Fault("the shortest summed in 32 bits", REFUSALS, BAD_SHORTEST,
+          BAD_SHORTEST.replace("sum(shortest)", "sum(shortest) % 2**32")),
+    Fault("each shortest held to the limit by itself", REFUSALS, BAD_SHORTEST,
+          BAD_SHORTEST.replace("sum(shortest)", "max([0, *shortest])")),
+    Fault("15 group by group", REFUSALS, LABELS_AGREE,
+          LABELS_AGREE + "\n        15: lambda: any(bad_shortest(case['shortest'][at : at + nstate])"
+          " for at in range(0, n, nstate)),"),
+    Fault("15 without the tail", REFUSALS, LABELS_AGREE,
+          LABELS_AGREE + "\n        15: lambda: bad_shortest(case['shortest'][: nstate * max("
+          "(label for label, end in enumerate(case['ends'], 1) if end >= 0), default=0)]),"),
+    Fault("shortest durations too few or too many taken", REFUSALS, ONE_A_STATE,
+          '        4: lambda: len(case["varis"]) != n,'),
+    Fault("shortest durations too many taken", REFUSALS, ONE_A_STATE,
+          ONE_A_STATE.replace('len(case["shortest"]) !=', 'len(case["shortest"]) <')),
+    Fault("shortest durations too few or too many told as 15", REFUSALS, FIT_4_TO_15,
+          FIT_4_TO_15.replace(' or len(case["shortest"]) != n', "")
+          .replace("15: lambda:", '15: lambda: len(case["shortest"]) != n or')),
     Fault("a damaged job's room looked at first", REFUSALS,
           "        return {damage.number: lambda: True}  # before all others",
           '        return {damage.number: lambda: True, 6: lambda: 16 * min(case["out"], case["work"])'
@@ -829,6 +1005,14 @@ FAULTS = [
           'out=case["out"] + case["nstate"]'
           ' * next((i for i, e in enumerate(case["ends"][::-1]) if e >= 0), len(case["ends"])))'),
     Fault("work space untouched at 8", EXITS, "ZEROING_REFUSALS = (7, 8)", "ZEROING_REFUSALS = (7,)"),
+    Fault("work space zeroed at 15", EXITS, "ZEROING_REFUSALS = (7, 8)", "ZEROING_REFUSALS = (7, 8, 15)"),
+    Fault("the shortest handed out at 15", EXITS, LEFT,
+          LEFT + ' | ({"out": written_u32(list(case["shortest"]), case["out"])}'
+          ' if refusal == 15 and "shortest" in case.fields else {})'),
+    Fault("no changes told at 15", EXITS, LEFT, LEFT + ' | ({"changes": 0} if refusal == 15 else {})'),
+    Fault("a job's states told at 15", EXITS, LEFT,
+          LEFT + ' | ({"states": state_count(case)} if refusal == 15 and case.kind == "job" else {})'),
+    Fault("a place for 15", EXITS, LEFT, LEFT + ' | ({"place": 3} if refusal == 15 else {})'),
     Fault("a refused trajectory's counts set to 0", EXITS, "    fields = untouched(case)",
           '    fields = untouched(case) | ({"high": 0, "low": 0} if refusal else {})'),
     Fault("a trajectory's counts set to 0 before 6", EXITS, "    fields = untouched(case)",

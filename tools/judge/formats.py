@@ -47,9 +47,10 @@ class Kind:
 
 
 WINDOWS = [("widths", "u32s"), ("coefficients", "f64s")]
-PAIRS = [("means", "f64s"), ("varis", "f64s")]
+# Each state's pair, and the fewest frames that it may have.
+STATES = [("means", "f64s"), ("varis", "f64s"), ("shortest", "u32s")]
 FIT_ROOM = [("out", ROOM), ("work", ROOM)]
-ALIGNED = [*PAIRS, ("nstate", "u32"), ("ends", "f64s"), *FIT_ROOM]
+ALIGNED = [*STATES, ("nstate", "u32"), ("ends", "f64s"), *FIT_ROOM]
 ALIGNED_VALUES = [("written", "u32"), ("changes", "u32"), ("durations", "u32s")]
 FIT_EXIT = [("out", "u32s"), ("work", "u32s")]
 REFUSAL = ("refusal", "u32")
@@ -79,13 +80,13 @@ KINDS = {
     ),
     "fit": Kind(
         3,
-        [*PAIRS, ("length", "f64"), *FIT_ROOM],
+        [*STATES, ("length", "f64"), *FIT_ROOM],
         [("changes", "u32"), ("durations", "u32s")],
         [REFUSAL, ("changes", "u32"), *FIT_EXIT],
     ),
     "speed": Kind(
         4,
-        [*PAIRS, ("speed", "f64"), *FIT_ROOM],
+        [*STATES, ("speed", "f64"), *FIT_ROOM],
         [("changes", "u32"), ("durations", "u32s")],
         [REFUSAL, ("changes", "u32"), *FIT_EXIT],
     ),

@@ -4,14 +4,14 @@ from collections.abc import Callable, Iterator
 from dataclasses import replace
 from functools import partial
 
-from .broken_jobs import COUNT_AT, SPEED_AT, count_of, put, put_number
+from .broken_jobs import COUNT_AT, SPEED_AT, VERSION_AT, count_of, put, put_number, state_size, version_of
 from .broken_timing import numbers_of, packed, put_long
 from .formats import END, KINDS, PART, ROOM, Case, LinkCall, StoreCall, link_calls, link_case, store_calls, store_case
 from .reading import settings, words
-from .reading.jobs import HEAD, PAIR
+from .reading.jobs import FIRST_VERSION, HEAD, PAIR, SHORTEST_VERSION
 
 # Which lists hold one number a state, so that a state leaves them all at once.
-STATE_LISTS = ("means", "varis", "weights", "durations", "switches")
+STATE_LISTS = ("means", "varis", "shortest", "weights", "durations", "switches")
 SIMPLE = [0.0, 1.0, 2.0]
 
 # So many numbers of a store, records of a settings file, or words are tried one by one.
@@ -119,10 +119,21 @@ def smaller_numbers(case: Case) -> Iterator[Case]:
             for place, number in enumerate(value):
                 for simple in simpler(number):
                     yield case.with_fields(**{name: [*value[:place], simple, *value[place + 1 :]]})
+        elif name == "shortest":
+            yield from smaller_shortest(case)
         elif form == "u32s":
             for place, number in enumerate(value[:40]):
                 for less in smaller_wholes(number):
                     yield case.with_fields(**{name: [*value[:place], less, *value[place + 1 :]]})
+
+
+def smaller_shortest(case: Case) -> Iterator[Case]:
+    """All ones, or one number nearer to 1; so a 0 stays only where it is what differs."""
+    shortest = case["shortest"]
+    yield case.with_fields(shortest=[1] * len(shortest))
+    for place, number in enumerate(shortest[:40]):
+        for less in [1 + less for less in smaller_wholes(number - 1)] if number else [1]:
+            yield case.with_fields(shortest=[*shortest[:place], less, *shortest[place + 1 :]])
 
 
 def smaller_wholes(number: int) -> list[int]:
@@ -141,16 +152,43 @@ def simpler(number: float) -> list[float]:
 SOUND = b"SPJ\x01\0"
 
 
-def smaller_job(case: Case) -> Iterator[Case]:
-    """A job's bytes cut, with fewer states, with a sound byte in front, or with zeros behind the count."""
-    data = case["bytes"]
-    smaller = [data[:length] for length in smaller_wholes(len(data))]
-    for count in smaller_wholes(count_of(data)):
+def smaller_bytes(data: bytes) -> Iterator[bytes]:
+    """A job's bytes cut, with fewer or simpler states, with a sound byte in front, or with zeros behind the count."""
+    yield from (data[:length] for length in smaller_wholes(len(data)))
+    yield from fewer_states_of_job(data)
+    yield from (put(data, place, SOUND[place : place + 1]) for place in range(len(SOUND)))
+    yield from simpler_states_of_job(data)
+    if version_of(data) != SHORTEST_VERSION:
+        yield from (data[:kept].ljust(len(data), b"\0") for kept in (SPEED_AT, HEAD))
+
+
+def fewer_states_of_job(data: bytes) -> Iterator[bytes]:
+    size, old = state_size(data), count_of(data)
+    for count in smaller_wholes(old):
         fewer = put_number(data, COUNT_AT, count)
-        smaller += [without(fewer, HEAD, PAIR * (count_of(data) - count)), fewer]
-    smaller += [put(data, place, SOUND[place : place + 1]) for place in range(len(SOUND))]
-    smaller += [data[:kept].ljust(len(data), b"\0") for kept in (SPEED_AT, HEAD)]
-    yield from (case.with_fields(bytes=less) for less in smaller)
+        yield fewer
+        for first in range(count + 1) if count < FEW else (0, count // 2, count):
+            yield without(fewer, HEAD + size * first, size * (old - count))
+
+
+def simpler_states_of_job(data: bytes) -> Iterator[bytes]:
+    """Of the second version: without the shortest, as the first has it; with zeros for the pairs; or with a smaller shortest,
+    1 at least."""
+    if version_of(data) != SHORTEST_VERSION:
+        return
+    size = state_size(data)
+    pairs = [data[place : place + PAIR] for place in range(HEAD, len(data), size)]
+    shortest = [data[place + PAIR : place + size] for place in range(HEAD, len(data), size)]
+    yield put_number(data[:HEAD], VERSION_AT, FIRST_VERSION) + b"".join(pairs)
+    yield data[:HEAD] + b"".join(bytes(len(pair)) + frames for pair, frames in zip(pairs, shortest))
+    for place, frames in enumerate(shortest[:FEW]):
+        number = int.from_bytes(frames, "little")
+        for less in smaller_wholes(number - 1) if number else ():
+            yield put(data, HEAD + size * place + PAIR, (1 + less).to_bytes(len(frames), "little"))
+
+
+def smaller_job(case: Case) -> Iterator[Case]:
+    yield from (case.with_fields(bytes=less) for less in smaller_bytes(case["bytes"]))
 
 
 # From these bytes on a part is made zeros: all of it, or what is behind a job's mark, count or speed.
@@ -170,6 +208,8 @@ def smaller_call(one: LinkCall) -> Iterator[LinkCall]:
     if one.call == PART:
         yield from (LinkCall(PART, part=one.part[:size]) for size in smaller_wholes(len(one.part)))
         yield from (LinkCall(PART, part=one.part[:size].ljust(len(one.part), b"\0")) for size in PLAIN_FROM)
+        for smaller in (fewer_states_of_job, simpler_states_of_job):
+            yield from (LinkCall(PART, part=part) for part in smaller(one.part))
     if one.call == END:
         yield from (LinkCall(END, out=out, work=one.work) for out in smaller_wholes(one.out))
         yield from (LinkCall(END, out=one.out, work=work) for work in smaller_wholes(one.work))
@@ -362,8 +402,9 @@ def one_label_fewer(case: Case) -> Iterator[Case]:
 def one_state_a_label(case: Case) -> Iterator[Case]:
     """A chapter with the first state of each label alone."""
     nstate = case["nstate"]
-    if 1 < nstate and len(case["means"]) == len(case["varis"]) == len(case["ends"]) * nstate:
-        yield case.with_fields(nstate=1, means=case["means"][::nstate], varis=case["varis"][::nstate])
+    lists = [name for name in STATE_LISTS if name in case.fields]
+    if 1 < nstate and all(len(case[name]) == len(case["ends"]) * nstate for name in lists):
+        yield case.with_fields(nstate=1, **{name: case[name][::nstate] for name in lists})
 
 
 GENERAL = (without_states, narrower, shorter_lists, smaller_numbers)

@@ -5,7 +5,7 @@ from random import Random
 
 from .. import damage
 from ..formats import Case
-from . import chapters, durations, links, operations, settings, spool, trajectories, words
+from . import chapters, durations, links, operations, settings, shortest, spool, trajectories, words
 from .common import with_odd_nan
 
 GENERATORS: dict[str, Callable[[Random, bool], Case]] = {
@@ -44,7 +44,7 @@ ODD_NAN_SHARE = 0.01
 def make(seed: int, kind: str, index: int) -> Case:
     """Case `index` of a run: mostly well shaped, some damaged, few with another NaN."""
     rng = Random(f"{seed} {kind} {index}")
-    case = GENERATORS[kind](rng, False)
+    case = shortest.varied(rng, GENERATORS[kind](rng, False))
     if rng.random() < DAMAGED_SHARE:
         case = damage.damaged(rng, case)
     if rng.random() < ODD_NAN_SHARE:
@@ -55,7 +55,7 @@ def make(seed: int, kind: str, index: int) -> Case:
 def make_damaged(seed: int, kind: str, index: int) -> Case:
     """A damaged case; the bytes of a job, over a link too, and of a settings or timing file are, whatever else is."""
     rng = Random(f"{seed} {kind} {index}")
-    case = GENERATORS[kind](rng, False)
+    case = shortest.varied(rng, GENERATORS[kind](rng, False))
     return damage.damaged(rng, damage.changed_bytes(rng, case))
 
 
@@ -65,5 +65,5 @@ def make_gap(seed: int, kind: str, index: int) -> Case:
 
 
 def make_small(seed: int, kind: str, index: int) -> Case:
-    """A well-shaped case small enough to store."""
+    """A well-shaped case small enough to store; every shortest duration is 1, and a job of the first version."""
     return GENERATORS[kind](Random(f"{seed} {kind} {index}"), True)

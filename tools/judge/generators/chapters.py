@@ -216,6 +216,7 @@ def chapter_case(rng: Random, small: bool) -> Case:
     return Case("chapter", {
         "means": means,
         "varis": varis,
+        "shortest": [1] * (labels * nstate),
         "nstate": nstate,
         "ends": ends_for(rng, times, nstate),
         "out": room(rng, labels * nstate),

@@ -1,7 +1,8 @@
-"""Fits, speeds and alignments."""
+"""Fits, speeds and alignments; `shortest` gives their states other shortest durations than 1."""
 
 import math
 from random import Random
+from typing import NamedTuple
 
 from ..formats import Case
 from ..numbers import LENGTHS, mood, numbers, positives, special
@@ -75,6 +76,7 @@ def fit_case(rng: Random, small: bool) -> Case:
     return Case("fit", {
         "means": means,
         "varis": varis,
+        "shortest": [1] * count,
         "length": length_for(rng, means, varis),
         "out": room(rng, count),
         "work": room(rng, count),
@@ -95,6 +97,7 @@ def speed_case(rng: Random, small: bool) -> Case:
     return Case("speed", {
         "means": means,
         "varis": varis,
+        "shortest": [1] * count,
         "speed": speed,
         "out": room(rng, count),
         "work": room(rng, count),
@@ -129,6 +132,7 @@ def align_case(rng: Random, small: bool) -> Case:
     case = Case("align", {
         "means": means,
         "varis": varis,
+        "shortest": [1] * (labels * nstate),
         "nstate": nstate,
         "ends": ends_for(rng, means, nstate),
         "out": room(rng, labels * nstate),
@@ -141,22 +145,59 @@ def align_case(rng: Random, small: bool) -> Case:
 GAP_COSTS = 4_000
 
 
-def gap_states(rng: Random, count: int) -> tuple[list[float], list[float], int]:
-    """Pairs and a target with many steps between them, most with ties."""
+class Gap(NamedTuple):
+    """States, the total of their estimates with rho 0, and a target with many steps between them, most with ties."""
+
+    means: list[float]
+    varis: list[float]
+    shortest: list[int]
+    natural: float
+    target: int
+
+
+def gap_states(rng: Random, count: int) -> Gap:
+    return gap_of_ones(rng, count) if rng.random() < 0.6 else gap_at_the_shortest(rng, count)
+
+
+def gap_of_ones(rng: Random, count: int) -> Gap:
     steps = rng.randint(0, max(20, GAP_COSTS // count))
     varis = rng.choice([[1.0], [0.5, 1.0, 2.0], [1.0, 1.0, -1.0], [0.0, 1.0]])
     if rng.random() < 0.3:
         varis = [rng.uniform(0.5, 20.0) for _ in range(count)]
     if rng.random() < 0.3:
         # Without variances rho is infinite or NaN, every estimate 1, and all costs are equal.
-        return positives(rng, "tied", count), [0.0] * count, count + steps
+        means = positives(rng, "tied", count)
+        return Gap(means, [0.0] * count, [1] * count, natural_total(means), count + steps)
     # Every other state is estimated too long: the means of the short ones make rho 0.
     long = (count + 1) // 2
     each = steps // long + rng.randint(2, 4)
     short = 1.0 - steps / max(count - long, 1)
     means = [float(each) if state % 2 == 0 else short for state in range(count)]
     rng.shuffle(means)
-    return means, [rng.choice(varis) for _ in range(count)], long * each + count - long - steps
+    target = long * each + count - long - steps
+    return Gap(means, [rng.choice(varis) for _ in range(count)], [1] * count, natural_total(means), target)
+
+
+def gap_at_the_shortest(rng: Random, count: int) -> Gap:
+    """Only few states are above their shortest, in many cases one, and all frames too many are theirs to give."""
+    steps = rng.randint(0, max(20, GAP_COSTS // count))
+    shortest = [rng.choice([1, 2, 2, 3, rng.randint(1, 9)]) for _ in range(count)]
+    if rng.random() < 0.2:
+        # Without variances every state starts at its shortest, or at a frame more or less than that.
+        means = [float(number + rng.choice([-1, 0, 0, 1])) for number in shortest]
+        natural = sum(map(max, shortest, means))
+        return Gap(means, [0.0] * count, shortest, natural, sum(shortest) + max(1, steps))
+    free = rng.sample(range(count), min(count, rng.choice([1, 1, 2, 3, max(1, count // 4)])))
+    # The target is some frames above the sum of the shortest, or just one, and the estimates so many steps above that.
+    left = rng.choice([1, 1, 2, rng.randint(1, 20)])
+    frames = list(shortest)
+    for step in range(steps + left):
+        frames[rng.choice(free) if step >= len(free) else free[step]] += 1
+    # The others would be shorter, were it not for their shortest: by so much that rho is 0.
+    others = max(1, count - len(free))
+    means = [float(number) if state in free else number - steps / others for state, number in enumerate(frames)]
+    varis = rng.choice([[1.0], [0.5, 1.0, 2.0], [1.0, 1.0, -1.0], [rng.uniform(0.5, 20.0) for _ in range(8)]])
+    return Gap(means, [rng.choice(varis) for _ in range(count)], shortest, float(sum(frames)), sum(shortest) + left)
 
 
 def gap_count(rng: Random) -> int:
@@ -165,28 +206,28 @@ def gap_count(rng: Random) -> int:
 
 def gap_fit(rng: Random) -> Case:
     count = gap_count(rng)
-    means, varis, target = gap_states(rng, count)
-    lists = {"means": means, "varis": varis, "length": float(target)}
+    gap = gap_states(rng, count)
+    lists = {"means": gap.means, "varis": gap.varis, "shortest": gap.shortest, "length": float(gap.target)}
     return Case("fit", {**lists, "out": room(rng, count), "work": room(rng, count)})
 
 
 def gap_speed(rng: Random) -> Case:
     count = gap_count(rng)
-    means, varis, target = gap_states(rng, count)
-    lists = {"means": means, "varis": varis, "speed": natural_total(means) / target}
+    gap = gap_states(rng, count)
+    lists = {"means": gap.means, "varis": gap.varis, "shortest": gap.shortest, "speed": gap.natural / gap.target}
     return Case("speed", {**lists, "out": room(rng, count), "work": room(rng, count)})
 
 
 def gap_align(rng: Random) -> Case:
     """Some groups of labels, each closed by its last one, and in some cases a tail."""
     nstate = rng.choice([1, 2, 5, 16])
-    means, varis, ends, time = [], [], [], 0
+    means, varis, shortest, ends, time = [], [], [], [], 0
     for closed in [True] * rng.randint(1, 3) + [False] * rng.choice([0, 0, 1]):
         labels = -(-gap_count(rng) // nstate)
-        group_means, group_varis, target = gap_states(rng, labels * nstate)
-        time += target
-        means, varis = means + group_means, varis + group_varis
+        gap = gap_states(rng, labels * nstate)
+        time += gap.target
+        means, varis, shortest = means + gap.means, varis + gap.varis, shortest + gap.shortest
         ends += [rng.choice(OPEN_ENDS) for _ in range(labels - 1)]
         ends.append(float(time) if closed else rng.choice(OPEN_ENDS))
-    lists = {"means": means, "varis": varis, "nstate": nstate, "ends": ends}
+    lists = {"means": means, "varis": varis, "shortest": shortest, "nstate": nstate, "ends": ends}
     return Case("align", {**lists, "out": room(rng, len(means)), "work": room(rng, len(means))})

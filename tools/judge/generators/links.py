@@ -1,4 +1,4 @@
-"""Links: memories of any content, and jobs that come in parts."""
+"""Links: memories of any content, and jobs of both versions that come in parts."""
 
 import struct
 from random import Random
@@ -9,12 +9,19 @@ from ..numbers import positive
 from ..reading import jobs
 from ..reading.links import KEPT, NUMBER, SIZE
 from .common import room
+from .shortest import second_version, varied
 from .spool import job_case
 
+# Where the largest job was one of the first version, one more than its bytes were kept.
+KEPT_BEFORE = jobs.HEAD + jobs.PAIR * jobs.MAX_COUNT + 1
+SIZE_BEFORE = NUMBER + KEPT_BEFORE
+
 LENGTHS = [0, 1, NUMBER - 1, NUMBER, NUMBER + 1, NUMBER + 15, SIZE - 2, SIZE - 1, SIZE, SIZE + 1, SIZE + 100]
+LENGTHS += [SIZE_BEFORE - 1, SIZE_BEFORE, SIZE_BEFORE + 1]
 
 # Numbers in front of a memory: none, those of jobs, both sides of the largest, and more than fit in 16, 32 and 63 bits.
 NUMBERS = [0, 1, 2, 3, 16, 48, KEPT - 1, KEPT, KEPT + 1, KEPT + 2, 2**16, 2**16 + 16, 2**32 + 1, 2**63, 2**64 - 1]
+NUMBERS += [KEPT_BEFORE, KEPT_BEFORE + 1, KEPT_BEFORE + 2]
 
 # Jobs up to this many bytes may come byte by byte.
 BYTE_BY_BYTE = 80
@@ -23,7 +30,7 @@ BYTE_BY_BYTE = 80
 def a_job(rng: Random, small: bool) -> Case:
     """Good or damaged, with room or with too little."""
     shape = rng.random()
-    job = largest(rng) if shape < 0.02 else job_case(rng, small or rng.random() < 0.97)
+    job = largest(rng) if shape < 0.02 else varied(rng, job_case(rng, small or rng.random() < 0.97))
     if shape < 0.04:
         return job.with_fields(bytes=broken_jobs.too_long(rng, job["bytes"]))
     if shape < 0.12:
@@ -33,8 +40,11 @@ def a_job(rng: Random, small: bool) -> Case:
 
 def largest(rng: Random) -> Case:
     """A job of as many states as there may be, all alike; at speed 1 it is soon answered."""
-    mean, vari = positive(rng, "decimal"), positive(rng, "decimal")
-    data = jobs.MARK + struct.pack("<HHd", 1, jobs.MAX_COUNT, 1.0) + struct.pack("<dd", mean, vari) * jobs.MAX_COUNT
+    speed, pair = struct.pack("<d", 1.0), struct.pack("<dd", positive(rng, "decimal"), positive(rng, "decimal"))
+    data = jobs.MARK + struct.pack("<HH", jobs.FIRST_VERSION, jobs.MAX_COUNT) + speed + pair * jobs.MAX_COUNT
+    if rng.random() < 0.7:
+        # 64 frames a state are as many as there may be.
+        data = second_version(speed, [pair] * jobs.MAX_COUNT, [rng.choice([1, 2, 64, 64, 65])] * jobs.MAX_COUNT)
     return Case("job", {"bytes": data, "out": room(rng, jobs.MAX_COUNT), "work": room(rng, jobs.MAX_COUNT)})
 
 
@@ -69,7 +79,7 @@ def job_calls(rng: Random, small: bool) -> list[LinkCall]:
 
 def late_calls(rng: Random) -> list[LinkCall]:
     """Calls after an end, mostly none."""
-    part = LinkCall(PART, part=rng.choice([b"", b"S", b"SPJ\x01\0\0\0", bytes(KEPT)]))
+    part = LinkCall(PART, part=rng.choice([b"", b"S", b"SPJ\x01\0\0\0", b"SPJ\x02\0\0\0", bytes(KEPT)]))
     end = LinkCall(END, out=rng.randint(0, 3), work=rng.randint(0, 3))
     return [rng.choice([part, end]) for _ in range(rng.choice([0, 0, 0, 0, 0, 0, 1, 3]))]
 
@@ -83,7 +93,7 @@ def content(rng: Random, length: int, small: bool) -> bytes:
         return bytes([rng.choice([0x01, 0xA5, 0xFF])]) * length
     if shape < 0.5:
         return rng.randbytes(length)
-    job = job_case(rng, small)["bytes"] if rng.random() < 0.5 else b""
+    job = varied(rng, job_case(rng, small))["bytes"] if rng.random() < 0.5 else b""
     number = len(job) + 1 if rng.random() < 0.5 else rng.choice([*NUMBERS, rng.randint(1, KEPT + 2)])
     filler = bytes([rng.randrange(256)])
     return (number.to_bytes(NUMBER, "little") + job + filler * length)[:length]

@@ -32,11 +32,11 @@ def with_tail(case: Case, means: list[float]) -> Case:
 
 
 def frames_before(case: Case) -> int:
-    """The running total at the last given end: a group has its target, or one frame a state."""
+    """The running total at the last given end: a group has its target, or each state its shortest."""
     frames = states = 0
     for label, end in enumerate(case["ends"], 1):
         if end >= 0:
-            frames += max(ieee.frames(end - frames), label * case["nstate"] - states)
+            frames += max(ieee.frames(end - frames), sum(case["shortest"][states : label * case["nstate"]]))
             states = label * case["nstate"]
     return frames
 

@@ -1,6 +1,8 @@
 """RULES, Durations: estimate, fit, speed, alignment."""
 
+import heapq
 from dataclasses import dataclass
+from typing import NamedTuple
 
 from ..formats import Case, Fields
 from . import ieee
@@ -9,9 +11,6 @@ from .ieee import MAX_FRAMES
 # Comes after every cost: a state that may not give a frame.
 BARRED = 1 << 64
 
-# Steps times states that plain Python does in about a second.
-PATIENCE = 3_000_000
-
 
 class Refused(Exception):
     def __init__(self, number: int):
@@ -19,12 +18,29 @@ class Refused(Exception):
         self.number = number
 
 
-class TooLong(Exception):
-    """An accepted case that takes plain Python too long: the Rust judges alone."""
+class State(NamedTuple):
+    mean: float
+    vari: float
+    shortest: int
+
+    def frames(self, rho: float) -> int:
+        """The estimate, at least 1 and at least the state's own shortest."""
+        return max(self.shortest, ieee.frames(self.mean + rho * self.vari))
+
+    def cost(self, frames: int, rho: float) -> int:
+        return ieee.order(rho - ieee.divide(frames - self.mean, self.vari))
 
 
-def estimate(means: list[float], varis: list[float], rho: float) -> list[int]:
-    durations = [ieee.frames(mean + rho * vari) for mean, vari in zip(means, varis)]
+def states_of(means: list[float], varis: list[float], shortest: list[int]) -> list[State]:
+    return list(map(State, means, varis, shortest))
+
+
+def shortest_of(states: list[State]) -> list[int]:
+    return [state.shortest for state in states]
+
+
+def estimate(states: list[State], rho: float) -> list[int]:
+    durations = [state.frames(rho) for state in states]
     if sum(durations) > MAX_FRAMES:
         raise Refused(8)
     return durations
@@ -34,68 +50,64 @@ def estimate(means: list[float], varis: list[float], rho: float) -> list[int]:
 class Fit:
     durations: list[int]
     changes: int
-    # Whether the durations are those of the rule; where a walk is too long for Python only their total is.
-    walked: bool = True
 
 
-def walk(durations: list[int], means: list[float], varis: list[float], rho: float, steps: int) -> bool:
-    """Adds `steps` frames, or takes as many where negative, each by the step rule, if that isn't too long."""
-    if abs(steps) * len(durations) > PATIENCE:
-        durations[0] += steps
-        return False
+def walk(states: list[State], durations: list[int], rho: float, steps: int) -> None:
+    """Adds `steps` frames, or takes as many where negative, each by the step rule."""
     unit = 1 if steps > 0 else -1
 
-    def cost(state: int) -> int:
-        if unit < 0 and durations[state] == 1:
+    def cost(place: int) -> int:
+        state, frames = states[place], durations[place]
+        if unit < 0 and frames <= state.shortest:
             return BARRED
-        distance = durations[state] + unit - means[state]
-        return ieee.order(rho - ieee.divide(distance, varis[state]))
+        return state.cost(frames + unit, rho)
 
-    costs = [cost(state) for state in range(len(durations))]
+    # The least of them is in front: of equal costs that of the first state.
+    costs = [(cost(place), place) for place in range(len(states))]
+    heapq.heapify(costs)
     for _ in range(abs(steps)):
-        state = costs.index(min(costs))  # equal costs take the first state
-        durations[state] += unit
-        costs[state] = cost(state)
-    return True
+        _, place = costs[0]
+        durations[place] += unit
+        heapq.heapreplace(costs, (cost(place), place))
 
 
-def fit(means: list[float], varis: list[float], length: float) -> Fit:
-    if not means:
+def fit(states: list[State], length: float) -> Fit:
+    if not states:
         return Fit([], 0)
     target = ieee.frames(length)
     if target > MAX_FRAMES:
         raise Refused(7)
-    if target <= len(means):
-        return Fit([1] * len(means), 0)
+    if target <= sum(shortest_of(states)):
+        return Fit(shortest_of(states), 0)
+    means, varis = [state.mean for state in states], [state.vari for state in states]
     rho = ieee.divide(target - ieee.total(means), ieee.total(varis))
-    durations = estimate(means, varis, rho)
+    durations = estimate(states, rho)
     steps = target - sum(durations)
-    walked = walk(durations, means, varis, rho, steps)
-    return Fit(durations, abs(steps), walked)
+    walk(states, durations, rho, steps)
+    return Fit(durations, abs(steps))
 
 
-def speed(means: list[float], varis: list[float], factor: float) -> Fit:
-    durations = estimate(means, varis, 0.0)
+def speed(states: list[State], factor: float) -> Fit:
+    durations = estimate(states, 0.0)
     if factor == 1.0:
         return Fit(durations, 0)
-    return fit(means, varis, ieee.divide(float(sum(durations)), factor))
+    return fit(states, ieee.divide(float(sum(durations)), factor))
 
 
-def align(means: list[float], varis: list[float], nstate: int, ends: list[float]) -> Fit:
+def align(states: list[State], nstate: int, ends: list[float]) -> Fit:
     """One duration a state: the groups', then the tail's at its natural length; the groups' changes summed."""
     whole = Fit([], 0)
     for label, end in enumerate(ends):
         if not end >= 0:
             continue  # below zero and NaN are open, minus zero is given
         first, last = len(whole.durations), (label + 1) * nstate
-        group = fit(means[first:last], varis[first:last], end - sum(whole.durations))
+        group = fit(states[first:last], end - sum(whole.durations))
         whole.durations += group.durations
         whole.changes += group.changes
-        whole.walked = whole.walked and group.walked
         if sum(whole.durations) > MAX_FRAMES:
             raise Refused(8)
     fitted = len(whole.durations)
-    tail = estimate(means[fitted:], varis[fitted:], 0.0)
+    tail = estimate(states[fitted:], 0.0)
     if sum(whole.durations) + sum(tail) > MAX_FRAMES:
         raise Refused(8)
     whole.durations += tail
@@ -103,19 +115,21 @@ def align(means: list[float], varis: list[float], nstate: int, ends: list[float]
 
 
 def values(fit: Fit) -> Fields:
-    if not fit.walked:
-        raise TooLong
     return {"changes": fit.changes, "durations": fit.durations}
 
 
+def states_in(case: Case) -> list[State]:
+    return states_of(case["means"], case["varis"], case["shortest"])
+
+
 def fit_values(case: Case) -> Fields:
-    return values(fit(case["means"], case["varis"], case["length"]))
+    return values(fit(states_in(case), case["length"]))
 
 
 def speed_values(case: Case) -> Fields:
-    return values(speed(case["means"], case["varis"], case["speed"]))
+    return values(speed(states_in(case), case["speed"]))
 
 
 def align_values(case: Case) -> Fields:
-    aligned = align(case["means"], case["varis"], case["nstate"], case["ends"])
+    aligned = align(states_in(case), case["nstate"], case["ends"])
     return {"written": len(aligned.durations)} | values(aligned)

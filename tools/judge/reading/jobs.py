@@ -8,10 +8,12 @@ from ..formats import Case, Fields
 from . import durations
 
 MARK = b"SPJ"
-VERSION = 1
+FIRST_VERSION, SHORTEST_VERSION = 1, 2
 MAX_COUNT = 1_024
 HEAD = 15
-PAIR = 16
+# The bytes of a state, by version: its pair, and in the second one its shortest.
+PAIR, SHORTEST = 16, 4
+STATE = {FIRST_VERSION: PAIR, SHORTEST_VERSION: PAIR + SHORTEST}
 
 DAMAGES = (9, 12, 13, 14)
 WRONG_LENGTH, WRONG_MARK, WRONG_VERSION, TOO_MANY_STATES = DAMAGES
@@ -30,12 +32,12 @@ class Field(NamedTuple):
     number: int  # the refusal of any other value
 
 
-# In the order in which they are looked at, the number of states last.
+# In the order in which they are looked at.
 FIELDS = [
     Field(0, 1, MARK[0], MARK[0], WRONG_MARK),
     Field(1, 1, MARK[1], MARK[1], WRONG_MARK),
     Field(2, 1, MARK[2], MARK[2], WRONG_MARK),
-    Field(3, 2, VERSION, VERSION, WRONG_VERSION),
+    Field(3, 2, FIRST_VERSION, SHORTEST_VERSION, WRONG_VERSION),
     Field(5, 2, 0, MAX_COUNT, TOO_MANY_STATES),
 ]
 
@@ -48,7 +50,8 @@ def damage(data: bytes) -> Damage | None:
         value = int.from_bytes(data[place : place + size], "little")
         if not least <= value <= most:
             return Damage(number, place)
-    whole = HEAD + PAIR * value
+    version, count = struct.unpack_from("<HH", data, len(MARK))
+    whole = HEAD + STATE[version] * count
     if len(data) != whole:
         return Damage(WRONG_LENGTH, min(len(data), whole))  # where it ends, or the first byte too many
     return None
@@ -67,18 +70,24 @@ class Job:
     speed: float
     means: list[float]
     varis: list[float]
+    shortest: list[int]
 
 
 def parse(data: bytes) -> Job | None:
     """None where the file is damaged."""
     if damage(data):
         return None
-    count, speed = struct.unpack_from("<Hd", data, 5)
-    numbers = list(struct.unpack_from(f"<{2 * count}d", data, HEAD))
-    return Job(speed, numbers[0::2], numbers[1::2])
+    version, count, speed = struct.unpack_from("<HHd", data, len(MARK))
+    places = range(HEAD, len(data), STATE[version])
+    pairs = [struct.unpack_from("<dd", data, place) for place in places]
+    shortest = [1] * count
+    if version == SHORTEST_VERSION:
+        shortest = [int.from_bytes(data[place + PAIR : place + PAIR + SHORTEST], "little") for place in places]
+    return Job(speed, [mean for mean, _ in pairs], [vari for _, vari in pairs], shortest)
 
 
 def job_values(case: Case) -> Fields:
     job = parse(case["bytes"])
-    values = durations.values(durations.speed(job.means, job.varis, job.speed))
-    return {"states": len(job.means), "frames": sum(values["durations"])} | values
+    states = durations.states_of(job.means, job.varis, job.shortest)
+    values = durations.values(durations.speed(states, job.speed))
+    return {"states": len(states), "frames": sum(values["durations"])} | values

@@ -6,11 +6,11 @@ from functools import lru_cache
 
 from ..formats import BEGIN, PART, Case, Fields
 from . import jobs, refusals
-from .durations import Refused, TooLong
+from .durations import Refused
 
 # The bytes of the number in front, and those of a job that are kept: one more than the largest has.
 NUMBER = 8
-KEPT = jobs.HEAD + jobs.PAIR * jobs.MAX_COUNT + 1
+KEPT = jobs.HEAD + max(jobs.STATE.values()) * jobs.MAX_COUNT + 1
 SIZE = NUMBER + KEPT
 
 TOO_LITTLE_ROOM = 6
@@ -76,7 +76,7 @@ class End:
     ended: bool  # whether a job was under way
     job: Case  # what has come, as a job file
     refusal: int
-    values: Fields | None = None  # None where there are none, or where Python would take too long
+    values: Fields | None = None  # None where there are none
 
 
 def job_file(data: bytes, out: int, work: int) -> Case:
@@ -92,8 +92,6 @@ def answer(job: Case) -> tuple[int, Fields | None]:
         return 0, jobs.job_values(job)
     except Refused as refused:
         return refused.number, None
-    except TooLong:
-        return 0, None
 
 
 @dataclass
@@ -145,7 +143,4 @@ def joined(answers: list[Fields]) -> Fields:
 
 def link_values(case: Case) -> Fields:
     """Those of the accepted ends."""
-    answers = [end.values for end in followed(case).accepted()]
-    if None in answers:
-        raise TooLong
-    return joined(answers)
+    return joined([end.values for end in followed(case).accepted()])

@@ -34,21 +34,27 @@ def band_frames(case: Case) -> int:
     return len(case["means"]) // len(case["widths"])
 
 
+def bad_shortest(shortest: list[int]) -> bool:
+    return 0 in shortest or sum(shortest) > MAX_FRAMES
+
+
 def fit_checks(case: Case) -> Checks:
     n = len(case["means"])
     return {
         3: lambda: n > MAX_STATES,
-        4: lambda: len(case["varis"]) != n,
+        4: lambda: len(case["varis"]) != n or len(case["shortest"]) != n,
         6: lambda: case["out"] < n or case["work"] < n,
+        15: lambda: bad_shortest(case["shortest"]),
     }
 
 
 def align_checks(case: Case) -> Checks:
+    """A fit's, and those of the labels."""
     n, nstate, labels = len(case["means"]), case["nstate"], len(case["ends"])
-    return {
-        3: lambda: n > MAX_STATES or not 1 <= nstate <= MAX_NSTATE,
-        4: lambda: len(case["varis"]) != n or n != labels * nstate,
-        6: lambda: case["out"] < n or case["work"] < n,
+    fit = fit_checks(case)
+    return fit | {
+        3: lambda: fit[3]() or not 1 <= nstate <= MAX_NSTATE,
+        4: lambda: fit[4]() or n != labels * nstate,
     }
 
 
@@ -131,8 +137,12 @@ def job_checks(case: Case) -> Checks:
     damage = jobs.damage(case["bytes"])
     if damage:
         return {damage.number: lambda: True}  # before all others
-    n = len(jobs.parse(case["bytes"]).means)
-    return {6: lambda: case["out"] < n or case["work"] < n}
+    shortest = jobs.parse(case["bytes"]).shortest
+    n = len(shortest)
+    return {
+        6: lambda: case["out"] < n or case["work"] < n,
+        15: lambda: bad_shortest(shortest),
+    }
 
 
 CHECKS: dict[str, Callable[[Case], Checks]] = {
@@ -150,7 +160,7 @@ CHECKS: dict[str, Callable[[Case], Checks]] = {
 
 
 def before_work(case: Case) -> int:
-    """The smallest number that applies, 0 for none; 7 and 8 come up during the work."""
+    """The smallest number that applies, 0 for none; 7 and 8 come up during the work, and so behind 15."""
     if case.kind not in CHECKS:
         return 0
     checks = CHECKS[case.kind](case)

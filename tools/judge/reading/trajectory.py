@@ -2,7 +2,6 @@
 
 from ..formats import Case, Fields
 from . import ieee, pairs
-from .durations import TooLong
 from .ieee import divide
 from .refusals import band_frames, band_width, record_size
 
@@ -15,6 +14,10 @@ STEP_AFTER_RISE = 0.5
 STEP_AFTER_FALL = 1.2
 
 Rows = list[list[float]]
+
+
+class TooLong(Exception):
+    """An accepted case that takes plain Python too long: the Rust judges alone."""
 
 
 def expand(items: list, durations: list[int]) -> list:

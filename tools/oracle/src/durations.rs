@@ -4,8 +4,9 @@ use jbonsai::{duration::DurationEstimator, model::MeanVari};
 
 use crate::bytes::{Reader, Writer};
 
+/// The Rust has no shortest durations: it is asked where all are 1, and they are passed over.
 fn parameters(reader: &mut Reader) -> Vec<MeanVari> {
-    let (means, varis) = (reader.f64s(), reader.f64s());
+    let (means, varis, _shortest) = (reader.f64s(), reader.f64s(), reader.u32s());
     means.into_iter().zip(varis).map(|(mean, vari)| MeanVari(mean, vari)).collect()
 }
 
