@@ -204,17 +204,27 @@ static void free_chapter(Chapter *c) {
     free(c->varis);
 }
 
+/* The shortest durations of so many states, to be freed: one frame each, as no state needs more. */
+static uint32_t *ones(size_t states) {
+    uint32_t *shortest = more_room(NULL, states, sizeof *shortest);
+    for (size_t i = 0; i < states; i++) shortest[i] = 1;
+    return shortest;
+}
+
 /* One duration a state, to be freed. */
 static uint32_t *aligned(const Chapter *c) {
     uint32_t *durations = more_room(NULL, c->states, sizeof *durations);
     uint32_t *work = more_room(NULL, c->states, sizeof *work);
+    uint32_t *shortest = ones(c->states);
     double *ends = more_room(NULL, c->labels, sizeof *ends);
     uint32_t written, changes; /* as many as states; and how the frames were given out */
     for (size_t i = 0; i < c->labels; i++)
         ends[i] = c->ends[i] == OPEN ? HEJMIROV_OPEN_END : (double)c->ends[i] / FRAME;
-    check(hejmirov_align(c->means, c->states, c->varis, c->states, c->states_a_label, ends,
-                         c->labels, durations, c->states, work, c->states, &written, &changes));
+    check(hejmirov_align(c->means, c->states, c->varis, c->states, shortest, c->states,
+                         c->states_a_label, ends, c->labels, durations, c->states, work, c->states,
+                         &written, &changes));
     free(work);
+    free(shortest);
     free(ends);
     return durations;
 }

@@ -143,7 +143,7 @@ impl Chapter {
     fn aligned(&self) -> Result<Vec<u32>, hejmirov::Refusal> {
         let time = |end: &Option<u32>| end.map_or(OPEN_END, |end| f64::from(end) / 1000.0);
         let ends: Vec<f64> = self.ends.iter().map(time).collect();
-        let fitted = hejmirov::align(&self.means, &self.varis, self.states_a_label, &ends)?;
+        let fitted = hejmirov::align(&self.means, &self.varis, None, self.states_a_label, &ends)?;
         Ok(fitted.durations)
     }
 

@@ -167,14 +167,23 @@ static Words read_words(const char *name) {
     return w;
 }
 
+/* The shortest durations of so many states, to be freed: one frame each, as no state needs more. */
+static uint32_t *ones(size_t states) {
+    uint32_t *shortest = more_room(NULL, states, sizeof *shortest);
+    for (size_t i = 0; i < states; i++) shortest[i] = 1;
+    return shortest;
+}
+
 /* One duration a state, to be freed. */
 static uint32_t *durations_of(const Sentence *s) {
     uint32_t *durations = more_room(NULL, s->states, sizeof *durations);
     uint32_t *work = more_room(NULL, s->states, sizeof *work);
+    uint32_t *shortest = ones(s->states);
     uint32_t changes;
-    check(hejmirov_fit(s->means, s->states, s->varis, s->states, s->length, durations, s->states,
-                       work, s->states, &changes));
+    check(hejmirov_fit(s->means, s->states, s->varis, s->states, shortest, s->states, s->length,
+                       durations, s->states, work, s->states, &changes));
     free(work);
+    free(shortest);
     return durations;
 }
 

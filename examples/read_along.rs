@@ -208,7 +208,7 @@ fn run(
     let s = Sentence::read(&text_of(sentence)?)?;
     let words = text_of(words)?;
     let w = Words::read(&words)?;
-    let durations = hejmirov::fit(&s.means, &s.varis, s.length)?.durations;
+    let durations = hejmirov::fit(&s.means, &s.varis, None, s.length)?.durations;
     let mut times = times_of(&w, &durations)?;
     if let Some(name) = ral {
         times = by_file(name, &w, &durations, &times)?;

@@ -3,7 +3,7 @@
    usage: receive < JOB
 
    Whatever a read gives is a part, and where the input ends the job does. It prints what spj prints
-   of a job file, and behind a refusal what that means, on the same line. Nothing is allocated: 16 KiB
+   of a job file, and behind a refusal what that means, on the same line. Nothing is allocated: 20 KiB
    hold what has come, 8 KiB the answer. */
 
 #define _POSIX_C_SOURCE 200809L

@@ -156,19 +156,28 @@ static Ends read_ends(const char *name, const Sentence *s) {
     return e;
 }
 
+/* The shortest durations of so many states, to be freed: one frame each, as no state needs more. */
+static uint32_t *ones(size_t states) {
+    uint32_t *shortest = room_for(states, sizeof *shortest);
+    for (size_t i = 0; i < states; i++) shortest[i] = 1;
+    return shortest;
+}
+
 /* One duration a state, to be freed. */
 static uint32_t *durations_of(const Sentence *s, const Ends *e, uint32_t *changes) {
     uint32_t *durations = room_for(s->states, sizeof *durations);
     uint32_t *work = room_for(s->states, sizeof *work);
+    uint32_t *shortest = ones(s->states);
     uint32_t written; /* as many as states */
     if (e->times)
-        check("align", hejmirov_align(s->means, s->states, s->varis, s->states, STATES_A_LABEL,
-                                      e->times, e->labels, durations, s->states, work, s->states,
-                                      &written, changes));
+        check("align", hejmirov_align(s->means, s->states, s->varis, s->states, shortest, s->states,
+                                      STATES_A_LABEL, e->times, e->labels, durations, s->states,
+                                      work, s->states, &written, changes));
     else
-        check("fit", hejmirov_fit(s->means, s->states, s->varis, s->states, s->length, durations,
-                                  s->states, work, s->states, changes));
+        check("fit", hejmirov_fit(s->means, s->states, s->varis, s->states, shortest, s->states,
+                                  s->length, durations, s->states, work, s->states, changes));
     free(work);
+    free(shortest);
     return durations;
 }
 

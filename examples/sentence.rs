@@ -266,8 +266,8 @@ fn text_of(name: &str) -> Result<String, String> {
 /// One duration a state.
 fn durations_of(s: &Sentence, ends: Option<&[f64]>) -> Result<Fitted, Refusal> {
     match ends {
-        Some(ends) => hejmirov::align(&s.means, &s.varis, STATES_A_LABEL, ends),
-        None => hejmirov::fit(&s.means, &s.varis, s.length),
+        Some(ends) => hejmirov::align(&s.means, &s.varis, None, STATES_A_LABEL, ends),
+        None => hejmirov::fit(&s.means, &s.varis, None, s.length),
     }
 }
 

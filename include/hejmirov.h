@@ -39,7 +39,7 @@
 extern "C" {
 #endif
 
-#define HEJMIROV_VERSION "0.4.0"
+#define HEJMIROV_VERSION "0.5.0"
 
 /* Limits: more is refused. All but the frames of a place, and those of a timing file that is read,
  * which are any 32-bit number. */
@@ -59,8 +59,9 @@ extern "C" {
 #define HEJMIROV_WORK_MARKS_A_FRAME 4        /* whole numbers of its marks for each frame */
 #define HEJMIROV_BYTES_A_NUMBER 8            /* bytes of one number in the spool */
 #define HEJMIROV_JOB_HEAD_BYTES 15           /* bytes of a job file before its first state */
-#define HEJMIROV_JOB_STATE_BYTES 16          /* bytes of each of its states */
-#define HEJMIROV_LINK_BYTES 16408            /* bytes of a link's memory: a job that comes in parts */
+#define HEJMIROV_JOB_STATE_BYTES 16          /* bytes of each of its states, in version 1 */
+#define HEJMIROV_JOB2_STATE_BYTES 20         /* the same in version 2, with a shortest duration */
+#define HEJMIROV_LINK_BYTES 20504            /* bytes of a link's memory: a job that comes in parts */
 #define HEJMIROV_STORE_SETTINGS 768          /* settings in a store, three for each place */
 #define HEJMIROV_SETTINGS_HEAD_BYTES 7       /* bytes of a settings file before its first record */
 #define HEJMIROV_SETTINGS_RECORD_BYTES 26    /* bytes of each of its records, in version 2 */
@@ -94,6 +95,7 @@ enum hejmirov_refusal {
     HEJMIROV_JOB_MARK = 12,           /* job file's mark is wrong */
     HEJMIROV_JOB_VERSION = 13,        /* job file's version is wrong */
     HEJMIROV_JOB_COUNT = 14,          /* job file says too many states */
+    HEJMIROV_BAD_SHORTEST = 15,       /* a shortest duration of 0, or their sum above 65,536 */
     HEJMIROV_SETTINGS_VERSION = 16,   /* settings file's version is neither 1 nor 2 */
     HEJMIROV_STORE_FULL = 17,         /* a store with no place for one more voice */
     HEJMIROV_SETTINGS_MALFORMED = 18, /* settings file's mark or length is wrong */
@@ -121,6 +123,7 @@ static inline const char *hejmirov_refusal_text(uint32_t refusal) {
     case HEJMIROV_JOB_MARK: return "job file's mark is wrong";
     case HEJMIROV_JOB_VERSION: return "job file's version is wrong";
     case HEJMIROV_JOB_COUNT: return "job file says too many states";
+    case HEJMIROV_BAD_SHORTEST: return "a shortest duration of 0, or their sum above 65,536";
     case HEJMIROV_SETTINGS_VERSION: return "settings file's version is neither 1 nor 2";
     case HEJMIROV_STORE_FULL: return "a store with no place for one more voice";
     case HEJMIROV_SETTINGS_MALFORMED: return "settings file's mark or length is wrong";
@@ -158,21 +161,30 @@ static inline const char *hejmirov_words_refusal_text(uint32_t refusal) {
 /* The durations of n states in frames, fitted to a length in frames.
  *
  *   means, varis   n means and n variances of the states' durations
+ *   shortest       n whole numbers: the shortest duration of each state, at least 1; n ones where
+ *                  no state needs more than a frame
  *   frame_length   the length; it is rounded, halves away from zero; NaN and what is then below 1
  *                  count as 1
- *   out            afterwards the n durations, each at least 1
+ *   out            afterwards the n durations, each at least its state's shortest
  *   work           n numbers; afterwards n zeros
  *   changes        afterwards how many frames were added or taken away, one at a time
  *
- * The durations' total is the rounded length where that is above n, and n else. With n = 0 the
- * call is accepted, whatever the length, and changes are 0.
+ * The durations' total is the rounded length where that is above the sum of the shortest; else
+ * every state gets its shortest, and changes are 0. Frames are taken only from states that have
+ * more than their shortest. With n = 0 the call is accepted, whatever the length, and changes are
+ * 0.
  *
- * Refused with 3: n above 4,096. 4: n_varis is not n. 6: n_out or n_work below n. 7: the rounded
- * length is above 65,536 and n is not 0. 8: the rounded length is above n, and the estimates that
- * the fit starts from total above 65,536.
+ * The means 2 and 3 with variances of 1, fitted to 8 frames, get 3 and 5 where both shortest are 1;
+ * with the shortest 4 and 1 they get 4 and 4, and with 6 and 2, whose sum is 8, just these.
+ *
+ * Refused with 3: n above 4,096. 4: n_varis or n_shortest is not n. 6: n_out or n_work below n. 15:
+ * a shortest is 0, or the sum of the shortest is above 65,536. 7: the rounded length is above
+ * 65,536 and n is not 0. 8: the rounded length is above the sum of the shortest, and the estimates
+ * that the fit starts from total above 65,536.
  */
 uint32_t hejmirov_fit(const double *means, size_t n_means,
                       const double *varis, size_t n_varis,
+                      const uint32_t *shortest, size_t n_shortest,
                       double frame_length,
                       uint32_t *out, size_t n_out,
                       uint32_t *work, size_t n_work,
@@ -181,20 +193,22 @@ uint32_t hejmirov_fit(const double *means, size_t n_means,
 /* The durations of n states in frames, at a speed.
  *
  *   means, varis   n means and n variances of the states' durations
- *   speed          1.0 gives each state's estimate: its mean, rounded as above and at least 1 (1
- *                  where the variance is infinite or NaN); any other speed the fit to the
- *                  estimates' total / speed
- *   out            afterwards the n durations, each at least 1
+ *   shortest       n whole numbers: the shortest duration of each state, at least 1
+ *   speed          1.0 gives each state's estimate: its mean, rounded as above and at least its
+ *                  shortest (its shortest where the variance is infinite or NaN); any other speed
+ *                  the fit to the estimates' total / speed
+ *   out            afterwards the n durations, each at least its state's shortest
  *   work           n numbers; afterwards n zeros
  *   changes        afterwards the fit's changes, 0 at speed 1.0
  *
- * At NaN, at the infinities, at -0.0 and below 0 every state gets one frame.
+ * At NaN, at the infinities, at -0.0 and below 0 every state gets its shortest.
  *
- * Refused with 3, 4, 6: as hejmirov_fit. 8: the estimates total above 65,536. Then, at another
+ * Refused with 3, 4, 6, 15: as hejmirov_fit. 8: the estimates total above 65,536. Then, at another
  * speed than 1.0, 7 and 8 as hejmirov_fit; so speed 0.0 is 7 where n is not 0.
  */
 uint32_t hejmirov_speed(const double *means, size_t n_means,
                         const double *varis, size_t n_varis,
+                        const uint32_t *shortest, size_t n_shortest,
                         double speed,
                         uint32_t *out, size_t n_out,
                         uint32_t *work, size_t n_work,
@@ -203,10 +217,11 @@ uint32_t hejmirov_speed(const double *means, size_t n_means,
 /* The durations of n states in frames, with labels closed at given ends.
  *
  *   means, varis   n means and n variances of the states' durations
+ *   shortest       n whole numbers: the shortest duration of each state, at least 1
  *   nstate         states a label, 1 to 16
  *   ends           one end a label: a time in frames from the utterance's start, or
  *                  HEJMIROV_OPEN_END; -0.0 is a time
- *   out            afterwards the n durations, each at least 1
+ *   out            afterwards the n durations, each at least its state's shortest
  *   work           n numbers; afterwards n zeros
  *   written        afterwards n, the number of durations
  *   changes        afterwards the fits' changes, summed
@@ -217,15 +232,18 @@ uint32_t hejmirov_speed(const double *means, size_t n_means,
  * no labels written and changes are 0.
  *
  * Rounding does not add up over labels. At a given end the durations up to it total the end, rounded
- * with halves up, or one frame a state more than the total before its group, whichever is more.
+ * with halves up, or the total before its group and the sum of the group's shortest, whichever is
+ * more.
  *
- * Refused with 3: n above 4,096, or nstate out of range. 4: n is not n_ends x nstate, or n_varis is
- * not n. 6: n_out or n_work below n. 7, 8: as hejmirov_fit, group after group; 8 also where the
- * frames so far and the group's own are above 65,536. Then 8: the frames so far and the estimates
- * after the last given end are above 65,536.
+ * Refused with 3: n above 4,096, or nstate out of range. 4: n is not n_ends x nstate, or n_varis or
+ * n_shortest is not n. 6: n_out or n_work below n. 15: as hejmirov_fit, the sum being that of all n
+ * states. 7, 8: as hejmirov_fit, group after group; 8 also where the frames so far and the group's
+ * own are above 65,536. Then 8: the frames so far and the estimates after the last given end are
+ * above 65,536.
  */
 uint32_t hejmirov_align(const double *means, size_t n_means,
                         const double *varis, size_t n_varis,
+                        const uint32_t *shortest, size_t n_shortest,
                         uint32_t nstate,
                         const double *ends, size_t n_ends,
                         uint32_t *out, size_t n_out,
@@ -380,10 +398,12 @@ uint32_t hejmirov_excerpt(const double *trajectory, size_t n_trajectory,
 
 /* The durations of a job file's states, at the job's speed.
  *
- *   bytes          the whole file, little-endian: the three bytes SPJ, version 1 (16 bits), the
- *                  number of states n (16 bits, at most 1,024), the speed (a double's bits), then a
- *                  mean and a variance a state (doubles' bits); 15 + 16 x n bytes
- *   out            afterwards the n durations, each at least 1
+ *   bytes          the whole file, little-endian: the three bytes SPJ, version 1 or 2 (16 bits),
+ *                  the number of states n (16 bits, at most 1,024), the speed (a double's bits),
+ *                  then the states: a mean, a variance (doubles' bits) and, in version 2, the
+ *                  state's shortest duration (32 bits); 15 + 16 x n bytes in version 1, 15 + 20 x n
+ *                  in version 2
+ *   out            afterwards the n durations, each at least its state's shortest
  *   work           n numbers; afterwards n zeros
  *   states         afterwards n
  *   frames         afterwards the durations' total
@@ -391,23 +411,24 @@ uint32_t hejmirov_excerpt(const double *trajectory, size_t n_trajectory,
  *   place          afterwards, of a damaged file alone, the place of a byte, the file's first byte
  *                  having the place 0; whatever else is answered, it is as it was
  *
- * It needs about 16 KiB of stack.
+ * In version 1 every shortest is 1. It needs about 20 KiB of stack.
  *
  * A file is damaged where its bytes depart from the format. Its number says how, and place where:
  *
  *   12             a byte of the mark is wrong: place is that of the first, 0, 1 or 2
- *   13             the version is not 1: place is 3
+ *   13             the version is neither 1 nor 2: place is 3
  *   14             there are more than 1,024 states: place is 5
  *   9              the file ends short: place is n_bytes, where it ends; or it goes on behind its
- *                  last state: place is 15 + 16 x n, the first byte too many
+ *                  last state: place is 15 + 16 x n, in version 2 15 + 20 x n, the first byte too
+ *                  many
  *
  * The order is by place: each byte of the mark, the version, the number of states, and last the
  * length. A file that ends before a field's last byte is 9 at its end, whatever it has of that
  * field. So S is 9 at 1, and SX is 12 at 1; SPJ and one byte is 9 at 4, whatever that byte is; and
- * SPJ and the version 2 is 13 at 3, though the file ends there.
+ * SPJ and the version 3 is 13 at 3, though the file ends there.
  *
  * Refused with 9, 12, 13 or 14, before all others: the file is damaged. 6: n_out or n_work below n.
- * 7, 8: as hejmirov_speed.
+ * 15, 7, 8: as hejmirov_speed; 15 in version 2 alone, and as no damage: it has no place.
  */
 uint32_t hejmirov_job(const uint8_t *bytes, size_t n_bytes,
                       uint32_t *out, size_t n_out,
@@ -436,7 +457,7 @@ uint32_t hejmirov_job_old_number(uint32_t number);
  * need no giving back. Calls on one memory follow each other; calls on others may run at once.
  *
  * Every content of that memory has a meaning. Its first eight bytes are a number, the least byte
- * first. From 1 to 16,401 it says that a job is under way: one byte less has come, and these bytes
+ * first. From 1 to 20,497 it says that a job is under way: one byte less has come, and these bytes
  * stand behind the number. Any other number, 0 too, says that no job is under way: the last one has
  * ended. So memory in which nothing was begun, all zeros for instance, has ended.
  */
@@ -455,7 +476,7 @@ uint32_t hejmirov_link_begin(uint8_t *link, size_t n_link);
  *   link           a link's memory; afterwards the part's bytes stand behind those that have come
  *   part           any number of bytes, 0 too, cut anywhere
  *
- * Of a job that is longer than the longest that there is, 16,399 bytes, one byte more is kept and
+ * Of a job that is longer than the longest that there is, 20,495 bytes, one byte more is kept and
  * counted and no others, so that any number may come: its end is refused as the whole file is, with
  * 9 at the first byte too many where its head is good, else with 12, 13 or 14.
  *
@@ -468,9 +489,10 @@ uint32_t hejmirov_link_part(uint8_t *link, size_t n_link,
 /* Ends the job that is under way, and answers it: the durations of its states, at its speed.
  *
  *   link           a link's memory; afterwards no job is under way, also where the job is refused
- *                  with 9, 12, 13, 14, 6, 7 or 8; all but the first eight bytes are as they were
- *   out            afterwards the n durations, each at least 1; n is the job's number of states, at
- *                  most HEJMIROV_MAX_JOB_STATES
+ *                  with 9, 12, 13, 14, 6, 15, 7 or 8; all but the first eight bytes are as they
+ *                  were
+ *   out            afterwards the n durations, each at least its state's shortest; n is the job's
+ *                  number of states, at most HEJMIROV_MAX_JOB_STATES
  *   work           n numbers; afterwards n zeros
  *   states         afterwards n
  *   frames         afterwards the durations' total
@@ -479,10 +501,11 @@ uint32_t hejmirov_link_part(uint8_t *link, size_t n_link,
  *                  counts from the job's first byte, over all parts; whatever else is answered, it
  *                  is as it was
  *
- * It needs about 16 KiB of stack.
+ * It needs about 20 KiB of stack.
  *
  * Refused with 11, before all others: no job is under way. 6: n_link below HEJMIROV_LINK_BYTES. The
- * memory is then as it was. Then as hejmirov_job: 9, 12, 13 or 14; 6, 7, 8; the job has then ended.
+ * memory is then as it was. Then as hejmirov_job: 9, 12, 13 or 14; 6, 15, 7, 8; the job has then
+ * ended.
  */
 uint32_t hejmirov_link_end(uint8_t *link, size_t n_link,
                            uint32_t *out, size_t n_out,

@@ -71,10 +71,11 @@ static void *room_for(size_t count, size_t size) {
 
 /* frames x V numbers, to be freed. */
 static double *render(const Utterance *u, uint32_t *frames) {
-    static uint32_t durations[MOST_STATES], work[MOST_STATES];
+    static uint32_t durations[MOST_STATES], work[MOST_STATES], shortest[MOST_STATES];
     uint32_t changes;
-    check("speed", hejmirov_speed(u->means, u->states, u->varis, u->states, 0.9, durations,
-                                  u->states, work, u->states, &changes));
+    for (uint32_t state = 0; state < u->states; state++) shortest[state] = 1; /* frame, of each */
+    check("speed", hejmirov_speed(u->means, u->states, u->varis, u->states, shortest, u->states,
+                                  0.9, durations, u->states, work, u->states, &changes));
     *frames = 0;
     for (uint32_t state = 0; state < u->states; state++) *frames += durations[state];
 

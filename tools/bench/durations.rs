@@ -8,16 +8,16 @@ use crate::{Inputs, Side, least_times, row};
 
 unsafe extern "C" {
     fn hejmirov_fit(
-        means: *const f64, n_means: usize, varis: *const f64, n_varis: usize, frame_length: f64,
-        out: *mut u32, n_out: usize, work: *mut u32, n_work: usize, changes: *mut u32,
+        means: *const f64, n_means: usize, varis: *const f64, n_varis: usize, shortest: *const u32, n_shortest: usize,
+        frame_length: f64, out: *mut u32, n_out: usize, work: *mut u32, n_work: usize, changes: *mut u32,
     ) -> u32;
     fn hejmirov_speed(
-        means: *const f64, n_means: usize, varis: *const f64, n_varis: usize, speed: f64,
-        out: *mut u32, n_out: usize, work: *mut u32, n_work: usize, changes: *mut u32,
+        means: *const f64, n_means: usize, varis: *const f64, n_varis: usize, shortest: *const u32, n_shortest: usize,
+        speed: f64, out: *mut u32, n_out: usize, work: *mut u32, n_work: usize, changes: *mut u32,
     ) -> u32;
     fn hejmirov_align(
-        means: *const f64, n_means: usize, varis: *const f64, n_varis: usize, nstate: u32,
-        ends: *const f64, n_ends: usize, out: *mut u32, n_out: usize, work: *mut u32, n_work: usize,
+        means: *const f64, n_means: usize, varis: *const f64, n_varis: usize, shortest: *const u32, n_shortest: usize,
+        nstate: u32, ends: *const f64, n_ends: usize, out: *mut u32, n_out: usize, work: *mut u32, n_work: usize,
         written: *mut u32, changes: *mut u32,
     ) -> u32;
 }
@@ -49,6 +49,7 @@ struct States {
     parameters: Vec<MeanVari>,
     means: Vec<f64>,
     varis: Vec<f64>,
+    ones: Vec<u32>, // the shortest durations, which the Rust doesn't have
     times: Vec<(f64, f64)>,
     ends: Vec<f64>,
     open: Vec<f64>,
@@ -64,7 +65,8 @@ impl States {
         let ends = ends_of(&means);
         let times = ends.iter().map(|&end| (0.0, end)).collect();
         let open = vec![OPEN; ends.len()];
-        Self { estimator, parameters, means, varis, times, ends, open, out: vec![0; count], work: vec![0; count] }
+        let (ones, out, work) = (vec![1; count], vec![0; count], vec![0; count]);
+        Self { estimator, parameters, means, varis, ones, times, ends, open, out, work }
     }
 
     /// States and a length at which the rule takes so many steps: the means of the short states make rho 0, so that every
@@ -98,7 +100,7 @@ impl States {
     /// Our answer, in `out`; how many unit changes it took.
     fn ours(&mut self, asked: Asked) -> u32 {
         let count = self.means.len();
-        let (means, varis) = (self.means.as_ptr(), self.varis.as_ptr());
+        let (means, varis, ones) = (self.means.as_ptr(), self.varis.as_ptr(), self.ones.as_ptr());
         let (out, work) = (self.out.as_mut_ptr(), self.work.as_mut_ptr());
         let nstate = NSTATE as u32;
         let (mut changes, mut written) = (0, 0);
@@ -106,17 +108,17 @@ impl States {
         let refusal = unsafe {
             match asked {
                 Asked::Speed(speed) => {
-                    hejmirov_speed(means, count, varis, count, speed, out, count, work, count, &mut changes)
+                    hejmirov_speed(means, count, varis, count, ones, count, speed, out, count, work, count, &mut changes)
                 }
                 Asked::Length(length) => {
-                    hejmirov_fit(means, count, varis, count, length, out, count, work, count, &mut changes)
+                    hejmirov_fit(means, count, varis, count, ones, count, length, out, count, work, count, &mut changes)
                 }
                 Asked::Ends | Asked::Tail => {
                     let ends = if let Asked::Tail = asked { &self.open } else { &self.ends };
                     let (written, changes) = (&mut written, &mut changes);
                     hejmirov_align(
-                        means, count, varis, count, nstate, ends.as_ptr(), ends.len(), out, count, work, count, written,
-                        changes,
+                        means, count, varis, count, ones, count, nstate, ends.as_ptr(), ends.len(), out, count, work,
+                        count, written, changes,
                     )
                 }
             }

@@ -18,7 +18,7 @@ unsafe extern "C" {
     ) -> u32;
 }
 
-const LINK_BYTES: usize = 16_408;
+const LINK_BYTES: usize = 20_504;
 
 /// A job file, the link that it comes over, and room for the answer.
 struct Job {

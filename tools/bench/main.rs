@@ -4,6 +4,7 @@
 mod durations;
 mod links;
 mod settings;
+mod shortest;
 mod trajectories;
 mod words;
 
@@ -77,9 +78,10 @@ type Group = (&'static str, &'static str, fn());
 
 const BOTH: &str = "Rust | Hejmirov | times as fast";
 const PLAIN: &str = "plain Rust | Hejmirov | times as fast";
-const GROUPS: [Group; 8] = [
+const GROUPS: [Group; 9] = [
     ("durations", BOTH, durations::run),
     ("alignments", BOTH, durations::alignments),
+    ("shortest", PLAIN, shortest::run),
     ("trajectories", BOTH, trajectories::run),
     ("growth", BOTH, trajectories::growth),
     ("largest", BOTH, trajectories::largest),

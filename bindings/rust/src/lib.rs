@@ -2,7 +2,7 @@
 //!
 //! | call | what it gives |
 //! |---|---|
-//! | [`fit`], [`speed`], [`align`] | states' durations in frames: to a length, at a speed, to labels' ends |
+//! | [`fit`], [`speed`], [`align`] | states' durations in frames: to a length, at a speed, to labels' ends; none below a state's shortest |
 //! | [`job`] | the same from a job file's bytes |
 //! | [`Link`] | the same from a job that comes in parts |
 //! | [`mask`] | which frames are voiced, and how far each is from the ends of its run |
@@ -92,10 +92,12 @@ pub const WORK_MARKS_A_FRAME: usize = 4;
 pub const BYTES_A_NUMBER: usize = 8;
 /// Bytes of a job file before its first state.
 pub const JOB_HEAD_BYTES: usize = 15;
-/// Bytes of each state of a job file.
+/// Bytes of each state of a job file, in version 1.
 pub const JOB_STATE_BYTES: usize = 16;
+/// Bytes of each state of a job file, in version 2, with a shortest duration.
+pub const JOB2_STATE_BYTES: usize = 20;
 /// Bytes of a link's memory: a job that comes in parts.
-pub const LINK_BYTES: usize = 16408;
+pub const LINK_BYTES: usize = 20504;
 /// Settings in a store, three for each place.
 pub const STORE_SETTINGS: usize = 768;
 /// Bytes of a settings file before its first record.

@@ -238,7 +238,7 @@ pub fn link_part(link: &mut [u8], bytes: &[u8]) -> Result<(), Refusal> {
 /// assert_eq!(again, Err(Refusal::JobEnded));
 ///
 /// hejmirov::link_begin(&mut memory)?;
-/// hejmirov::link_part(&mut memory, b"SPJ\x02\0")?;
+/// hejmirov::link_part(&mut memory, b"SPJ\x03\0")?;
 /// let refused = hejmirov::link_end_into(&mut memory, &mut out, &mut work);
 /// assert_eq!(refused, Err(Refusal::JobDamaged { damage: Damage::Version, place: 3 }));
 /// # Ok::<(), Box<dyn std::error::Error>>(())

@@ -7,9 +7,10 @@ use crate::sys;
 
 /// Why a call refused: the first of these that applies, in the order of their numbers
 /// ([`JobDamaged`](Refusal::JobDamaged) before all others, and before that, over a link,
-/// [`JobEnded`](Refusal::JobEnded) and a memory that is too short; between the two that are too
-/// long the work's order decides; of a settings file a wrong mark is first, then the version, then
-/// the length, and then a store that is full).
+/// [`JobEnded`](Refusal::JobEnded) and a memory that is too short;
+/// [`BadShortest`](Refusal::BadShortest) before the two that are too long, between which the work's
+/// order decides; of a settings file a wrong mark is first, then the version, then the length, and
+/// then a store that is full).
 ///
 /// Every call's outputs are then as they were, and so is a store.
 ///
@@ -57,6 +58,8 @@ pub enum Refusal {
     NoSuchPlace,
     /// 11: a part or an end of a job that has ended.
     JobEnded,
+    /// 15: a shortest duration of 0, or their sum above 65,536.
+    BadShortest,
     /// 16: settings file's version is neither 1 nor 2.
     SettingsVersion,
     /// 17: a store with no place for one more voice.
@@ -85,6 +88,7 @@ impl Refusal {
             Refusal::JobDamaged { damage, .. } => damage.number(),
             Refusal::NoSuchPlace => 10,
             Refusal::JobEnded => 11,
+            Refusal::BadShortest => 15,
             Refusal::SettingsVersion => 16,
             Refusal::StoreFull => 17,
             Refusal::SettingsMalformed => 18,
@@ -123,6 +127,7 @@ impl Refusal {
             8 => Refusal::EstimateTooLong,
             10 => Refusal::NoSuchPlace,
             11 => Refusal::JobEnded,
+            15 => Refusal::BadShortest,
             16 => Refusal::SettingsVersion,
             17 => Refusal::StoreFull,
             18 => Refusal::SettingsMalformed,
@@ -144,6 +149,7 @@ impl Refusal {
             Refusal::JobDamaged { damage, .. } => damage.text(),
             Refusal::NoSuchPlace => "no such frame, component or state",
             Refusal::JobEnded => "a part or an end of a job that has ended",
+            Refusal::BadShortest => "a shortest duration of 0, or their sum above 65,536",
             Refusal::SettingsVersion => "settings file's version is neither 1 nor 2",
             Refusal::StoreFull => "a store with no place for one more voice",
             Refusal::SettingsMalformed => "settings file's mark or length is wrong",
@@ -194,7 +200,7 @@ impl Error for Refusal {}
 ///
 /// for (bytes, damage, place) in [
 ///     (&b"SX"[..], Damage::Mark, 1),
-///     (b"SPJ\x02\0", Damage::Version, 3),
+///     (b"SPJ\x03\0", Damage::Version, 3),
 ///     (b"SPJ\x01\0\x01\x04", Damage::Count, 5),
 ///     (b"S", Damage::Length, 1),
 /// ] {
@@ -206,12 +212,12 @@ impl Error for Refusal {}
 pub enum Damage {
     /// 12: the mark is wrong; the first wrong byte, at 0, 1 or 2.
     Mark,
-    /// 13: the version is not 1; its first byte, at 3.
+    /// 13: the version is neither 1 nor 2; its first byte, at 3.
     Version,
     /// 14: there are more than 1,024 states; their number's first byte, at 5.
     Count,
     /// 9: the file ends short, at its length; or it goes on behind its last state, and the first
-    /// byte too many is at 15 + 16 × states.
+    /// byte too many is at 15 + 16 × states, in version 2 at 15 + 20 × states.
     Length,
 }
 
@@ -359,8 +365,8 @@ mod tests {
         }
         assert_eq!(Refusal::or(0, "values"), Ok("values"));
         assert_eq!(Refusal::or(11, ()), Err(Refusal::JobEnded));
-        assert_eq!(Refusal::or(15, ()), Err(Refusal::Unknown(15)));
         for (number, refusal) in [
+            (15, Refusal::BadShortest),
             (16, Refusal::SettingsVersion),
             (17, Refusal::StoreFull),
             (18, Refusal::SettingsMalformed),

@@ -6,6 +6,8 @@ unsafe extern "C" {
         n_means: usize,
         varis: *const f64,
         n_varis: usize,
+        shortest: *const u32,
+        n_shortest: usize,
         frame_length: f64,
         out: *mut u32,
         n_out: usize,
@@ -19,6 +21,8 @@ unsafe extern "C" {
         n_means: usize,
         varis: *const f64,
         n_varis: usize,
+        shortest: *const u32,
+        n_shortest: usize,
         speed: f64,
         out: *mut u32,
         n_out: usize,
@@ -32,6 +36,8 @@ unsafe extern "C" {
         n_means: usize,
         varis: *const f64,
         n_varis: usize,
+        shortest: *const u32,
+        n_shortest: usize,
         nstate: u32,
         ends: *const f64,
         n_ends: usize,
@@ -358,6 +364,18 @@ mod tests {
         bytes
     }
 
+    /// The states (2, 1) and (3, 1) at a speed, in version 2: their shortest.
+    fn kept(shortest: [u32; 2], speed: f64) -> Vec<u8> {
+        let mut bytes = b"SPJ\x02\0\x02\0".to_vec();
+        bytes.extend(speed.to_le_bytes());
+        for (mean, shortest) in [2.0_f64, 3.0].into_iter().zip(shortest) {
+            bytes.extend(mean.to_le_bytes());
+            bytes.extend(1.0_f64.to_le_bytes());
+            bytes.extend(shortest.to_le_bytes());
+        }
+        bytes
+    }
+
     #[test]
     fn place_is_written_of_a_damaged_job_alone() {
         let worked = two([2.0, 3.0], 0.5);
@@ -366,6 +384,12 @@ mod tests {
             work: vec![0, 0, 9],
             values: [2, 10, 1],
             ..untouched(3)
+        };
+        // Natural 5 and 3, so 16 frames: rho is 5.5, and of the estimates 8 and 9 the first gives one.
+        let longer = Left {
+            out: vec![7, 9, 7],
+            values: [2, 16, 1],
+            ..answered.clone()
         };
         let zeros = Left {
             work: vec![0, 0, 9],
@@ -378,17 +402,27 @@ mod tests {
         for (bytes, expected) in [
             (&worked[..], (0, answered)),
             (&two([2.0, 3.0], 0.0), (7, zeros.clone())),
-            (&two([65_536.0, 1.0], 1.0), (8, zeros)),
+            (&two([65_536.0, 1.0], 1.0), (8, zeros.clone())),
             (&worked[..46], (9, at(46))),
             (b"SPK", (12, at(2))),
-            (b"SPJ\x02\0", (13, at(3))),
+            (b"SPJ\x03\0", (13, at(3))),
             (b"SPJ\x01\0\x01\x04", (14, at(5))),
+            (b"SPJ\x02\0\x01\x04", (14, at(5))),
+            (&kept([5, 1], 0.5), (0, longer)),
+            (&kept([5, 1], 0.0), (7, zeros.clone())),
+            (&kept([65_534, 1], 1.0), (8, zeros)),
+            (&kept([5, 0], 0.0), (15, untouched(3))),
+            (&kept([65_536, 1], 0.5), (15, untouched(3))),
+            (&kept([5, 0], 0.5)[..54], (9, at(54))),
         ] {
             assert_eq!(job(bytes, 3), expected);
             assert_eq!(end(&mut come(bytes), 3), expected);
         }
-        assert_eq!(job(&worked, 1), (6, untouched(1)));
-        assert_eq!(end(&mut come(&worked), 1), (6, untouched(1)));
+        // Room comes before the shortest.
+        for bytes in [worked, kept([0, 1], 0.5)] {
+            assert_eq!(job(&bytes, 1), (6, untouched(1)));
+            assert_eq!(end(&mut come(&bytes), 1), (6, untouched(1)));
+        }
     }
 
     #[test]

@@ -2,7 +2,8 @@
 //! Numbers and places are the rules', worked out by hand; none is asked of the library.
 
 use hejmirov::{
-    Answered, Damage, JOB_HEAD_BYTES, JOB_STATE_BYTES, LINK_BYTES, Link, MAX_JOB_STATES, Refusal,
+    Answered, Damage, JOB_HEAD_BYTES, JOB_STATE_BYTES, JOB2_STATE_BYTES, LINK_BYTES, Link,
+    MAX_JOB_STATES, Refusal,
 };
 
 /// The states (2, 1) and (3, 1) at speed 0.5: 47 bytes, and the durations are 4 and 6.
@@ -10,6 +11,18 @@ fn worked() -> Vec<u8> {
     let mut bytes = b"SPJ\x01\0\x02\0".to_vec();
     for number in [0.5_f64, 2.0, 1.0, 3.0, 1.0] {
         bytes.extend(number.to_le_bytes());
+    }
+    bytes
+}
+
+/// The same in version 2, every shortest 1: 55 bytes.
+fn worked_2() -> Vec<u8> {
+    let mut bytes = b"SPJ\x02\0\x02\0".to_vec();
+    bytes.extend(0.5_f64.to_le_bytes());
+    for mean in [2.0_f64, 3.0] {
+        bytes.extend(mean.to_le_bytes());
+        bytes.extend(1.0_f64.to_le_bytes());
+        bytes.extend(1_u32.to_le_bytes());
     }
     bytes
 }
@@ -67,7 +80,7 @@ fn held(link: &mut Link, bytes: &[u8], expected: Answer) {
 fn each_number_and_place() {
     use Damage::{Count, Length, Mark, Version};
     let mut link = Link::new();
-    let cases: [(&[u8], Damage, u64); 36] = [
+    let cases: [(&[u8], Damage, u64); 44] = [
         // A file that ends before a field's last byte ends short, whatever it has of that field.
         (b"", Length, 0),
         (b"S", Length, 1),
@@ -92,14 +105,16 @@ fn each_number_and_place() {
         (b"SJP", Mark, 1),
         (b"SPK", Mark, 2),
         (b"SPKX", Mark, 2),
-        (b"SPj\x02\0\xff\xff", Mark, 2),
+        (b"SPj\x03\0\xff\xff", Mark, 2),
         // Both bytes of the version, though the file ends there or says too many states.
-        (b"SPJ\x02\0", Version, 3),
+        (b"SPJ\x03\0", Version, 3),
         (b"SPJ\0\0", Version, 3),
         (b"SPJ\x01\x01", Version, 3),
+        (b"SPJ\x02\x01", Version, 3),
         (b"SPJ\0\x01", Version, 3),
-        (b"SPJ\x02\0\x02", Version, 3),
-        (b"SPJ\x02\0\xff\xff", Version, 3),
+        (b"SPJ\0\x02", Version, 3),
+        (b"SPJ\x03\0\x02", Version, 3),
+        (b"SPJ\x03\0\xff\xff", Version, 3),
         (b"SPJ\xff\xff\x02\0", Version, 3),
         // 1,025 states, 2,048 and 65,535, though the file ends there; 1,024 are not too many.
         (b"SPJ\x01\0\x01\x04", Count, 5),
@@ -108,6 +123,13 @@ fn each_number_and_place() {
         (b"SPJ\x01\0\x01\x04\0", Count, 5),
         (b"SPJ\x01\0\0\x04\0", Length, 8),
         (b"SPJ\x01\0\0\0\0\0\0\0\0\0\0\0!", Length, 15),
+        // Version 2 has the same head.
+        (b"SPJ\x02\0", Length, 5),
+        (b"SPJ\x02\0\xff", Length, 6),
+        (b"SPJ\x02\0\0\x04", Length, 7),
+        (b"SPJ\x02\0\x01\x04", Count, 5),
+        (b"SPJ\x02\0\xff\xff", Count, 5),
+        (b"SPJ\x02\0\0\0\0\0\0\0\0\0\0\0!", Length, 15),
     ];
     for (bytes, damage, place) in cases {
         held(&mut link, bytes, at(damage, place));
@@ -117,20 +139,21 @@ fn each_number_and_place() {
 #[test]
 fn a_file_that_ends_short_or_goes_on() {
     let mut link = Link::new();
-    let worked = worked();
     let answered = Answered {
         states: 2,
         frames: 10,
         changes: 1,
     };
-    held(&mut link, &worked, Ok(answered));
-    for end in 0..worked.len() {
-        let short = at(Damage::Length, end as u64);
-        held(&mut link, &worked[..end], short);
-    }
-    for surplus in [1, 2, 16, 17, 70_000] {
-        let long = filled(&worked, worked.len() + surplus);
-        held(&mut link, &long, at(Damage::Length, 47));
+    for (worked, bytes) in [(worked(), 47), (worked_2(), 55)] {
+        held(&mut link, &worked, Ok(answered));
+        for end in 0..worked.len() {
+            let short = at(Damage::Length, end as u64);
+            held(&mut link, &worked[..end], short);
+        }
+        for surplus in [1, 2, 8, 16, 17, 20, 21, 70_000] {
+            let long = filled(&worked, worked.len() + surplus);
+            held(&mut link, &long, at(Damage::Length, bytes));
+        }
     }
 }
 
@@ -147,6 +170,8 @@ fn each_byte_changed_to_each_other() {
             let (number, expected) = match place {
                 _ if byte == worked[place] => continue,
                 0..3 => (0, at(Damage::Mark, place as u64)),
+                // Version 2 has 15 + 20 x 2 bytes, and it ends short.
+                3 if byte == 2 => (3, at(Damage::Length, 47)),
                 3..5 => (1, at(Damage::Version, 3)),
                 _ if states > 1_024 => (2, at(Damage::Count, 5)),
                 // With fewer states it goes on, and with more it ends short, at its 47 bytes.
@@ -157,17 +182,21 @@ fn each_byte_changed_to_each_other() {
         }
     }
     // Of the count's low byte all 255 others are short or long, and of its high byte 1 to 3:
-    // with the 2 states of the low byte, 4 is above 1,024.
-    assert_eq!(told, [3 * 255, 2 * 255, 252, 255 + 3]);
+    // with the 2 states of the low byte, 4 is above 1,024. One more is short: that of version 2.
+    assert_eq!(told, [3 * 255, 2 * 255 - 1, 252, 1 + 255 + 3]);
 }
 
 #[test]
 fn more_bytes_than_a_link_keeps() {
     let mut link = Link::new();
-    let largest = JOB_HEAD_BYTES + MAX_JOB_STATES * JOB_STATE_BYTES;
-    assert_eq!(largest, 16_399);
+    let largest = JOB_HEAD_BYTES + MAX_JOB_STATES * JOB2_STATE_BYTES;
+    assert_eq!(largest, 20_495);
     for (head, damage, place) in [
-        (&b"SPJ\x01\0\0\x04"[..], Damage::Length, 16_399),
+        (&b"SPJ\x02\0\0\x04"[..], Damage::Length, 20_495),
+        (b"SPJ\x02\0\xff\x03", Damage::Length, 20_475),
+        (b"SPJ\x02\0\0\0", Damage::Length, 15),
+        (b"SPJ\x02\0\x01\x04", Damage::Count, 5),
+        (b"SPJ\x01\0\0\x04", Damage::Length, 16_399),
         (b"SPJ\x01\0\xff\x03", Damage::Length, 16_383),
         (b"SPJ\x01\0\0\0", Damage::Length, 15),
         (b"SPJ\x01\0\x01\x04", Damage::Count, 5),
@@ -178,6 +207,14 @@ fn more_bytes_than_a_link_keeps() {
             let long = filled(head, largest + surplus);
             held(&mut link, &long, at(damage, place));
         }
+    }
+    let one_less = filled(b"SPJ\x02\0\0\x04", largest - 1);
+    held(&mut link, &one_less, at(Damage::Length, 20_494));
+    // The largest of version 1, with as many bytes more as a link keeps, and fewer.
+    let largest = JOB_HEAD_BYTES + MAX_JOB_STATES * JOB_STATE_BYTES;
+    for surplus in [1, 4_095, 4_096, 4_097] {
+        let long = filled(b"SPJ\x01\0\0\x04", largest + surplus);
+        held(&mut link, &long, at(Damage::Length, 16_399));
     }
     let one_less = filled(b"SPJ\x01\0\0\x04", largest - 1);
     held(&mut link, &one_less, at(Damage::Length, 16_398));
@@ -196,13 +233,16 @@ fn a_link_cut_anywhere() {
         (with(0, b'X'), at(Damage::Mark, 0)),
         (with(1, b'X'), at(Damage::Mark, 1)),
         (with(2, b'K'), at(Damage::Mark, 2)),
-        (with(3, 2), at(Damage::Version, 3)),
+        (with(3, 2), at(Damage::Length, 47)),
+        (with(3, 3), at(Damage::Version, 3)),
         (with(4, 1), at(Damage::Version, 3)),
         (with(5, 1), at(Damage::Length, 31)),
         (with(5, 3), at(Damage::Length, 47)),
         (with(6, 4), at(Damage::Count, 5)),
         (worked[..46].to_vec(), at(Damage::Length, 46)),
         (filled(&worked, 50), at(Damage::Length, 47)),
+        (worked_2()[..54].to_vec(), at(Damage::Length, 54)),
+        (filled(&worked_2(), 58), at(Damage::Length, 55)),
     ] {
         for first in 0..=bytes.len() {
             let (front, rest) = bytes.split_at(first);
@@ -240,7 +280,7 @@ fn a_line_for_a_log() {
         ),
         (b"SPK", "refused 12 at byte 2: job file's mark is wrong"),
         (
-            b"SPJ\x02\0",
+            b"SPJ\x03\0",
             "refused 13 at byte 3: job file's version is wrong",
         ),
         (

@@ -3,9 +3,9 @@
 #![allow(clippy::float_cmp)] // what is promised is exact
 
 use hejmirov::{
-    Aligned, Clamped, Damage, Fitted, GlobalVariance, JOB_STATE_BYTES, LINK_BYTES, Link,
-    MAX_FRAMES, MAX_JOB_STATES, MAX_NSTATE, MAX_STATES, MAX_V, MAX_WIDTH, MAX_WINDOWS, OPEN_END,
-    Refusal, Stream, WORK_FLOATS_A_FRAME, WORK_MARKS_A_FRAME, Windows,
+    Aligned, Clamped, Damage, Fitted, GlobalVariance, JOB_STATE_BYTES, JOB2_STATE_BYTES,
+    LINK_BYTES, Link, MAX_FRAMES, MAX_JOB_STATES, MAX_NSTATE, MAX_STATES, MAX_V, MAX_WIDTH,
+    MAX_WINDOWS, OPEN_END, Refusal, Stream, WORK_FLOATS_A_FRAME, WORK_MARKS_A_FRAME, Windows,
 };
 
 const MEANS: [f64; 2] = [2.0, 3.0];
@@ -63,13 +63,16 @@ fn windows_are_refused() {
 #[test]
 fn sizes_are_refused() {
     let many = vec![1.0; MAX_STATES + 1];
-    assert_eq!(hejmirov::fit(&many, &many, 9.0), Err(Refusal::BadSize));
+    assert_eq!(
+        hejmirov::fit(&many, &many, None, 9.0),
+        Err(Refusal::BadSize)
+    );
     assert_eq!(
         hejmirov::mask(&many, 0.0, &vec![1; MAX_STATES + 1]),
         Err(Refusal::BadSize)
     );
     assert_eq!(
-        hejmirov::align(&MEANS, &VARIS, 0, &[8.0]),
+        hejmirov::align(&MEANS, &VARIS, None, 0, &[8.0]),
         Err(Refusal::BadSize)
     );
     assert_eq!(hejmirov::place(0, 0, 65), Err(Refusal::BadSize));
@@ -84,11 +87,11 @@ fn sizes_are_refused() {
 #[test]
 fn lists_that_disagree_are_refused() {
     assert_eq!(
-        hejmirov::fit(&MEANS, &[1.0], 8.0),
+        hejmirov::fit(&MEANS, &[1.0], None, 8.0),
         Err(Refusal::ListsDisagree)
     );
     assert_eq!(
-        hejmirov::align(&MEANS, &VARIS, 2, &[8.0, 9.0]),
+        hejmirov::align(&MEANS, &VARIS, None, 2, &[8.0, 9.0]),
         Err(Refusal::ListsDisagree)
     );
     assert_eq!(
@@ -136,7 +139,7 @@ fn too_many_frames_are_refused() {
 #[test]
 fn too_little_room_leaves_everything() {
     let (mut out, mut work) = ([7; 2], [7; 1]);
-    let refused = hejmirov::fit_into(&MEANS, &VARIS, 8.0, &mut out, &mut work);
+    let refused = hejmirov::fit_into(&MEANS, &VARIS, None, 8.0, &mut out, &mut work);
     assert_eq!(
         (refused, out, work),
         (Err(Refusal::TooLittleRoom), [7; 2], [7; 1])
@@ -155,19 +158,19 @@ fn too_little_room_leaves_everything() {
 #[test]
 fn lengths_above_the_limit_zero_the_work_space() {
     let (mut out, mut work) = ([7; 2], [7; 3]);
-    let refused = hejmirov::fit_into(&MEANS, &VARIS, 65_536.5, &mut out, &mut work);
+    let refused = hejmirov::fit_into(&MEANS, &VARIS, None, 65_536.5, &mut out, &mut work);
     assert_eq!(
         (refused, out, work),
         (Err(Refusal::TargetTooLong), [7; 2], [0, 0, 7])
     );
     let mut work = [7; 3];
-    let refused = hejmirov::fit_into(&MEANS, &VARIS, 65_536.0, &mut out, &mut work);
+    let refused = hejmirov::fit_into(&MEANS, &VARIS, None, 65_536.0, &mut out, &mut work);
     assert_eq!(
         (refused, out, work),
         (Err(Refusal::EstimateTooLong), [7; 2], [0, 0, 7])
     );
     assert_eq!(
-        hejmirov::speed(&MEANS, &VARIS, 0.0),
+        hejmirov::speed(&MEANS, &VARIS, None, 0.0),
         Err(Refusal::TargetTooLong)
     );
 }
@@ -201,10 +204,13 @@ fn trajectories_zero_the_work_space_they_use_and_no_more() {
 #[test]
 fn empty_lists_are_accepted() {
     assert_eq!(
-        hejmirov::fit(&[], &[], f64::INFINITY),
+        hejmirov::fit(&[], &[], None, f64::INFINITY),
         Ok(Fitted::default())
     );
-    assert_eq!(hejmirov::align(&[], &[], 1, &[]), Ok(Fitted::default()));
+    assert_eq!(
+        hejmirov::align(&[], &[], None, 1, &[]),
+        Ok(Fitted::default())
+    );
     assert_eq!(hejmirov::mask(&[], 0.5, &[]), Ok(hejmirov::Mask::default()));
     let trajectory = PLAIN.trajectory(&[], &[]).unwrap();
     assert_eq!(trajectory.numbers, []);
@@ -224,7 +230,7 @@ fn empty_lists_are_accepted() {
 fn aligned(means: &[f64], ends: &[f64]) -> (Result<Aligned, Refusal>, Vec<u32>, Vec<u32>) {
     let varis = vec![1.0; means.len()];
     let (mut out, mut work) = (vec![7; means.len() + 1], vec![7; means.len() + 1]);
-    let answer = hejmirov::align_into(means, &varis, 1, ends, &mut out, &mut work);
+    let answer = hejmirov::align_into(means, &varis, None, 1, ends, &mut out, &mut work);
     (answer, out, work)
 }
 
@@ -254,7 +260,7 @@ fn states_after_the_last_given_end_are_natural() {
         ([OPEN_END, OPEN_END], [2, 3, 3, 1], 0),
         ([-f64::MIN_POSITIVE, f64::NAN], [2, 3, 3, 1], 0),
     ] {
-        let fitted = hejmirov::align(&means, &varis, 2, &ends).unwrap();
+        let fitted = hejmirov::align(&means, &varis, None, 2, &ends).unwrap();
         assert_eq!(
             (fitted.durations, fitted.changes),
             (durations.to_vec(), changes)
@@ -311,17 +317,35 @@ fn label(nstate: usize) -> Result<Fitted, Refusal> {
     hejmirov::align(
         &states,
         &states,
+        None,
         u32::try_from(nstate).unwrap(),
         &[OPEN_END],
     )
 }
 
-/// The file of a job of so many states of one frame each.
-fn job_of(states: usize) -> Vec<u8> {
-    let mut bytes = b"SPJ\x01\0".to_vec();
+/// The head of a job file.
+fn head_of(version: u16, states: usize) -> Vec<u8> {
+    let mut bytes = b"SPJ".to_vec();
+    bytes.extend(version.to_le_bytes());
     bytes.extend(u16::try_from(states).unwrap().to_le_bytes());
     bytes.extend(1.0_f64.to_le_bytes());
+    bytes
+}
+
+/// The file of a job of so many states of one frame each.
+fn job_of(states: usize) -> Vec<u8> {
+    let mut bytes = head_of(1, states);
     bytes.resize(bytes.len() + states * JOB_STATE_BYTES, 0);
+    bytes
+}
+
+/// The same in version 2, with so many frames a state.
+fn job_2_of(states: usize, shortest: u32) -> Vec<u8> {
+    let mut bytes = head_of(2, states);
+    for _ in 0..states {
+        bytes.resize(bytes.len() + JOB2_STATE_BYTES - 4, 0);
+        bytes.extend(shortest.to_le_bytes());
+    }
     bytes
 }
 
@@ -342,10 +366,16 @@ fn limits_are_the_last_accepted() {
     let ones = vec![1.0; MAX_STATES + 1];
     let most = &ones[..MAX_STATES];
     assert_eq!(
-        hejmirov::speed(most, most, 1.0).unwrap().durations.len(),
+        hejmirov::speed(most, most, None, 1.0)
+            .unwrap()
+            .durations
+            .len(),
         MAX_STATES
     );
-    assert_eq!(hejmirov::speed(&ones, &ones, 1.0), Err(Refusal::BadSize));
+    assert_eq!(
+        hejmirov::speed(&ones, &ones, None, 1.0),
+        Err(Refusal::BadSize)
+    );
     assert_eq!(label(MAX_NSTATE).unwrap().durations, [1; MAX_NSTATE]);
     assert_eq!(label(MAX_NSTATE + 1), Err(Refusal::BadSize));
 
@@ -361,6 +391,17 @@ fn limits_are_the_last_accepted() {
 
     assert_eq!(job(MAX_JOB_STATES), Ok(MAX_JOB_STATES as u64));
     assert_eq!(job(MAX_JOB_STATES + 1), Err(damaged(Damage::Count, 5)));
+    // 1,024 x 64 frames are as many as there may be.
+    let most = hejmirov::job(&job_2_of(MAX_JOB_STATES, 64)).unwrap();
+    assert_eq!(most.durations, [64; MAX_JOB_STATES]);
+    assert_eq!(
+        hejmirov::job(&job_2_of(MAX_JOB_STATES, 65)),
+        Err(Refusal::BadShortest)
+    );
+    assert_eq!(
+        hejmirov::job(&job_2_of(MAX_JOB_STATES + 1, 65)),
+        Err(damaged(Damage::Count, 5))
+    );
 }
 
 #[test]
@@ -371,6 +412,7 @@ fn a_link_that_has_ended_takes_nothing_but_begin() {
     for (part, expected) in [
         (&job[..], Err(Refusal::TooLittleRoom)), // a refused end is an end
         (b"SPJ", Err(damaged(Damage::Length, 3))),
+        (&job_2_of(1, 0), Err(Refusal::BadShortest)),
         (&job_of(0), Ok(0)),
     ] {
         hejmirov::link_begin(&mut memory).unwrap();
@@ -434,21 +476,25 @@ fn a_memory_that_is_too_short() {
 
 #[test]
 fn more_bytes_than_any_job_has() {
-    let largest = job_of(MAX_JOB_STATES);
-    let mut link = Link::default();
-    for part in largest.chunks(1_000) {
-        link.part(part).unwrap();
-    }
-    let ended = link.clone().end().unwrap();
-    assert_eq!(ended.durations, [1; MAX_JOB_STATES]);
-    for surplus in [1, 2, 16, 70_000] {
-        let mut longer = link.clone();
-        longer.part(&vec![0; surplus]).unwrap();
-        longer.part(&largest).unwrap();
-        assert_eq!(longer.end(), Err(damaged(Damage::Length, 16_399)));
-        longer.begin();
-        longer.part(&largest).unwrap();
-        assert_eq!(longer.end(), Ok(ended.clone()));
+    for (largest, bytes) in [
+        (job_of(MAX_JOB_STATES), 16_399),
+        (job_2_of(MAX_JOB_STATES, 1), 20_495),
+    ] {
+        let mut link = Link::default();
+        for part in largest.chunks(1_000) {
+            link.part(part).unwrap();
+        }
+        let ended = link.clone().end().unwrap();
+        assert_eq!(ended.durations, [1; MAX_JOB_STATES]);
+        for surplus in [1, 2, 16, 4_096, 70_000] {
+            let mut longer = link.clone();
+            longer.part(&vec![0; surplus]).unwrap();
+            longer.part(&largest).unwrap();
+            assert_eq!(longer.end(), Err(damaged(Damage::Length, bytes)));
+            longer.begin();
+            longer.part(&largest).unwrap();
+            assert_eq!(longer.end(), Ok(ended.clone()));
+        }
     }
 }
 

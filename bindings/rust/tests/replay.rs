@@ -115,7 +115,7 @@ fn bits(numbers: &[f64]) -> Vec<u64> {
 fn fits() {
     replay(3, 2, |stored| {
         let (means, varis, length) = (stored.f64s(), stored.f64s(), stored.f64());
-        let fitted = hejmirov::fit(&means, &varis, length).unwrap();
+        let fitted = hejmirov::fit(&means, &varis, None, length).unwrap();
         (fitted.changes, fitted.durations) == (stored.u32(), stored.u32s())
     });
 }
@@ -124,7 +124,7 @@ fn fits() {
 fn speeds() {
     replay(4, 2, |stored| {
         let (means, varis, speed) = (stored.f64s(), stored.f64s(), stored.f64());
-        let fitted = hejmirov::speed(&means, &varis, speed).unwrap();
+        let fitted = hejmirov::speed(&means, &varis, None, speed).unwrap();
         (fitted.changes, fitted.durations) == (stored.u32(), stored.u32s())
     });
 }
@@ -133,7 +133,7 @@ fn speeds() {
 fn alignments() {
     replay(5, 3, |stored| {
         let (means, varis, nstate) = (stored.f64s(), stored.f64s(), stored.u32());
-        let fitted = hejmirov::align(&means, &varis, nstate, &stored.f64s()).unwrap();
+        let fitted = hejmirov::align(&means, &varis, None, nstate, &stored.f64s()).unwrap();
         let written = fitted.durations.len();
         (written, fitted.changes, fitted.durations) == (stored.count(), stored.u32(), stored.u32s())
     });

@@ -39,12 +39,18 @@ fn durations() {
     for _ in 0..2_000 {
         let numbers = seed.sizes().into_iter().map(f64::from).collect::<Vec<_>>();
         let length = f64::from(seed.size());
-        has_room(hejmirov::fit(&numbers, &numbers, length));
-        has_room(hejmirov::speed(&numbers, &numbers, length));
-        has_room(hejmirov::align(&numbers, &numbers, 1, &numbers));
-        let mut job = b"SPJ\x01\0".to_vec();
+        let given = seed.sizes();
+        let as_many: Vec<u32> = numbers.iter().map(|_| seed.size()).collect();
+        for shortest in [None, Some(&given[..]), Some(&as_many)] {
+            has_room(hejmirov::fit(&numbers, &numbers, shortest, length));
+            has_room(hejmirov::speed(&numbers, &numbers, shortest, length));
+            has_room(hejmirov::align(&numbers, &numbers, shortest, 1, &numbers));
+        }
+        let mut job = b"SPJ".to_vec();
+        job.extend(u16::try_from(seed.below(4)).unwrap().to_le_bytes());
         job.extend(u16::try_from(seed.below(5)).unwrap().to_le_bytes());
-        job.resize(15 + 16 * usize::try_from(seed.below(5)).unwrap(), 1);
+        let a_state = [16, 20][usize::try_from(seed.below(2)).unwrap()];
+        job.resize(15 + a_state * usize::try_from(seed.below(5)).unwrap(), 1);
         has_room(hejmirov::job(&job));
         link.begin();
         has_room(link.part(&job));

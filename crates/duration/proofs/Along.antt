@@ -84,7 +84,7 @@ module _ (ss : States) (k : ℕ) (ends : List Float) where
   module _ (start work : List ℕ) (done first frames changes i : ℕ) (l : Labelled ss k ends start) (a : Along start work done first frames changes i) where
     -- a group that begins where the closed states end
     pub lies : (to : ℕ) (end : End) → done ≤ to → to ≤ size ss → Lies ss work (record { from = done; to = to; end = end }) frames
-    lies to end o h = record { lists = record { few = l .lists .few; varis = l .lists .varis; workspace = a .long ∙ l .lists .workspace }; order = o; inside = h; few = a .few }
+    lies to end o h = record { lists = record { few = l .lists .few; varis = l .lists .varis; shortest = l .lists .shortest; workspace = a .long ∙ l .lists .workspace }; low = l .low; order = o; inside = h; few = a .few }
 
     -- such a group is the first of those that are left, and was closed with these values
     module _ (to : ℕ) (end : End) (later : List Group) (p : left done first i ≡ record { from = done; to = to; end = end } ∷ later)
@@ -189,6 +189,10 @@ module _ (ss : States) (k : ℕ) (ends : List Float) where
       module _ (end : Float) (q : label .end ≡ At end) where
         pub group-lies : Lies ss work (given done (label .first + k) end) frames
         group-lies = lies (label .first + k) (At end) (omega (arith, next, a .order)) (omega (arith, room))
+
+        -- and has a state
+        pub group-some : done < label .first + k
+        group-some = omega (arith, next, a .order, l .some)
 
         module _ (r : Closed) (work′ : List ℕ) (f : Closes ss (given done (label .first + k) end) frames work (grown ss (given done (label .first + k) end) frames) (closed r) work′) where
           abbrev later : List Group

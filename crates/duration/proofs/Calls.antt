@@ -2,13 +2,14 @@
 use mathlib.Core.Path.{_≡_, refl, sym, ap, _∙_}
 use mathlib.Core.Bool.{true}
 use mathlib.Core.List.{List, [], _∷_, _++_}
-use Prim.Native.Nat.{ℕ, zero, suc, _≤_}
+use Prim.Native.Nat.{ℕ, zero, suc, _+_, _≤_, _<_, min}
+use native.Mathlib.Nat.{le-refl}
 use native.Mathlib.Omega.{arith}
-use lib.ListN.{length, take, drop, replicate, length-append}
+use lib.ListN.{length, getD, set, take, drop, replicate, length-append, length-replicate}
 use lib.Ieee.{Float}
 use lib.Seq.{sets, take-at, drop-at}
 use borrow.Author.Tests.{ne-eqb}
-use Rattle.lists.proofs.Stores.{filled, copied}
+use Rattle.lists.proofs.Stores.{filled, copied, Storing, storing, storing-read, copying-next, copying-done, filling-next, filling-done}
 use Rattle.lists.proofs.Answers.{refused, Same, same, untouched, refused-is, accepted-is}
 use Rattle.duration.specs.declared.Fitted.{Fitted}
 use Rattle.duration.specs.declared.Fitted.the-variants as fit
@@ -24,16 +25,51 @@ pub handed : (r : Fitted) (c : ℕ) (new out out′ : List ℕ) → r ≡ fit.Do
 handed r c new out out′ e f = rw e f
 
 module _ (n : ℕ) (values new out work : List ℕ) where
-  pub says-early : (b k : ℕ) → (b ≡ 0 → ⊥) → b ≤ 6 → Says (orElse b k) values new n out work (refusing b) out work
+  -- by the lists, with b, whatever the shortest durations would be refused with
+  pub says-early : (b s k : ℕ) → (b ≡ 0 → ⊥) → b ≤ 6 → Says (orElse (orElse b s) k) values new n out work (refusing b) out work
   unfolding workOf
-  says-early zero k z h = absurd (z refl)
-  says-early (suc b) k z h =
+  says-early zero s k z h = absurd (z refl)
+  says-early (suc b) s k z h =
       record { answer = refl; output = refl; workspace = rw (ne-eqb (suc b) 0 z, ne-eqb (suc b) 7 (λ q. omega arith), ne-eqb (suc b) 8 (λ q. omega arith)) }
+
+  -- by these, where the lists are taken
+  pub says-unfit : (b s k : ℕ) → b ≡ 0 → s ≡ 15 → Says (orElse (orElse b s) k) values new n out work (refusing 15) out work
+  unfolding workOf
+  says-unfit b s k z e = rw (z, e) (record { answer = refl; output = refl; workspace = refl })
+
+-- ---- a loop that moves n numbers from the front of one list to that of another has moved i
+
+pub record Moving (n : ℕ) (out₀ work₀ out work : List ℕ) (i : ℕ) : Type 0 where
+  pub moved : Storing (take n work₀) out₀ out n i
+  pub left : Storing (replicate n 0) work₀ work n i
+
+module _ (n : ℕ) (out₀ work₀ : List ℕ) (room : (n ≤ length out₀) × (n ≤ length work₀)) where
+  pub moving : Moving n out₀ work₀ out₀ work₀ 0
+  moving = record { moved = storing (take n work₀) out₀ n; left = storing (replicate n 0) work₀ n }
+
+  module _ (out work : List ℕ) (i : ℕ) (g : Moving n out₀ work₀ out work i) where
+    moved-end : n ≡ min (min n (length work₀)) (length out₀)
+    moved-end = omega (arith, room .0, room .1)
+
+    left-end : n ≡ min n (length work₀)
+    left-end = omega (arith, room .1)
+
+    pub moving-next : i < n → Moving n out₀ work₀ (set out i (getD work i 0)) (set work i 0) (i + 1)
+    moving-next h =
+        let read : getD work i 0 ≡ getD work₀ i 0 = storing-read (replicate n 0) work₀ work n i 0 (rw (length-replicate {A = ℕ} n 0) (le-refl n)) h (omega (arith, room .1)) (g .left) in
+        record { moved = copying-next n work₀ out₀ out n i moved-end (g .moved) (getD work i 0) 0 h read; left = filling-next n 0 work₀ work n i left-end (g .left) h }
+
+    pub moving-done : n ≤ i → (out ≡ sets out₀ 0 (take n work₀)) × (work ≡ sets work₀ 0 (replicate n 0))
+    moving-done h = (copying-done n work₀ out₀ out n i moved-end (g .moved) h, filling-done n 0 work₀ work n i left-end (g .left) h)
+
+-- a list whose front was put back has room for it
+pub room-kept : (n : ℕ) (w work : List ℕ) → length w ≡ n → n ≤ length (w ++ drop n work)
+room-kept n w work e = simp length-append (omega arith)
 
 -- after the work: w is its front, of n numbers
 module _ (n k : ℕ) (new out work w : List ℕ) (long : length w ≡ n) (late : clears k ≡ true) where
   whole-long : n ≤ length (w ++ drop n work)
-  whole-long = simp length-append (omega arith)
+  whole-long = room-kept n w work long
 
   cleared : (work′ : List ℕ) → work′ ≡ sets (w ++ drop n work) 0 (replicate n 0) → work′ ≡ workOf k n work
   unfolding workOf

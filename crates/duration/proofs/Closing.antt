@@ -3,16 +3,14 @@ use mathlib.Core.Path.{_≡_, refl, sym, ap, _∙_}
 use mathlib.Core.Bool.{Bool, true, false, cond}
 use mathlib.Core.Logic.{⊎-elim}
 use mathlib.Core.List.{List, [], _∷_, _++_}
-use Prim.Native.Nat.{ℕ, zero, suc, _+_, _-_, _^_, _≤_, _<_, min, zero-le}
+use Prim.Native.Nat.{ℕ, zero, suc, _+_, _-_, _≤_, _<_, min, max, zero-le}
 use native.Mathlib.Omega.{arith}
 use lib.Dec.{ltb}
 use lib.ListN.{length, take, drop, length-take, take-append-drop}
-use lib.Seq.{take-at, drop-at, length-take-le}
 use lib.Ieee.{Float}
 use borrow.Author.Tests.{lt-ltb, le-ltb, ltb-false}
 use Rattle.lists.specs.Sizes.{mostFrames}
 use Rattle.lists.specs.Totals.{total}
-use Rattle.lists.proofs.Sums.{total-whole}
 use Rattle.lists.proofs.Numbers.{le-or-lt}
 use Rattle.lists.proofs.Refusals.{or-first, or-none}
 use Rattle.duration.specs.declared.Fitted.{Fitted}
@@ -20,7 +18,7 @@ use Rattle.duration.specs.declared.Fitted.the-variants as fit
 use Rattle.duration.specs.declared.align.Closed.the-variants as close
 use Rattle.duration.specs.declared.align.End.{End}
 use Rattle.duration.specs.declared.align.End.the-variants.{At, Open}
-use Rattle.steps.specs.Steps.{States, size, Outcome, unchanged}
+use Rattle.steps.specs.Steps.{States, size, least, Outcome, unchanged}
 use Rattle.floats.specs.Numbers.{nought}
 use Rattle.duration.specs.Estimate.{naturals}
 use Rattle.duration.specs.Fit.{atShortest, fitTo, refusalTo}
@@ -33,6 +31,7 @@ use Rattle.lists.proofs.Answers.{refused, refused-is, accepted-is}
 use Rattle.steps.proofs.Stepping.{settle-few}
 use Rattle.duration.proofs.Refusals.{cond-none}
 use Rattle.duration.proofs.Estimates.{length-estimates}
+use Rattle.duration.proofs.Fairness.{fit-total}
 use Rattle.duration.proofs.Fits.{no-list, fit-clears}
 
 -- ---- closing a group with an end, whose fit left w in its place
@@ -54,12 +53,13 @@ module _ (ss : States) (from to : ℕ) (x : Float) (frames : ℕ) (work w work�
         let n : k ≡ refusalOf ss g frames = q ∙ ap (λ (x : Fitted). fitted x .number) e ∙ sym (o ∙ s .0) in
         record { answer = ap refusing n ∙ refused (refusalOf ss g frames) _ z; output = λ q. absurd (z q) }
 
-    module _ (c s : ℕ) (e : r ≡ fit.Done c) (sum : s ≡ total w) where
+    -- it comes to the larger of its target and the sum of its shortest
+    module _ (c s : ℕ) (e : r ≡ fit.Done c) (some : 0 < size (statesIn g ss)) (agree : length (statesIn g ss .shortest) ≡ size (statesIn g ss)) (sum : s ≡ max (targetOf x frames) (least (statesIn g ss))) where
       done : (own ≡ 0) × (fitted (fit.Done c) .values ≡ fitOf ss g frames .changes ∷ [])
       done = accepted-is (fitted (fit.Done c)) own _ (ap fitted (sym e) ∙ f .answer) refl
 
       sum-is : s ≡ total (fitOf ss g frames .durations)
-      sum-is = sum ∙ ap total (f .output (done .0))
+      sum-is = sum ∙ sym (fit-total (statesIn g ss) (targetOf x frames) some agree (done .0))
 
       pub close-long : mostFrames < frames + s → Closes ss g frames work (grown ss g frames) (closed (close.Refused 8)) work′
       unfolding refusalOf
@@ -115,13 +115,6 @@ tail-none ss from to frames changes work e h =
     let n : naturals-of ss from to frames changes work ≡ [] = no-list _ (length-estimates nought (statesIn (tail from to) ss) ∙ none) in
     tail-fits ss from to frames changes work (rw n (omega arith)) [] work (sym n) (rw (← e) (sym (take-append-drop from work)))
 
--- ---- the frames of a group, counted in its part of the work space after w was put back there
-
-pub counted : (r : ℕ) (work w rest : List ℕ) (a n : ℕ) → r ≡ total (take (2 ^ 32) (take n (drop a (take a work ++ (w ++ rest))))) → a ≤ length work → length w ≡ n → n ≤ 4294967296 → r ≡ total w
-counted r work w rest a n e h l s =
-    let back : take n (drop a (take a work ++ (w ++ rest))) ≡ w = ap (take n) (drop-at (take a work) (w ++ rest) a (length-take-le a work h)) ∙ take-at w rest n l in
-    e ∙ rw back (total-whole w (omega arith))
-
 -- ---- a group that is not refused: its own tests, and the frames up to its end
 
 pub accepted-group : (ss : States) (g : Group) (frames : ℕ) → refusalOf ss g frames ≡ 0 → (refusalToEnd (statesIn g ss) frames (g .end) ≡ 0) × (frames + total (fitOf ss g frames .durations) ≤ mostFrames)
@@ -139,7 +132,7 @@ cond-few false p q m h k = k
 
 pub fit-few : (ss : States) (t : ℕ) → fitTo ss t .changes ≤ mostFrames
 unfolding fitTo
-fit-few ss t = cond-few (atShortest (size ss) t) (unchanged _) _ mostFrames zero-le (settle-few _ ss t mostFrames _)
+fit-few ss t = cond-few (atShortest ss t) (unchanged _) _ mostFrames zero-le (settle-few _ ss t mostFrames _)
 
 -- ---- a group's refusals, and a run's, clear the work space
 

@@ -1,9 +1,9 @@
--- No drift: at each given end of an alignment that is accepted the running total is the end rounded, or one frame a state more than before its group, whatever came before.
+-- No drift: at each given end of an alignment that is accepted the running total is the end rounded, or the sum of its shortest more than before its group, whatever came before.
 use mathlib.Core.Path.{_≡_, refl, sym, ap, _∙_, subst}
 use mathlib.Core.Bool.{true, false, cond}
 use mathlib.Core.List.{List, _∷_, _++_}
 use Prim.Native.Nat.{ℕ, zero, suc, _+_, _-_, _*_, _≤_, _<_}
-use native.Mathlib.Nat.{le-trans, zero-mul, mul-one, suc-mul, mul-le-mul-right}
+use native.Mathlib.Nat.{le-trans, zero-mul, suc-mul, mul-le-mul-right}
 use native.Mathlib.Omega.{arith}
 use lib.ListN.{length, getD, drop}
 use lib.Seq.{drop-drop, take-at, drop-at, take-append-le}
@@ -11,9 +11,9 @@ use lib.Ieee.{Float, nan, le}
 use borrow.Rule.Slice.PartMut.{mid-len}
 use Rattle.lists.specs.Sizes.{mostFrames}
 use Rattle.lists.specs.Totals.{total}
-use Rattle.lists.proofs.Sums.{total-part, total-front, total-same}
+use Rattle.lists.proofs.Sums.{total-part, total-front}
 use Rattle.floats.specs.Numbers.{nought, Held}
-use Rattle.steps.specs.Steps.{States, size, shortest, Outcome}
+use Rattle.steps.specs.Steps.{States, size, least, Outcome}
 use Rattle.duration.specs.declared.Aligned.{Aligned}
 use Rattle.duration.specs.Align.{Group, given, groups, statesIn}
 use Rattle.duration.specs.Drift.{OnTime, closedBefore, upTo, NoDrift}
@@ -21,7 +21,8 @@ use Rattle.duration.specs.Fitting.{FairGroup, FairAlong, AcceptedAlong}
 use Rattle.duration.specs.Fitting.FairAlong.{next}
 use Rattle.duration.specs.Promise.{aligned, AlignSays, AlignOnTime}
 use Rattle.duration.proofs.Refusals.{Labels}
-use Rattle.duration.proofs.Aligning.{align-labels, align-theorem}
+use Rattle.duration.proofs.Aligning.{align-labels, align-shortest, align-theorem}
+use Rattle.duration.proofs.Shortest.{Taken, total-some, part-one-each}
 use Rattle.duration.proofs.Groups.{closed-most, groups-given, groups-open}
 use Rattle.duration.proofs.OnTime.{on-time}
 
@@ -38,7 +39,7 @@ record Opened (ss : States) (g : Group) (gs : List Group) (frames : ℕ) (ds : L
 opened : {ss : States} {g : Group} {gs : List Group} {frames c : ℕ} {ds : List ℕ} → FairAlong ss (g ∷ gs) frames ds c → Opened ss g gs frames ds
 opened (next f a) = record { own = _; rest = _; changes = _; later = _; is = refl; group = f; after = a }
 
-module _ (ss : States) (k : ℕ) (ends : List Float) (ds : List ℕ) (some : 1 ≤ k) (cover : length ends * k ≡ size ss) (few : total ds ≤ mostFrames) (held : Held ends) where
+module _ (ss : States) (k : ℕ) (ends : List Float) (ds : List ℕ) (some : 1 ≤ k) (cover : length ends * k ≡ size ss) (low : (i : ℕ) → i < length (ss .shortest) → 1 ≤ getD (ss .shortest) i 0) (also : length (ss .shortest) ≡ size ss) (few : total ds ≤ mostFrames) (held : Held ends) where
   -- the groups from label i on are fair, after the states before `done`
   record FairFrom (i done : ℕ) : Type 0 where
     changes : ℕ
@@ -76,14 +77,17 @@ module _ (ss : States) (k : ℕ) (ends : List Float) (ds : List ℕ) (some : 1 �
     fair-next : FairFrom (suc i) (suc i * k)
     fair-next = record { changes = first .later; fair = rw (total-here, rest-here) (first .after) }
 
-    on-time-here : OnTime x (upTo done ds) (suc i * k - done) (upTo (suc i * k) ds)
+    some-low : 0 < least (statesIn g ss)
+    some-low = total-some (statesIn g ss .shortest) (part-one-each (ss .shortest) done (suc i * k - done) low) (rw (mid-len done (suc i * k) (ss .shortest) (rw also within-states)) (omega (arith, suc-mul i k)))
+
+    on-time-here : OnTime x (upTo done ds) (least (statesIn g ss)) (upTo (suc i * k) ds)
     on-time-here =
-        subst (λ (n : ℕ). OnTime x (upTo done ds) (suc i * k - done) n) (sym total-here)
-        (on-time x (upTo done ds) (suc i * k - done) (total (first .own)) (held i) at
+        subst (λ (n : ℕ). OnTime x (upTo done ds) (least (statesIn g ss)) n) (sym total-here)
+        (on-time x (upTo done ds) (least (statesIn g ss)) (total (first .own)) (held i) at
         (le-trans (rw (← total-here) (total-front ds (suc i * k))) few)
-        (omega (arith, suc-mul i k))
-        (λ h. first .group .by-end .above (rw states h) .sum)
-        (λ h. ap (λ (o : Outcome). total (o .durations)) (first .group .by-end .otherwise (rw states h)) ∙ total-same (size (statesIn g ss)) shortest ∙ mul-one (size (statesIn g ss)) ∙ states))
+        some-low
+        (λ h. first .group .by-end .above h .sum)
+        (λ h. ap (λ (o : Outcome). total (o .durations)) (first .group .by-end .otherwise h)))
 
   module _ (c : ℕ) (f : FairAlong ss (groups k 0 0 ends) 0 ds c) where
     fair-from : (i : ℕ) → i ≤ length ends → FairFrom i (closedBefore k ends i)
@@ -96,11 +100,14 @@ module _ (ss : States) (k : ℕ) (ends : List Float) (ds : List ℕ) (some : 1 �
         ])
         refl
 
-    no-drift-of : NoDrift k ends ds
+    no-drift-of : NoDrift k ends (ss .shortest) ds
     no-drift-of i h at = on-time-here i (closedBefore k ends i) h at (closed-most k ends i) (fair-from i (omega arith))
 
 -- The theorem, of every outcome that an alignment's promise allows with an accepted answer
 module _ (ss : States) (nstate : ℕ) (ends : List Float) (out work : List ℕ) (r : Aligned) (out′ work′ : List ℕ) (held : Held ends) (z : aligned r .number ≡ 0) (f : AlignSays ss nstate ends out work r out′ work′) where
+  low : (length (ss .shortest) ≡ size ss) × Taken (ss .shortest)
+  low = align-shortest ss nstate ends out work r out′ work′ z f
+
   labels : Labels nstate (length ends) (size ss)
   labels = align-labels ss nstate ends out work r out′ work′ z f
 
@@ -110,10 +117,10 @@ module _ (ss : States) (nstate : ℕ) (ends : List Float) (out work : List ℕ) 
   same-total : (n : ℕ) → n ≤ size ss → upTo n out′ ≡ upTo n (fair .outcome .durations)
   same-total n h = ap (upTo n) (fair .output) ∙ ap total (take-append-le n (fair .outcome .durations) (drop (size ss) out) (rw (fair .count) h))
 
-  pub no-drift : NoDrift nstate ends out′
+  pub no-drift : NoDrift nstate ends (ss .shortest) out′
   no-drift i h at =
       let ds = fair .outcome .durations in
-      let o = no-drift-of ss nstate ends ds (labels .some) (labels .cover) (fair .frames) held (fair .outcome .changes) (fair .fair) i h at in
+      let o = no-drift-of ss nstate ends ds (labels .some) (labels .cover) (low .1 .one-each) (low .0) (fair .frames) held (fair .outcome .changes) (fair .fair) i h at in
       let n : suc i * nstate ≤ size ss = rw (← labels .cover) (mul-le-mul-right nstate h) in
       let d : closedBefore nstate ends i ≤ size ss = omega (arith, closed-most nstate ends i, suc-mul i nstate) in
       rw (same-total (closedBefore nstate ends i) d, same-total (suc i * nstate) n) o

@@ -1,27 +1,25 @@
 -- The ways through a fit in place, and through one at a speed.
-use mathlib.Core.Path.{_≡_, refl, _∙_}
+use mathlib.Core.Path.{_≡_, refl, sym, _∙_}
 use mathlib.Core.Bool.{Bool, true, false, cond}
-use mathlib.Core.List.{List, [], _∷_, append-nil}
+use mathlib.Core.List.{List, [], _∷_}
 use Prim.Native.Nat.{ℕ, suc, _≤_, _<_}
 use native.Mathlib.Omega.{arith}
 use lib.Dec.{ltb, leb, eqb}
-use lib.ListN.{length, replicate, drop-of-length-le}
-use lib.Seq.{sets}
+use lib.ListN.{length}
 use lib.Ieee.{Float, eq}
 use borrow.Author.Tests.{lt-ltb, le-ltb, le-leb, lt-leb, eq-eqb, ne-eqb}
 use Rattle.lists.specs.Sizes.{mostStates, mostFrames}
 use Rattle.lists.specs.Totals.{total}
-use Rattle.lists.proofs.Stores.{filled}
 use Rattle.floats.specs.Numbers.{one}
 use Rattle.duration.specs.declared.Fitted.{Fitted}
 use Rattle.duration.specs.declared.Fitted.the-variants.{Done, Refused}
 use Rattle.duration.specs.Estimate.{estimates, naturals}
-use Rattle.steps.specs.Steps.{States, size, shortest, Outcome, settle}
+use Rattle.steps.specs.Steps.{States, size, least, Outcome, settle}
 use Rattle.steps.specs.Promise.{opens, SettleSays}
 use Rattle.steps.specs.declared.Settled.{Settled}
 use Rattle.steps.specs.declared.Settled.the-variants as rule
 use Rattle.steps.proofs.Door.{stands-open, was-over, was-settled}
-use Rattle.duration.specs.Fit.{rhoOf, startOf, fitTo, refusalTo}
+use Rattle.duration.specs.Fit.{rhoFor, startOf, fitTo, refusalTo}
 use Rattle.duration.specs.Speed.{targetAt, fitAt, refusalAt}
 use Rattle.duration.specs.Promise.{clears}
 use Rattle.duration.specs.Inner.Asked.{Agree, InPlace}
@@ -34,7 +32,7 @@ pub fit-none : (ss : States) (t : ℕ) (work : List ℕ) → Agree ss work → s
 unfolding refusalTo fitTo
 fit-none ss t work g z =
     let e : eqb (size ss) 0 ≡ true = eq-eqb (size ss) 0 z in
-    record { answer = rw e; output = λ q. rw (e, z) (no-list work (g .workspace ∙ z)) }
+    record { answer = rw e; output = λ q. rw e (no-list work (g .workspace ∙ z) ∙ sym (no-list (ss .shortest) (g .shortest ∙ z))) }
 
 in-refused : (k m : ℕ) (o : Outcome) (work : List ℕ) → m ≡ suc k → InPlace m o (Refused (suc k)) work
 in-refused k m o work e = record { answer = rw e; output = λ q. absurd (omega arith) }
@@ -48,41 +46,37 @@ module _ (ss : States) (t : ℕ) (some : 0 < size ss) where
   fit-over work h = in-refused 6 (refusalTo ss t) (fitTo ss t) work (rw (states, lt-ltb mostFrames t h))
 
   module _ (within : t ≤ mostFrames) where
-    pub fit-shortest : (work : List ℕ) → t ≤ size ss → work ≡ replicate (size ss) shortest → InPlace (refusalTo ss t) (fitTo ss t) (Done 0) work
+    pub fit-shortest : (work : List ℕ) → t ≤ least ss → work ≡ ss .shortest → InPlace (refusalTo ss t) (fitTo ss t) (Done 0) work
     unfolding refusalTo fitTo
     fit-shortest work h e =
-        let b : leb t (size ss) ≡ true = le-leb t (size ss) h in
+        let b : leb t (least ss) ≡ true = le-leb t (least ss) h in
         record { answer = rw (states, le-ltb mostFrames t within, b); output = λ q. rw (states, b) e }
 
     -- from the start, the estimate with rho, the step rule answers r and leaves `work`
-    module _ (above : size ss < t) (rho : Float) (start work : List ℕ) (r : Settled) (few : size ss ≤ mostStates) (agree : length (ss .varis) ≡ size ss) (long : length start ≡ size ss)
-        (p : rho ≡ rhoOf ss t) (q : start ≡ estimates rho ss) (s : SettleSays rho t ss start r work) where
+    module _ (above : least ss < t) (rho : Float) (start work : List ℕ) (r : Settled) (few : size ss ≤ mostStates) (agree : length (ss .varis) ≡ size ss) (also : length (ss .shortest) ≡ size ss) (long : length start ≡ size ss)
+        (p : rho ≡ rhoFor ss t) (q : start ≡ estimates rho ss) (s : SettleSays rho t ss start r work) where
       start-is : start ≡ startOf ss t
       unfolding startOf
       start-is = q ∙ rw p
 
       -- its door stands open
-      pub fit-opens : opens (size ss) (length (ss .varis)) (length start) t ≡ true
-      fit-opens = stands-open (size ss) (length (ss .varis)) (length start) t (record { some = some; few = few; varis = agree; work = long; above = above; within = within })
+      pub fit-opens : opens ss start t ≡ true
+      fit-opens = stands-open ss start t (record { some = some; few = few; varis = agree; shortest = also; work = long }) above within
 
       pub fit-long : r ≡ rule.Over → InPlace (refusalTo ss t) (fitTo ss t) (Refused 8) work
       unfolding refusalTo
       fit-long e =
           let h : mostFrames < total (startOf ss t) = rw (← start-is) (was-over rho t ss start fit-opens r work s e) in
-          in-refused 7 (refusalTo ss t) (fitTo ss t) work (rw (states, le-ltb mostFrames t within, lt-leb t (size ss) above, lt-ltb mostFrames (total (startOf ss t)) h))
+          in-refused 7 (refusalTo ss t) (fitTo ss t) work (rw (states, le-ltb mostFrames t within, lt-leb t (least ss) above, lt-ltb mostFrames (total (startOf ss t)) h))
 
       pub fit-settled : (c : ℕ) → r ≡ rule.Done c → InPlace (refusalTo ss t) (fitTo ss t) (Done c) work
       unfolding refusalTo fitTo
       fit-settled c e =
           let o = was-settled rho t ss start fit-opens r work s c e in
           let h : total (startOf ss t) ≤ mostFrames = rw (← start-is) (o .0) in
-          let g : settle mostFrames (rhoOf ss t) ss t (startOf ss t) ≡ record { durations = work; changes = c } = rw (← p, ← start-is) (o .1) in
-          let b : leb t (size ss) ≡ false = lt-leb t (size ss) above in
+          let g : settle mostFrames (rhoFor ss t) ss t (startOf ss t) ≡ record { durations = work; changes = c } = rw (← p, ← start-is) (o .1) in
+          let b : leb t (least ss) ≡ false = lt-leb t (least ss) above in
           record { answer = rw (states, le-ltb mostFrames t within, b, le-ltb mostFrames (total (startOf ss t)) h, g); output = λ q. rw (states, b, g) }
-
--- a list that is filled whole
-pub all-filled : (n v : ℕ) (l : List ℕ) → length l ≡ n → sets l 0 (replicate n v) ≡ replicate n v
-all-filled n v l e = filled n v l (omega arith) ∙ rw (drop-of-length-le l (let h : length l ≤ n = omega arith in h)) (append-nil (replicate n v))
 
 -- ---- a fit's refusals, and none, clear the work space
 
@@ -95,7 +89,7 @@ late false false false false = refl
 
 pub fit-clears : (ss : States) (t : ℕ) → clears (refusalTo ss t) ≡ true
 unfolding refusalTo
-fit-clears ss t = late (eqb (size ss) 0) (ltb mostFrames t) (leb t (size ss)) (ltb mostFrames (total (startOf ss t)))
+fit-clears ss t = late (eqb (size ss) 0) (ltb mostFrames t) (leb t (least ss)) (ltb mostFrames (total (startOf ss t)))
 
 -- ---- at a speed
 

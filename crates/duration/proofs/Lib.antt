@@ -1,12 +1,13 @@
 -- Laws, and the theorems on what the promises say.
+pub mod Shortest
 pub mod Refusals
 pub mod Estimates
 pub mod Fits
 pub mod Calls
+pub mod Fairness
 pub mod Closing
 pub mod Groups
 pub mod Along
-pub mod Fairness
 pub mod Aligning
 pub mod OnTime
 pub mod Drift
@@ -14,3 +15,4 @@ pub mod Chapters
 pub mod Speeds
 pub mod Roundings
 pub mod Uncapped
+pub mod Ones

@@ -54,9 +54,9 @@ halves-up x n own e =
       near = λ a c q. subst (λ (z : ℕ). 2 * gap (z * c) a ≤ c) (sym (same a c q)) (nearest-half a c (q .some) .near);
     }
 
--- a group of n states that gets `more` frames: its target where that is above n, and else one frame a state
+-- a group whose shortest sum to n, and that gets `more` frames: its target where that is above n, and else n
 module _ (x : Float) (k n more : ℕ) (F : T (fits binary64 x)) (at : le nought x ≡ true) (few : k + more ≤ mostFrames) (some : 0 < n)
-    (fit : n < targetOf x k → more ≡ targetOf x k) (ones : targetOf x k ≤ n → more ≡ n) where
+    (fit : n < targetOf x k → more ≡ targetOf x k) (short : targetOf x k ≤ n → more ≡ n) where
   rounded-up : n < targetOf x k → HalvesUp x (k + more) × (k + more ≡ endRounded x)
   rounded-up h =
       let m = fit h in
@@ -67,7 +67,7 @@ module _ (x : Float) (k n more : ℕ) (F : T (fits binary64 x)) (at : le nought 
   -- the other way
   not-above : targetOf x k ≤ n → endRounded x ≤ k + n
   not-above h =
-      let m = ones h in
+      let m = short h in
       at-most (targetOf x k) (endRounded x) k n (target-is x k F (omega arith) at (omega arith) .1) h (omega arith)
 
   pub on-time : OnTime x k n (k + more)
@@ -75,9 +75,9 @@ module _ (x : Float) (k n more : ℕ) (F : T (fits binary64 x)) (at : le nought 
       record {
         room = (λ h. omega (arith, fit h, rounded-up h .1), λ h. ⊎-elim (λ (q : targetOf x k ≤ n). absurd (omega (arith, not-above q))) (λ (q : n < targetOf x k). q) (le-or-lt (targetOf x k) n));
         right = λ h. rounded-up h .0;
-        short = λ h. ap (λ (z : ℕ). k + z) (ones h);
+        short = λ h. ap (λ (z : ℕ). k + z) (short h);
         larger = ⊎-elim
-            (λ (h : targetOf x k ≤ n). (let z : k + more ≡ max (endRounded x) (k + n) = omega (arith, ones h, not-above h) in z))
+            (λ (h : targetOf x k ≤ n). (let z : k + more ≡ max (endRounded x) (k + n) = omega (arith, short h, not-above h) in z))
             (λ (h : n < targetOf x k). (let z : k + more ≡ max (endRounded x) (k + n) = omega (arith, fit h, rounded-up h .1) in z))
             (le-or-lt (targetOf x k) n);
       }

@@ -2,9 +2,8 @@
 use mathlib.Core.Path.{_≡_, refl, ap}
 use mathlib.Core.Bool.{cond}
 use mathlib.Core.List.{List, [], _∷_, _++_}
-use Prim.Native.Nat.{ℕ, _+_}
+use Prim.Native.Nat.{ℕ, _+_, max}
 use lib.Dec.{ltb, leb, eqb}
-use lib.ListN.{length, replicate}
 use lib.Ieee.{Float, binary64, add, sub, mul, div, eq}
 use Rattle.lists.specs.Sizes.{mostFrames}
 use Rattle.lists.specs.Build.{build}
@@ -17,27 +16,27 @@ use Rattle.duration.specs.declared.Aligned.{Aligned}
 use Rattle.duration.specs.declared.align.End.{End}
 use Rattle.duration.specs.declared.align.End.the-variants.{At, Open}
 use Rattle.duration.specs.Estimate.{estimates, naturals}
-use Rattle.steps.specs.Steps.{States, size, stateAt, shortest, Outcome, unchanged, settle}
-use Rattle.duration.specs.Fit.{rhoOf, startOf, atShortest, fitTo, refusalTo}
+use Rattle.steps.specs.Steps.{States, size, stateAt, least, Outcome, unchanged, settle}
+use Rattle.duration.specs.Fit.{rhoFor, startOf, atShortest, fitTo, refusalTo}
 use Rattle.duration.specs.Speed.{targetAt, fitAt, refusalAt}
 use Rattle.duration.specs.Align.{Group, groups, statesIn, targetOf, fitToEnd, fitOf, fitAlong, refusalToEnd, refusalOf, refusalAlong}
-use Rattle.duration.specs.Promise.{fitted, aligned, refusalOfLists, refusalOfLabels, Says}
+use Rattle.duration.specs.Promise.{fitted, aligned, earlyRefusal, earlyOfLabels, Says}
 
 module _ (rounding : Float → ℕ) where
   unfoldable pub estimatesBy : Float → States → List ℕ
-  estimatesBy rho ss = build (λ i. rounding (add binary64 (stateAt ss i .mean) (mul binary64 rho (stateAt ss i .vari)))) (size ss)
+  estimatesBy rho ss = build (λ i. max (stateAt ss i .shortest) (rounding (add binary64 (stateAt ss i .mean) (mul binary64 rho (stateAt ss i .vari))))) (size ss)
 
   unfoldable pub startBy : States → ℕ → List ℕ
-  startBy ss t = estimatesBy (rhoOf ss t) ss
+  startBy ss t = estimatesBy (rhoFor ss t) ss
 
   unfoldable pub fitToBy : States → ℕ → Outcome
-  fitToBy ss t = cond (atShortest (size ss) t) (unchanged (replicate (size ss) shortest)) (settle mostFrames (rhoOf ss t) ss t (startBy ss t))
+  fitToBy ss t = cond (atShortest ss t) (unchanged (ss .shortest)) (settle mostFrames (rhoFor ss t) ss t (startBy ss t))
 
   unfoldable pub refusalToBy : States → ℕ → ℕ
   refusalToBy ss t =
       cond (eqb (size ss) 0) 0
       (cond (ltb mostFrames t) 7
-      (cond (leb t (size ss)) 0
+      (cond (leb t (least ss)) 0
       (cond (ltb mostFrames (total (startBy ss t))) 8 0)))
 
   unfoldable pub naturalsBy : States → List ℕ
@@ -85,18 +84,18 @@ module _ (rounding : Float → ℕ) where
   abbrev pub FitSaysBy : States → Float → List ℕ → List ℕ → Fitted → List ℕ → List ℕ → Type 0
   FitSaysBy ss len out work r =
       let o = fitToBy ss (rounding len) in
-      Says (orElse (refusalOfLists (size ss) (length (ss .varis)) (length out) (length work)) (refusalToBy ss (rounding len))) (o .changes ∷ []) (o .durations) (size ss) out work (fitted r)
+      Says (orElse (earlyRefusal ss out work) (refusalToBy ss (rounding len))) (o .changes ∷ []) (o .durations) (size ss) out work (fitted r)
 
   abbrev pub SpeedSaysBy : States → Float → List ℕ → List ℕ → Fitted → List ℕ → List ℕ → Type 0
   SpeedSaysBy ss speed out work r =
       let o = fitAtBy ss speed in
-      Says (orElse (refusalOfLists (size ss) (length (ss .varis)) (length out) (length work)) (refusalAtBy ss speed)) (o .changes ∷ []) (o .durations) (size ss) out work (fitted r)
+      Says (orElse (earlyRefusal ss out work) (refusalAtBy ss speed)) (o .changes ∷ []) (o .durations) (size ss) out work (fitted r)
 
   abbrev pub AlignSaysBy : States → ℕ → List Float → List ℕ → List ℕ → Aligned → List ℕ → List ℕ → Type 0
   AlignSaysBy ss nstate ends out work r =
       let gs = groups nstate 0 0 ends in
       let o = fitAlongBy ss gs 0 in
-      Says (orElse (refusalOfLabels nstate (length ends) (size ss) (length (ss .varis)) (length out) (length work)) (refusalAlongBy ss gs 0)) (size ss ∷ o .changes ∷ []) (o .durations) (size ss) out work (aligned r)
+      Says (orElse (earlyOfLabels nstate ends ss out work) (refusalAlongBy ss gs 0)) (size ss ∷ o .changes ∷ []) (o .durations) (size ss) out work (aligned r)
 
 -- ---- with `roundedOf` they are those of `specs/`
 
@@ -106,7 +105,7 @@ estimates-restated rho ss = refl
 
 pub fit-restated : (ss : States) (t : ℕ) → (refusalToBy roundedOf ss t ≡ refusalTo ss t) × (fitToBy roundedOf ss t ≡ fitTo ss t)
 unfolding refusalToBy refusalTo fitToBy fitTo startBy startOf
-fit-restated ss t = let e = estimates-restated (rhoOf ss t) ss in (rw e, rw e)
+fit-restated ss t = let e = estimates-restated (rhoFor ss t) ss in (rw e, rw e)
 
 pub speed-restated : (ss : States) (speed : Float) → (refusalAtBy roundedOf ss speed ≡ refusalAt ss speed) × (fitAtBy roundedOf ss speed ≡ fitAt ss speed)
 unfolding refusalAtBy refusalAt fitAtBy fitAt targetAtBy targetAt naturalsBy naturals

@@ -1,4 +1,4 @@
--- What a speed does at its limits: at +0 it is refused; at -0, below 0, at NaN and at the infinities every state gets one frame.
+-- What a speed does at its limits: at +0 it is refused; at -0, below 0, at NaN and at the infinities every state gets its shortest.
 use mathlib.Core.Path.{_≡_, refl, sym, ap, _∙_}
 use mathlib.Core.Bool.{Bool, true, false, cond, _&&_, _||_}
 use mathlib.Core.List.{List}
@@ -7,7 +7,7 @@ use native.Mathlib.Nat.{mul-pos, le-trans}
 use native.Mathlib.Omega.{arith}
 use lib.Dec.{eqb, lit≤}
 use lib.IntN.{ℤ}
-use lib.ListN.{length, replicate}
+use lib.ListN.{length, getD}
 use lib.Ieee.{Float, nan, inf, fin, binary64, up, down, round, ofBits, div, eq, level}
 use lib.Ieee.Exact.{HasValue}
 use lib.Ieee.Fits.{down-pos}
@@ -18,14 +18,14 @@ use Rattle.floats.specs.Rounding.{nearestHalf, toIntegral, framesOf, roundedOf}
 use Rattle.floats.specs.Numbers.{nought, one, number}
 use Rattle.floats.proofs.Below.{nan-one, endless-below, cond-below, round-below}
 use Rattle.floats.proofs.Differences.{number-value}
-use Rattle.steps.specs.Steps.{States, size, shortest, unchanged}
+use Rattle.steps.specs.Steps.{States, size, least, unchanged}
 use Rattle.duration.specs.Fit.{fitTo, refusalTo}
 use Rattle.duration.specs.Estimate.{naturals}
 use Rattle.duration.specs.Speed.{targetAt, fitAt, refusalAt}
-use Rattle.duration.proofs.Estimates.{length-estimates}
-use Rattle.steps.proofs.Settling.{Positive}
-use Rattle.steps.proofs.Settling.Positive.{none, more}
-use Rattle.duration.proofs.Fairness.{estimates-positive}
+use Rattle.duration.proofs.Estimates.{estimates-above}
+use Rattle.steps.proofs.Settling.{Pointwise}
+use Rattle.steps.proofs.Settling.Pointwise.{nil, cons}
+use Rattle.duration.proofs.Shortest.{total-some}
 
 -- ---- what a count of frames comes to over such a speed
 
@@ -82,41 +82,45 @@ not-one-zero e = rw (ne-eqb (0 * up e * 1) (1 * 1 * down e) (λ q. omega (arith,
 
 -- ---- the theorems
 
-total-some : {xs : List ℕ} → Positive xs → 0 < length xs → 0 < total xs
+-- numbers that are nowhere longer have no larger total
+under-total : {xs ys : List ℕ} → Pointwise xs ys → total xs ≤ total ys
 unfolding total
-total-some none h = h
-total-some (more p ps) h = omega arith
+under-total nil = omega arith
+under-total (cons h p) = omega (arith, under-total p)
 
-module _ (ss : States) (some : 0 < size ss) (small : total (naturals ss) ≤ mostFrames) where
+module _ (ss : States) (some : 0 < size ss) (agree : length (ss .shortest) ≡ size ss) (low : (i : ℕ) → i < length (ss .shortest) → 1 ≤ getD (ss .shortest) i 0) (small : total (naturals ss) ≤ mostFrames) where
   value : HasValue (number (total (naturals ss))) false (total (naturals ss)) 1
   value = number-value (total (naturals ss)) (le-trans small (lit≤ tt))
 
-  -- every state gets one frame, with no change
-  pub OneEach : Float → Type 0
-  OneEach speed = (refusalAt ss speed ≡ 0) × (fitAt ss speed ≡ unchanged (replicate (size ss) shortest))
+  some-low : 0 < least ss
+  some-low = total-some (ss .shortest) low (rw agree some)
 
-  one-each : (speed : Float) → eq speed one ≡ false → targetAt ss speed ≡ 1 → OneEach speed
-  unfolding OneEach refusalAt fitAt refusalTo fitTo
-  one-each speed e t =
+  -- every state gets its shortest, with no change
+  pub Shortest : Float → Type 0
+  Shortest speed = (refusalAt ss speed ≡ 0) × (fitAt ss speed ≡ unchanged (ss .shortest))
+
+  at-shortest : (speed : Float) → eq speed one ≡ false → targetAt ss speed ≡ 1 → Shortest speed
+  unfolding Shortest refusalAt fitAt refusalTo fitTo
+  at-shortest speed e t =
       let z : eqb (size ss) 0 ≡ false = ne-eqb (size ss) 0 (λ q. omega arith) in
-      (rw (le-ltb mostFrames (total (naturals ss)) small, e, t, z, le-leb 1 (size ss) some), rw (e, t, z, le-leb 1 (size ss) some))
+      (rw (le-ltb mostFrames (total (naturals ss)) small, e, t, z, le-leb 1 (least ss) some-low), rw (e, t, z, le-leb 1 (least ss) some-low))
 
-  pub speed-nan : OneEach nan
+  pub speed-nan : Shortest nan
   unfolding targetAt eq
-  speed-nan = one-each nan refl (by-nan (number (total (naturals ss))))
+  speed-nan = at-shortest nan refl (by-nan (number (total (naturals ss))))
 
-  pub speed-infinite : (s : Bool) → OneEach (inf s)
+  pub speed-infinite : (s : Bool) → Shortest (inf s)
   unfolding targetAt eq ofBits
-  speed-infinite s = one-each (inf s) refl (by-infinite (total (naturals ss)) (number (total (naturals ss))) s value)
+  speed-infinite s = at-shortest (inf s) refl (by-infinite (total (naturals ss)) (number (total (naturals ss))) s value)
 
   -- -0 too
-  pub speed-below : (m : ℕ) (e : ℤ) → OneEach (fin true m e)
+  pub speed-below : (m : ℕ) (e : ℤ) → Shortest (fin true m e)
   unfolding targetAt
-  speed-below m e = one-each (fin true m e) (not-one-below m e) (by-below (total (naturals ss)) (number (total (naturals ss))) m e value)
+  speed-below m e = at-shortest (fin true m e) (not-one-below m e) (by-below (total (naturals ss)) (number (total (naturals ss))) m e value)
 
   pub speed-zero : (e : ℤ) → refusalAt ss (fin false 0 e) ≡ 7
   unfolding refusalAt refusalTo targetAt naturals
   speed-zero e =
-      let p : 0 < total (naturals ss) = total-some (estimates-positive nought ss) (let h : length (naturals ss) ≡ size ss = length-estimates nought ss in omega arith) in
+      let p : 0 < total (naturals ss) = omega (arith, some-low, under-total (estimates-above nought ss agree)) in
       let t : targetAt ss (fin false 0 e) ≡ 65537 = by-zero (total (naturals ss)) (number (total (naturals ss))) e value p in
       rw (le-ltb mostFrames (total (naturals ss)) small, not-one-zero e, t, ne-eqb (size ss) 0 (λ q. omega arith))

@@ -7,7 +7,6 @@ use Prim.Native.Nat.{ℕ, zero, suc, _+_, _≤_, _<_, min, max, zero-le}
 use native.Mathlib.Omega.{arith}
 use lib.Dec.{ltb, leb, eqb}
 use lib.IntN.{pos, negsuc}
-use lib.ListN.{length, replicate}
 use lib.Ieee.{Float, binary64, div, eq}
 use borrow.Author.Tests.{lt-ltb, le-ltb, ltb-false}
 use Rattle.lists.specs.Sizes.{mostFrames}
@@ -24,17 +23,18 @@ use Rattle.duration.specs.declared.Aligned.{Aligned}
 use Rattle.duration.specs.declared.align.End.{End}
 use Rattle.duration.specs.declared.align.End.the-variants.{At, Open}
 use Rattle.duration.specs.Estimate.{estimates, naturals}
-use Rattle.steps.specs.Steps.{States, size, shortest, Outcome, unchanged, settle}
-use Rattle.duration.specs.Fit.{rhoOf, startOf, fitTo, refusalTo}
+use Rattle.steps.specs.Steps.{States, size, stateAt, least, Outcome, unchanged, settle}
+use Rattle.duration.specs.Fit.{rhoFor, startOf, fitTo, refusalTo}
 use Rattle.duration.specs.Speed.{targetAt, fitAt, refusalAt}
 use Rattle.duration.specs.Align.{Group, groups, statesIn, targetOf, fitToEnd, fitOf, fitAlong, refusalToEnd, refusalOf, refusalAlong}
-use Rattle.duration.specs.Promise.{fitted, aligned, refusalOfLists, refusalOfLabels, Says, FitSays, SpeedSays, AlignSays}
+use Rattle.duration.specs.Promise.{fitted, aligned, earlyRefusal, earlyOfLabels, Says, FitSays, SpeedSays, AlignSays}
 use Rattle.duration.proofs.Roundings.{estimatesBy, startBy, fitToBy, refusalToBy, naturalsBy, targetAtBy, fitAtBy, refusalAtBy, targetOfBy, fitToEndBy, fitOfBy, fitAlongBy, refusalToEndBy, refusalOfBy, refusalAlongBy, FitSaysBy, SpeedSaysBy, AlignSaysBy}
 
 -- ---- a number and its cap
 
+-- the same number, or both above 65,536
 abbrev Caps : ℕ → ℕ → Type 0
-Caps s t = min 65537 s ≡ t
+Caps s t = min 65537 s ≡ min 65537 t
 
 caps-same : (s t : ℕ) → Caps s t → t ≤ mostFrames → s ≡ t
 caps-same s t c h = omega arith
@@ -42,14 +42,16 @@ caps-same s t c h = omega arith
 caps-over : (s t : ℕ) → Caps s t → mostFrames < t → mostFrames < s
 caps-over s t c h = omega arith
 
+caps-max : (l s t : ℕ) → Caps s t → Caps (max l s) (max l t)
+caps-max l s t c = omega arith
+
 data Capped : List ℕ → List ℕ → Type 0 where
   nil : Capped [] []
   cons : {s t : ℕ} {ss ts : List ℕ} → Caps s t → Capped ss ts → Capped (s ∷ ss) (t ∷ ts)
 
-capped-below : {ss ts : List ℕ} → Capped ss ts → total ts ≤ total ss
-unfolding total
-capped-below nil = zero-le
-capped-below (cons c p) = omega (arith, capped-below p)
+capped-back : {ss ts : List ℕ} → Capped ss ts → Capped ts ss
+capped-back nil = nil
+capped-back (cons c p) = cons (sym c) (capped-back p)
 
 capped-same : {ss ts : List ℕ} → Capped ss ts → total ts ≤ mostFrames → ss ≡ ts
 unfolding total
@@ -62,7 +64,10 @@ capped-same (cons {s = s} {t = t} c p) h =
 capped-over : {ss ts : List ℕ} → Capped ss ts → ltb mostFrames (total ss) ≡ ltb mostFrames (total ts)
 capped-over {ss} {ts} p = ⊎-elim
     (λ (h : total ts ≤ mostFrames). ap (λ (l : List ℕ). ltb mostFrames (total l)) (capped-same p h))
-    (λ (h : mostFrames < total ts). lt-ltb mostFrames (total ss) (omega (arith, capped-below p)) ∙ sym (lt-ltb mostFrames (total ts) h))
+    (λ (h : mostFrames < total ts). ⊎-elim
+    (λ (g : total ss ≤ mostFrames). ap (λ (l : List ℕ). ltb mostFrames (total l)) (sym (capped-same (capped-back p) g)))
+    (λ (g : mostFrames < total ss). lt-ltb mostFrames (total ss) g ∙ sym (lt-ltb mostFrames (total ts) h))
+    (le-or-lt (total ss) mostFrames))
     (le-or-lt (total ts) mostFrames)
 
 capped-more : (s t : ℕ) → Caps s t → {xs ys : List ℕ} → Capped xs ys → Capped (xs ++ (s ∷ [])) (ys ++ (t ∷ []))
@@ -122,11 +127,11 @@ or-same j (suc k) x y e f = rw e
 module _ (rounding : Float → ℕ) (caps : (x : Float) → Caps (rounding x) (roundedOf x)) where
   estimates-capped : (rho : Float) (ss : States) → Capped (estimatesBy rounding rho ss) (estimates rho ss)
   unfolding estimates estimatesBy
-  estimates-capped rho ss = capped-build _ _ (size ss) (λ i. caps _)
+  estimates-capped rho ss = capped-build _ _ (size ss) (λ i. caps-max (stateAt ss i .shortest) _ _ (caps _))
 
   start-capped : (ss : States) (t : ℕ) → Capped (startBy rounding ss t) (startOf ss t)
   unfolding startBy startOf
-  start-capped ss t = estimates-capped (rhoOf ss t) ss
+  start-capped ss t = estimates-capped (rhoFor ss t) ss
 
   module _ (ss : States) where
     same-target : (t : ℕ) → Alike (refusalToBy rounding ss t) (refusalTo ss t) (fitToBy rounding ss t) (fitTo ss t)
@@ -135,8 +140,8 @@ module _ (rounding : Float → ℕ) (caps : (x : Float) → Caps (rounding x) (r
         let p = start-capped ss t in
         record {
           refusal = rw (capped-over p);
-          outcome = λ e. tests-same (eqb (size ss) 0) (ltb mostFrames t) (leb t (size ss)) (ltb mostFrames (total (startOf ss t))) (unchanged (replicate (size ss) shortest)) _ _ e
-              (λ h. ap (settle mostFrames (rhoOf ss t) ss t) (capped-same p (ltb-false mostFrames (total (startOf ss t)) h)));
+          outcome = λ e. tests-same (eqb (size ss) 0) (ltb mostFrames t) (leb t (least ss)) (ltb mostFrames (total (startOf ss t))) (unchanged (ss .shortest)) _ _ e
+              (λ h. ap (settle mostFrames (rhoFor ss t) ss t) (capped-same p (ltb-false mostFrames (total (startOf ss t)) h)));
         }
 
     -- of any target and its cap
@@ -149,7 +154,7 @@ module _ (rounding : Float → ℕ) (caps : (x : Float) → Caps (rounding x) (r
         let b : ltb mostFrames s ≡ true = lt-ltb mostFrames s (caps-over s t c h) in
         record {
           refusal = rw (a, b);
-          outcome = λ e. tests-over (eqb (size ss) 0) (leb s (size ss)) (leb t (size ss)) (unchanged (replicate (size ss) shortest)) _ _ (rw a at e);
+          outcome = λ e. tests-over (eqb (size ss) 0) (leb s (least ss)) (leb t (least ss)) (unchanged (ss .shortest)) _ _ (rw a at e);
         })
         (le-or-lt t mostFrames)
 
@@ -245,7 +250,7 @@ counted big x = uncapped big (toIntegral x)
 module _ (big : ℕ) (above : mostFrames < big) where
   counted-caps : (x : Float) → Caps (counted big x) (roundedOf x)
   unfolding counted roundedOf
-  counted-caps x = uncapped-caps big above (toIntegral x)
+  counted-caps x = let c : min 65537 (uncapped big (toIntegral x)) ≡ framesOf (toIntegral x) = uncapped-caps big above (toIntegral x) in omega arith
 
   -- what is not too large is the same number
   pub target-uncapped : (x : Float) → roundedOf x ≤ mostFrames → counted big x ≡ roundedOf x
@@ -256,10 +261,10 @@ module _ (big : ℕ) (above : mostFrames < big) where
 
   module _ (ss : States) (x : Float) (out work : List ℕ) (r : Fitted) (out′ work′ : List ℕ) where
     abbrev Told : ℕ → Outcome → Type 0
-    Told = Said (λ o. o .changes ∷ []) (size ss) out work (fitted r) out′ work′ (refusalOfLists (size ss) (length (ss .varis)) (length out) (length work))
+    Told = Said (λ o. o .changes ∷ []) (size ss) out work (fitted r) out′ work′ (earlyRefusal ss out work)
 
     told-both : {j k : ℕ} {o p : Outcome} → Alike j k o p → Told k p ↔ Told j o
-    told-both = said-both (λ o. o .changes ∷ []) (size ss) out work (fitted r) out′ work′ (refusalOfLists (size ss) (length (ss .varis)) (length out) (length work))
+    told-both = said-both (λ o. o .changes ∷ []) (size ss) out work (fitted r) out′ work′ (earlyRefusal ss out work)
 
     pub fit-uncapped : FitSays ss x out work r out′ work′ ↔ FitSaysBy (counted big) ss x out work r out′ work′
     fit-uncapped = told-both (fit-alike (counted big) counted-caps ss (counted big x) (roundedOf x) (counted-caps x))
@@ -269,5 +274,5 @@ module _ (big : ℕ) (above : mostFrames < big) where
 
   pub align-uncapped : (ss : States) (nstate : ℕ) (ends : List Float) (out work : List ℕ) (r : Aligned) (out′ work′ : List ℕ) → AlignSays ss nstate ends out work r out′ work′ ↔ AlignSaysBy (counted big) ss nstate ends out work r out′ work′
   align-uncapped ss nstate ends out work r out′ work′ =
-      said-both (λ o. size ss ∷ o .changes ∷ []) (size ss) out work (aligned r) out′ work′ (refusalOfLabels nstate (length ends) (size ss) (length (ss .varis)) (length out) (length work))
+      said-both (λ o. size ss ∷ o .changes ∷ []) (size ss) out work (aligned r) out′ work′ (earlyOfLabels nstate ends ss out work)
       (along-alike (counted big) counted-caps ss (groups nstate 0 0 ends) 0)

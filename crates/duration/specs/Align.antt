@@ -60,7 +60,7 @@ within g xs = take (g .to - g .from) (drop (g .from) xs)
 
 -- and its states
 abbrev pub statesIn : Group → States → States
-statesIn g ss = states (within g (ss .means)) (within g (ss .varis))
+statesIn g ss = states (within g (ss .means)) (within g (ss .varis)) (within g (ss .shortest))
 
 -- RULES, Durations: the target of an end is the end less the frames before its group, rounded
 abbrev pub targetOf : Float → ℕ → ℕ

@@ -4,7 +4,7 @@ use mathlib.Core.Bool.{true, false, cond}
 use mathlib.Core.Logic.{_↔_}
 use mathlib.Core.List.{List, _∷_, _++_}
 use Prim.Native.Nat.{ℕ, zero, suc, _+_, _-_, _*_, _^_, _≤_, _<_, max}
-use lib.ListN.{length, getD, take}
+use lib.ListN.{length, getD, take, drop}
 use lib.Ieee.{Float, nan, binary64, sub, le}
 use lib.Ieee.Exact.{HasValue}
 use lib.Ieee.Positive.{num, den}
@@ -29,13 +29,13 @@ pub record HalvesUp (x : Float) (n : ℕ) : Type 0 where
 abbrev pub endRounded : Float → ℕ
 endRounded x = nearestHalf (num x) (den x)
 
--- RULES, Durations: of an end x that closes `count` states after `before` frames, and the total that is reached there. With room, a target above
--- the count, it is the end rounded, and else one frame a state more than before; so it is the larger of the two, always.
-pub record OnTime (x : Float) (before count reached : ℕ) : Type 0 where
-  pub room : (count < targetOf x before) ↔ (before + count < endRounded x)
-  pub right : count < targetOf x before → HalvesUp x reached
-  pub short : targetOf x before ≤ count → reached ≡ before + count
-  pub larger : reached ≡ max (endRounded x) (before + count)
+-- RULES, Durations: of an end x that closes a group whose shortest sum to `low`, after `before` frames, and the total that is reached there. With
+-- room, a target above that sum, it is the end rounded, and else that sum more than before; so it is the larger of the two, always.
+pub record OnTime (x : Float) (before low reached : ℕ) : Type 0 where
+  pub room : (low < targetOf x before) ↔ (before + low < endRounded x)
+  pub right : low < targetOf x before → HalvesUp x reached
+  pub short : targetOf x before ≤ low → reached ≡ before + low
+  pub larger : reached ≡ max (endRounded x) (before + low)
 
 -- RULES, Durations: a label with an end closes all states since the last closed one; before label i, of k states a label, so many are closed
 unfoldable pub closedBefore : ℕ → List Float → ℕ → ℕ
@@ -46,19 +46,22 @@ closedBefore k ends (suc i) = cond (le nought (getD ends i nan)) (suc i * k) (cl
 abbrev pub upTo : ℕ → List ℕ → ℕ
 upTo n ds = total (take n ds)
 
--- of label i: the frames before its group, the group's states, and the running total at the label's end
+-- of label i: the frames before its group, the group's states and the sum of their shortest, and the running total at the label's end
 abbrev pub framesBefore : ℕ → List Float → List ℕ → ℕ → ℕ
 framesBefore k ends ds i = upTo (closedBefore k ends i) ds
 
 abbrev pub groupStates : ℕ → List Float → ℕ → ℕ
 groupStates k ends i = suc i * k - closedBefore k ends i
 
+abbrev pub groupLeast : ℕ → List Float → List ℕ → ℕ → ℕ
+groupLeast k ends ls i = upTo (groupStates k ends i) (drop (closedBefore k ends i) ls)
+
 abbrev pub totalAt : ℕ → List ℕ → ℕ → ℕ
 totalAt k ds i = upTo (suc i * k) ds
 
 -- RULES, Durations: at each label with a given end
-abbrev pub NoDrift : ℕ → List Float → List ℕ → Type 0
-NoDrift k ends ds = (i : ℕ) → i < length ends → le nought (getD ends i nan) ≡ true → OnTime (getD ends i nan) (framesBefore k ends ds i) (groupStates k ends i) (totalAt k ds i)
+abbrev pub NoDrift : ℕ → List Float → List ℕ → List ℕ → Type 0
+NoDrift k ends ls ds = (i : ℕ) → i < length ends → le nought (getD ends i nan) ≡ true → OnTime (getD ends i nan) (framesBefore k ends ds i) (groupLeast k ends ls i) (totalAt k ds i)
 
 -- a group is one of an alignment's
 pub record Stands (g : Group) (gs : List Group) : Type 0 where

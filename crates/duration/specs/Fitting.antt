@@ -1,9 +1,9 @@
--- RULES, Durations: the theorem of the fit, which is what a fit to a target above the count comes to.
+-- RULES, Durations: the theorem of the fit, which is what a fit to a target above the sum of the shortest comes to.
 use mathlib.Core.Path.{_≡_}
 use mathlib.Core.Logic.{_⊎_}
 use mathlib.Core.List.{List, [], _∷_, _++_}
 use Prim.Native.Nat.{ℕ, _+_, _≤_, _<_}
-use lib.ListN.{length, getD, drop, replicate}
+use lib.ListN.{length, getD, drop}
 use lib.Ieee.{Float}
 use Rattle.lists.specs.Sizes.{mostFrames, mostStates}
 use Rattle.lists.specs.Totals.{total, gap}
@@ -11,11 +11,11 @@ use Rattle.duration.specs.declared.Fitted.{Fitted}
 use Rattle.duration.specs.declared.Fitted.the-variants as fit
 use Rattle.duration.specs.declared.Aligned.{Aligned}
 use Rattle.duration.specs.declared.Aligned.the-variants as align
-use Rattle.steps.specs.Steps.{States, states, size, shortest, Outcome, unchanged, Settles}
+use Rattle.steps.specs.Steps.{States, states, size, least, Outcome, unchanged, Settles}
 use Rattle.duration.specs.declared.align.End.{End}
 use Rattle.duration.specs.declared.align.End.the-variants.{At, Open}
 use Rattle.duration.specs.Estimate.{naturals}
-use Rattle.duration.specs.Fit.{rhoOf, startOf}
+use Rattle.duration.specs.Fit.{rhoFor, startOf}
 use Rattle.duration.specs.Align.{Group, statesIn, targetOf}
 
 -- how far apart two lists of durations are: the states' own changes, summed
@@ -31,18 +31,18 @@ Under xs ys = (i : ℕ) → getD xs i 0 ≤ getD ys i 0
 -- from the start, the estimate with rho, to the durations of an outcome
 pub record Fair (ss : States) (t : ℕ) (o : Outcome) : Type 0 where
   pub count : length (o .durations) ≡ size ss
-  pub positive : (i : ℕ) → i < size ss → shortest ≤ getD (o .durations) i 0
+  pub at-least : (i : ℕ) → i < size ss → getD (ss .shortest) i 0 ≤ getD (o .durations) i 0
   pub sum : total (o .durations) ≡ t
   pub one-way : Under (startOf ss t) (o .durations) ⊎ Under (o .durations) (startOf ss t)
-  pub by-steps : Settles (rhoOf ss t) ss t (startOf ss t) (o .durations) (o .changes)
+  pub by-steps : Settles (rhoFor ss t) ss t (startOf ss t) (o .durations) (o .changes)
   pub by-gap : o .changes ≡ gap (total (startOf ss t)) t
   pub by-states : o .changes ≡ distance (startOf ss t) (o .durations)
   pub nearest : (es : List ℕ) → length es ≡ size ss → total es ≡ t → distance (startOf ss t) (o .durations) ≤ distance (startOf ss t) es
 
--- of states with an end: fair where the target is above their count, and else the shortest duration for each state and no change
+-- of states with an end: fair where the target is above the sum of their shortest, and else the shortest for each state and no change
 pub record FairTo (ss : States) (t : ℕ) (o : Outcome) : Type 0 where
-  pub above : size ss < t → Fair ss t o
-  pub otherwise : t ≤ size ss → o ≡ unchanged (replicate (size ss) shortest)
+  pub above : least ss < t → Fair ss t o
+  pub otherwise : t ≤ least ss → o ≡ unchanged (ss .shortest)
 
 -- of states by their end: the tail has its natural durations
 abbrev pub FairToEnd : States → ℕ → End → Outcome → Type 0
@@ -62,14 +62,16 @@ pub data FairAlong (ss : States) : List Group → ℕ → List ℕ → ℕ → T
       → FairAlong ss gs (frames + total ds) es k
       → FairAlong ss (g ∷ gs) frames (ds ++ es) (c + k)
 
--- what the theorem takes: lists within the sizes that agree, room, and a target above the count that is not refused
+-- what the theorem takes: lists within the sizes that agree, room, shortest durations of at least 1, and a target above their sum that is not refused
 pub record Ample (ss : States) (t : ℕ) (out work : List ℕ) : Type 0 where
   pub some : 0 < size ss
   pub few : size ss ≤ mostStates
   pub agree : length (ss .varis) ≡ size ss
+  pub shortest : length (ss .shortest) ≡ size ss
   pub output : size ss ≤ length out
   pub workspace : size ss ≤ length work
-  pub above : size ss < t
+  pub one-each : (i : ℕ) → i < size ss → 1 ≤ getD (ss .shortest) i 0
+  pub above : least ss < t
   pub within : t ≤ mostFrames
   pub start : total (startOf ss t) ≤ mostFrames
 
@@ -82,7 +84,7 @@ pub record Accepted (ss : States) (t : ℕ) (out : List ℕ) (r : Fitted) (out�
 
 -- the states from a place on
 abbrev pub statesFrom : ℕ → States → States
-statesFrom n ss = states (drop n (ss .means)) (drop n (ss .varis))
+statesFrom n ss = states (drop n (ss .means)) (drop n (ss .varis)) (drop n (ss .shortest))
 
 -- where the last of so many groups begins
 unfoldable pub lastFrom : List Group → ℕ
@@ -90,7 +92,7 @@ lastFrom [] = 0
 lastFrom (g ∷ []) = g .from
 lastFrom (g ∷ h ∷ gs) = lastFrom (h ∷ gs)
 
--- an alignment that is accepted: within the sizes, one duration a state, each at least the shortest, fair group after group, and the tail's natural
+-- an alignment that is accepted: within the sizes, one duration a state, each at least its shortest and so 1, fair group after group, and the tail's natural
 pub record AcceptedAlong (ss : States) (gs : List Group) (out : List ℕ) (r : Aligned) (out′ : List ℕ) : Type 0 where
   pub outcome : Outcome
   pub answer : r ≡ align.Done (size ss) (outcome .changes)
@@ -98,6 +100,7 @@ pub record AcceptedAlong (ss : States) (gs : List Group) (out : List ℕ) (r : A
   pub states : size ss ≤ mostStates
   pub frames : total (outcome .durations) ≤ mostFrames
   pub count : length (outcome .durations) ≡ size ss
-  pub positive : (i : ℕ) → i < size ss → shortest ≤ getD (outcome .durations) i 0
+  pub at-least : (i : ℕ) → i < size ss → getD (ss .shortest) i 0 ≤ getD (outcome .durations) i 0
+  pub positive : (i : ℕ) → i < size ss → 1 ≤ getD (outcome .durations) i 0
   pub fair : FairAlong ss gs 0 (outcome .durations) (outcome .changes)
   pub natural : drop (lastFrom gs) (outcome .durations) ≡ naturals (statesFrom (lastFrom gs) ss)

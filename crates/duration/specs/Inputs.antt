@@ -12,6 +12,9 @@ two-three = number 2 ∷ number 3 ∷ []
 abbrev pub one-one : List Float
 one-one = number 1 ∷ number 1 ∷ []
 
+abbrev pub ones : List ℕ
+ones = 1 ∷ 1 ∷ []
+
 abbrev pub sevens : List ℕ
 sevens = 7 ∷ 7 ∷ 7 ∷ []
 

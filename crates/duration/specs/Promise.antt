@@ -12,6 +12,7 @@ use Rattle.duration.specs.declared.Fitted.the-variants as fit
 use Rattle.duration.specs.declared.Aligned.{Aligned}
 use Rattle.duration.specs.declared.Aligned.the-variants as align
 use Rattle.steps.specs.Steps.{States, size}
+use Rattle.duration.specs.Shortest.{refusalOfShortest}
 use Rattle.duration.specs.Fit.{fitTo, refusalTo}
 use Rattle.lists.specs.Sizes.{mostStates, mostLabelStates}
 use Rattle.lists.specs.Refusals.{orElse}
@@ -38,13 +39,20 @@ clears k = eqb k 0 || (eqb k 7 || eqb k 8)
 unfoldable pub workOf : ℕ → ℕ → List ℕ → List ℕ
 workOf k n work = cond (clears k) (replicate n 0 ++ drop n work) work
 
--- RULES, Refusals: 3, 4 and 6, of n states and v variances, with room for o and w numbers
-unfoldable pub refusalOfLists : ℕ → ℕ → ℕ → ℕ → ℕ
-refusalOfLists n v o w = cond (ltb mostStates n) 3 (cond (not (eqb v n)) 4 (cond (ltb o n) 6 (cond (ltb w n) 6 0)))
+-- RULES, Refusals: 3, 4 and 6, of n states, v variances and l shortest durations, with room for o and w numbers
+unfoldable pub refusalOfLists : ℕ → ℕ → ℕ → ℕ → ℕ → ℕ
+refusalOfLists n v l o w = cond (ltb mostStates n) 3 (cond (not (eqb v n)) 4 (cond (not (eqb l n)) 4 (cond (ltb o n) 6 (cond (ltb w n) 6 0))))
 
--- the same of l labels with k states each
-unfoldable pub refusalOfLabels : ℕ → ℕ → ℕ → ℕ → ℕ → ℕ → ℕ
-refusalOfLabels k l n v o w = cond (ltb mostStates n) 3 (cond (ltb k 1) 3 (cond (ltb mostLabelStates k) 3 (cond (not (eqb (l * k) n)) 4 (refusalOfLists n v o w))))
+-- the same of m labels with k states each
+unfoldable pub refusalOfLabels : ℕ → ℕ → ℕ → ℕ → ℕ → ℕ → ℕ → ℕ
+refusalOfLabels k m n v l o w = cond (ltb mostStates n) 3 (cond (ltb k 1) 3 (cond (ltb mostLabelStates k) 3 (cond (not (eqb (m * k) n)) 4 (refusalOfLists n v l o w))))
+
+-- RULES, Refusals: what is refused before any work, by the states and the room that they have, or by labels too: those, and then 15
+abbrev pub earlyRefusal : States → List ℕ → List ℕ → ℕ
+earlyRefusal ss out work = orElse (refusalOfLists (size ss) (length (ss .varis)) (length (ss .shortest)) (length out) (length work)) (refusalOfShortest (ss .shortest))
+
+abbrev pub earlyOfLabels : ℕ → List Float → States → List ℕ → List ℕ → ℕ
+earlyOfLabels k ends ss out work = orElse (refusalOfLabels k (length ends) (size ss) (length (ss .varis)) (length (ss .shortest)) (length out) (length work)) (refusalOfShortest (ss .shortest))
 
 -- A call of n states that answers a, and these durations where that accepts: its answer, and the lists at exit.
 pub record Answers (a : Answer) (new : List ℕ) (n : ℕ) (out work : List ℕ) (r : Answer) (out′ work′ : List ℕ) : Type 0 where
@@ -60,23 +68,23 @@ Says k values = Answers (answerOf k values)
 abbrev pub FitSays : States → Float → List ℕ → List ℕ → Fitted → List ℕ → List ℕ → Type 0
 FitSays ss len out work r =
     let o = fitTo ss (roundedOf len) in
-    Says (orElse (refusalOfLists (size ss) (length (ss .varis)) (length out) (length work)) (refusalTo ss (roundedOf len))) (o .changes ∷ []) (o .durations) (size ss) out work (fitted r)
+    Says (orElse (earlyRefusal ss out work) (refusalTo ss (roundedOf len))) (o .changes ∷ []) (o .durations) (size ss) out work (fitted r)
 
 -- `create`
 abbrev pub SpeedSays : States → Float → List ℕ → List ℕ → Fitted → List ℕ → List ℕ → Type 0
 SpeedSays ss speed out work r =
     let o = fitAt ss speed in
-    Says (orElse (refusalOfLists (size ss) (length (ss .varis)) (length out) (length work)) (refusalAt ss speed)) (o .changes ∷ []) (o .durations) (size ss) out work (fitted r)
+    Says (orElse (earlyRefusal ss out work) (refusalAt ss speed)) (o .changes ∷ []) (o .durations) (size ss) out work (fitted r)
 
 -- an alignment: one duration a state
 abbrev pub AlignSays : States → ℕ → List Float → List ℕ → List ℕ → Aligned → List ℕ → List ℕ → Type 0
 AlignSays ss nstate ends out work r =
     let gs = groups nstate 0 0 ends in
     let o = fitAlong ss gs 0 in
-    Says (orElse (refusalOfLabels nstate (length ends) (size ss) (length (ss .varis)) (length out) (length work)) (refusalAlong ss gs 0)) (size ss ∷ o .changes ∷ []) (o .durations) (size ss) out work (aligned r)
+    Says (orElse (earlyOfLabels nstate ends ss out work) (refusalAlong ss gs 0)) (size ss ∷ o .changes ∷ []) (o .durations) (size ss) out work (aligned r)
 
 -- `create_with_alignment`: and no call that is accepted drifts, since every end is an f64, off which the frames so far are taken with no error
 -- where it is not below them
 pub record AlignOnTime (ss : States) (nstate : ℕ) (ends : List Float) (out work : List ℕ) (r : Aligned) (out′ work′ : List ℕ) : Type 0 where
   pub says : AlignSays ss nstate ends out work r out′ work′
-  pub on-time : aligned r .number ≡ 0 → NoDrift nstate ends out′
+  pub on-time : aligned r .number ≡ 0 → NoDrift nstate ends (ss .shortest) out′

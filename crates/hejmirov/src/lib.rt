@@ -34,16 +34,18 @@ use spool::Span;
 pub extern "C" fn hejmirov_fit(
     means: &[f64],
     varis: &[f64],
+    shortest: &[u32],
     frame_length: f64,
     out: &mut [u32],
     work: &mut [u32],
     changes: &mut u32,
 ) -> u32
-    ensures { λ r. ⌜ FitCallSays (states (now (means .entry)) (now (varis .entry))) «frame_length» (now (out .entry)) (now (work .entry)) (now (changes .entry)) r (now (out .exit)) (now (work .exit)) (now (changes .exit)) ⌝ }
+    ensures { λ r. ⌜ FitCallSays (states (now (means .entry)) (now (varis .entry)) (now (shortest .entry))) «frame_length» (now (out .entry)) (now (work .entry)) (now (changes .entry)) r (now (out .exit)) (now (work .exit)) (now (changes .exit)) ⌝ }
 {
     let answer = duration::estimate_duration_with_frame_length(
         means,
         varis,
+        shortest,
         frame_length,
         out,
         work,
@@ -56,14 +58,15 @@ pub extern "C" fn hejmirov_fit(
 pub extern "C" fn hejmirov_speed(
     means: &[f64],
     varis: &[f64],
+    shortest: &[u32],
     speed: f64,
     out: &mut [u32],
     work: &mut [u32],
     changes: &mut u32,
 ) -> u32
-    ensures { λ r. ⌜ SpeedCallSays (states (now (means .entry)) (now (varis .entry))) speed (now (out .entry)) (now (work .entry)) (now (changes .entry)) r (now (out .exit)) (now (work .exit)) (now (changes .exit)) ⌝ }
+    ensures { λ r. ⌜ SpeedCallSays (states (now (means .entry)) (now (varis .entry)) (now (shortest .entry))) speed (now (out .entry)) (now (work .entry)) (now (changes .entry)) r (now (out .exit)) (now (work .exit)) (now (changes .exit)) ⌝ }
 {
-    let answer = duration::create(means, varis, speed, out, work);
+    let answer = duration::create(means, varis, shortest, speed, out, work);
     hand_out_fit(answer, changes)
 }
 
@@ -85,6 +88,7 @@ fn hand_out_fit(answer: Fitted, changes: &mut u32) -> u32
 pub extern "C" fn hejmirov_align(
     means: &[f64],
     varis: &[f64],
+    shortest: &[u32],
     nstate: u32,
     ends: &[f64],
     out: &mut [u32],
@@ -92,9 +96,9 @@ pub extern "C" fn hejmirov_align(
     written: &mut u32,
     changes: &mut u32,
 ) -> u32
-    ensures { λ r. ⌜ AlignCallSays (states (now (means .entry)) (now (varis .entry))) nstate (now (ends .entry)) (now (out .entry)) (now (work .entry)) (now (written .entry)) (now (changes .entry)) r (now (out .exit)) (now (work .exit)) (now (written .exit)) (now (changes .exit)) ⌝ }
+    ensures { λ r. ⌜ AlignCallSays (states (now (means .entry)) (now (varis .entry)) (now (shortest .entry))) nstate (now (ends .entry)) (now (out .entry)) (now (work .entry)) (now (written .entry)) (now (changes .entry)) r (now (out .exit)) (now (work .exit)) (now (written .exit)) (now (changes .exit)) ⌝ }
 {
-    let answer = duration::create_with_alignment(means, varis, nstate, ends, out, work);
+    let answer = duration::create_with_alignment(means, varis, shortest, nstate, ends, out, work);
     hand_out_alignment(answer, written, changes)
 }
 

@@ -12,7 +12,9 @@ use Rattle.duration.specs.declared.Fitted.{Fitted}
 use Rattle.duration.specs.declared.Fitted.the-variants as fit
 use Rattle.duration.specs.Speed.{refusalAt}
 use Rattle.lists.specs.Answers.{Answer, accepting, refusing, written}
-use Rattle.duration.specs.Promise.{fitted, workOf, refusalOfLists, Says}
+use Rattle.duration.specs.Promise.{fitted, workOf, earlyRefusal, Says}
+use Rattle.duration.specs.Shortest.{refusalOfShortest}
+use Rattle.duration.proofs.Shortest.{shortest-taken}
 use Rattle.lists.proofs.Answers.{refused, refused-is, accepted-is}
 use Rattle.duration.proofs.Refusals.{fitting}
 use Rattle.lists.proofs.Refusals.{or-none}
@@ -42,11 +44,13 @@ module _ (k : ℕ) (values new : List ℕ) (n : ℕ) (out work out′ work′ : 
 -- ---- durations that `create` does not refuse, at the front of its output
 
 module _ (j : Job) (out work out′ : List ℕ) (z : jobRefusal j out work ≡ 0) (o : out′ ≡ written (jobRefusal j out work) (jobFit j .durations) out) where
-  none : (refusalOfLists (length (j .means)) (length (j .varis)) (length out) (length work) ≡ 0) × (refusalAt (jobStates j) (j .speed) ≡ 0)
-  none = or-none (refusalOfLists (length (j .means)) (length (j .varis)) (length out) (length work)) (refusalAt (jobStates j) (j .speed)) z
+  none : (earlyRefusal (jobStates j) out work ≡ 0) × (refusalAt (jobStates j) (j .speed) ≡ 0)
+  none = or-none (earlyRefusal (jobStates j) out work) (refusalAt (jobStates j) (j .speed)) z
 
   pub fit-bounded : Bounded (length (j .means)) (jobFit j)
-  fit-bounded = let f = fitting _ _ _ _ (none .0) in speed-bounded (jobStates j) (f .few) (j .speed) (none .1)
+  fit-bounded =
+      let e = or-none _ (refusalOfShortest (j .shortest)) (none .0) in
+      speed-bounded (jobStates j) (fitting _ _ _ _ _ (e .0) .shortest) (shortest-taken (j .shortest) (e .1) .few) (j .speed) (none .1)
 
   out-is : out′ ≡ jobFit j .durations ++ drop (length (jobFit j .durations)) out
   out-is = o ∙ ap (λ (k : ℕ). written k (jobFit j .durations) out) z
@@ -83,7 +87,7 @@ module _ (bytes : List ℕ) (s : ℕ) (fine : damageOf bytes ≡ Sound) (count-i
   j = jobAt bytes s
 
   long : length (j .means) ≡ s
-  long = floats-long bytes 15 s
+  long = floats-long bytes 15 _ s
 
   module _ (out work : List ℕ) (r : Fitted) (out′ work′ : List ℕ) (f : StatesFitted j out work r out′ work′) where
     abbrev k : ℕ

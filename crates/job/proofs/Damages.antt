@@ -1,22 +1,23 @@
 -- What is found wrong with a file: nothing exactly where it is a job, else the first departure by place.
 use mathlib.Core.Path.{_≡_, refl, sym, ap, _∙_, subst}
-use mathlib.Core.Bool.{Bool, true, false, cond, _||_}
+use mathlib.Core.Bool.{Bool, true, false, not, cond, _||_}
 use mathlib.Core.Logic.{_⊎_, inl, inr, ⊎-elim}
 use mathlib.Core.List.{List}
-use Prim.Native.Nat.{ℕ, _+_, _≤_, _<_, min, zero-le}
+use Prim.Native.Nat.{ℕ, zero, suc, _+_, _*_, _≤_, _<_, min, zero-le}
+use native.Mathlib.Nat.{mul-le-mul-right}
 use native.Mathlib.Omega.{arith}
-use lib.Dec.{ltb}
+use lib.Dec.{ltb, eqb}
 use lib.ListN.{length, take}
 use borrow.Author.Tests.{eq-eqb, ne-eqb, lt-ltb, le-ltb, ltb-false}
 use Rattle.lists.specs.Sizes.{mostJobStates}
 use Rattle.lists.specs.Bytes.{alike, wordAt}
-use Rattle.lists.proofs.Numbers.{le-or-lt, same-or-not, less-or-more}
+use Rattle.lists.proofs.Numbers.{le-or-lt, same-or-not}
 use Rattle.lists.proofs.Fronts.{alike-is, is-alike}
 use Rattle.job.specs.declared.Damage.{Damage}
 use Rattle.job.specs.declared.Damage.the-variants.{Mark, Version, Count, Length}
 use Rattle.job.specs.declared.finding.Found.{Found}
 use Rattle.job.specs.declared.finding.Found.the-variants.{Sound, Wrong}
-use Rattle.job.specs.Format.{mark, versionOf, version, countOf, lengthOf, IsJob}
+use Rattle.job.specs.Format.{mark, versionOf, isKnown, countOf, stateBytes, lengthOf, wholeOf, IsJob}
 use Rattle.job.specs.Damage.{elseFound, foundTo, markFound, wordFound, lengthFound, damageOf}
 use Rattle.lists.proofs.Flags.{neither}
 
@@ -31,6 +32,23 @@ either false = refl
 
 outside : (w least most : ℕ) → (w < least) ⊎ (most < w) → ltb w least || ltb most w ≡ true
 outside w least most h = ⊎-elim (λ (g : w < least). rw (lt-ltb w least g)) (λ (g : most < w). rw (lt-ltb most w g) (either (ltb w least))) h
+
+-- the versions that are known are those from 1 to 2
+known-range : (v : ℕ) → ltb v 1 || ltb 2 v ≡ not (isKnown v)
+known-range zero = refl
+known-range (suc zero) = refl
+known-range (suc (suc zero)) = refl
+known-range (suc (suc (suc n))) =
+    let v : ℕ = suc (suc (suc n)) in
+    rw (le-ltb v 1 (omega arith), lt-ltb 2 v (omega arith), ne-eqb v 1 (λ e. omega arith), ne-eqb v 2 (λ e. omega arith))
+
+-- ---- the length of the largest job
+
+pub state-most : (version : ℕ) → stateBytes version ≤ 20
+state-most version = (elim (eqb version 1) as (λ t. cond t 16 20 ≤ 20) [ true ↦ omega arith | false ↦ omega arith ])
+
+pub length-most : (version count : ℕ) → count ≤ mostJobStates → lengthOf version count ≤ lengthOf 2 mostJobStates
+length-most version count h = omega (arith, mul-le-mul-right count (state-most version))
 
 -- ---- each departure, where those before it are none
 
@@ -58,13 +76,13 @@ module _ (bytes : List ℕ) where
       marked : markFound bytes ≡ Sound
       marked = marked-sound (omega arith)
 
-      pub found-version : (versionOf bytes ≡ version → ⊥) → damageOf bytes ≡ Wrong Version 3
+      pub found-version : isKnown (versionOf bytes) ≡ false → damageOf bytes ≡ Wrong Version 3
       unfolding damageOf
-      found-version d = rw (marked, le-ltb len 5 five, outside (versionOf bytes) version version (less-or-more (versionOf bytes) version d))
+      found-version u = rw (marked, le-ltb len 5 five, known-range (versionOf bytes), u)
 
-      module _ (v : versionOf bytes ≡ version) where
-        right : ltb (versionOf bytes) version || ltb version (versionOf bytes) ≡ false
-        right = inside (versionOf bytes) version version (omega arith) (omega arith)
+      module _ (v : isKnown (versionOf bytes) ≡ true) where
+        right : ltb (versionOf bytes) 1 || ltb 2 (versionOf bytes) ≡ false
+        right = known-range (versionOf bytes) ∙ ap not v
 
         pub found-short-count : len < 7 → damageOf bytes ≡ Wrong Length len
         unfolding damageOf
@@ -76,24 +94,24 @@ module _ (bytes : List ℕ) where
           found-count g = rw (marked, le-ltb len 5 five, right, le-ltb len 7 seven, outside (countOf bytes) 0 mostJobStates (inr g))
 
           module _ (few : countOf bytes ≤ mostJobStates) where
-            pub found-length : (len ≡ lengthOf (countOf bytes) → ⊥) → damageOf bytes ≡ Wrong Length (min len (lengthOf (countOf bytes)))
+            pub found-length : (len ≡ wholeOf bytes → ⊥) → damageOf bytes ≡ Wrong Length (min len (wholeOf bytes))
             unfolding damageOf
-            found-length d = rw (marked, le-ltb len 5 five, right, le-ltb len 7 seven, inside (countOf bytes) 0 mostJobStates zero-le few, ne-eqb len (lengthOf (countOf bytes)) d)
+            found-length d = rw (marked, le-ltb len 5 five, right, le-ltb len 7 seven, inside (countOf bytes) 0 mostJobStates zero-le few, ne-eqb len (wholeOf bytes) d)
 
-            pub found-nothing : len ≡ lengthOf (countOf bytes) → damageOf bytes ≡ Sound
+            pub found-nothing : len ≡ wholeOf bytes → damageOf bytes ≡ Sound
             unfolding damageOf
-            found-nothing e = rw (marked, le-ltb len 5 five, right, le-ltb len 7 seven, inside (countOf bytes) 0 mostJobStates zero-le few, eq-eqb len (lengthOf (countOf bytes)) e)
+            found-nothing e = rw (marked, le-ltb len 5 five, right, le-ltb len 7 seven, inside (countOf bytes) 0 mostJobStates zero-le few, eq-eqb len (wholeOf bytes) e)
 
 -- ---- every file is damaged in one of these ways, or is a job
 
 pub data Way (bytes : List ℕ) : Found → Type 0 where
   wrong-mark : alike mark bytes < 3 → alike mark bytes < length bytes → Way bytes (Wrong Mark (alike mark bytes))
   ends-early : length bytes < 5 → min 3 (length bytes) ≤ alike mark bytes → Way bytes (Wrong Length (length bytes))
-  wrong-version : 3 ≤ alike mark bytes → 5 ≤ length bytes → (versionOf bytes ≡ version → ⊥) → Way bytes (Wrong Version 3)
-  ends-in-count : 3 ≤ alike mark bytes → versionOf bytes ≡ version → 5 ≤ length bytes → length bytes < 7 → Way bytes (Wrong Length (length bytes))
-  wrong-count : 3 ≤ alike mark bytes → versionOf bytes ≡ version → 7 ≤ length bytes → mostJobStates < countOf bytes → Way bytes (Wrong Count 5)
-  wrong-length : 3 ≤ alike mark bytes → versionOf bytes ≡ version → 7 ≤ length bytes → countOf bytes ≤ mostJobStates → (length bytes ≡ lengthOf (countOf bytes) → ⊥)
-      → Way bytes (Wrong Length (min (length bytes) (lengthOf (countOf bytes))))
+  wrong-version : 3 ≤ alike mark bytes → 5 ≤ length bytes → isKnown (versionOf bytes) ≡ false → Way bytes (Wrong Version 3)
+  ends-in-count : 3 ≤ alike mark bytes → isKnown (versionOf bytes) ≡ true → 5 ≤ length bytes → length bytes < 7 → Way bytes (Wrong Length (length bytes))
+  wrong-count : 3 ≤ alike mark bytes → isKnown (versionOf bytes) ≡ true → 7 ≤ length bytes → mostJobStates < countOf bytes → Way bytes (Wrong Count 5)
+  wrong-length : 3 ≤ alike mark bytes → isKnown (versionOf bytes) ≡ true → 7 ≤ length bytes → countOf bytes ≤ mostJobStates → (length bytes ≡ wholeOf bytes → ⊥)
+      → Way bytes (Wrong Length (min (length bytes) (wholeOf bytes)))
   nowhere : IsJob bytes → Way bytes Sound
 
 module _ (bytes : List ℕ) where
@@ -104,13 +122,13 @@ module _ (bytes : List ℕ) where
     three : 3 ≤ alike mark bytes
     three = omega arith
 
-    way-length : versionOf bytes ≡ version → 7 ≤ length bytes → countOf bytes ≤ mostJobStates → Way bytes (damageOf bytes)
+    way-length : isKnown (versionOf bytes) ≡ true → 7 ≤ length bytes → countOf bytes ≤ mostJobStates → Way bytes (damageOf bytes)
     way-length v seven few = ⊎-elim
-        (λ (e : length bytes ≡ lengthOf (countOf bytes)). rw (found-nothing bytes h five v seven few e) (nowhere (record { marked = marked-is three; versioned = v; few = few; whole = e })))
-        (λ (d : length bytes ≡ lengthOf (countOf bytes) → ⊥). rw (found-length bytes h five v seven few d) (wrong-length three v seven few d))
-        (same-or-not (length bytes) (lengthOf (countOf bytes)))
+        (λ (e : length bytes ≡ wholeOf bytes). rw (found-nothing bytes h five v seven few e) (nowhere (record { marked = marked-is three; versioned = v; few = few; whole = e })))
+        (λ (d : length bytes ≡ wholeOf bytes → ⊥). rw (found-length bytes h five v seven few d) (wrong-length three v seven few d))
+        (same-or-not (length bytes) (wholeOf bytes))
 
-    way-count : versionOf bytes ≡ version → Way bytes (damageOf bytes)
+    way-count : isKnown (versionOf bytes) ≡ true → Way bytes (damageOf bytes)
     way-count v = ⊎-elim
         (λ (seven : 7 ≤ length bytes). ⊎-elim
         (λ (few : countOf bytes ≤ mostJobStates). way-length v seven few)
@@ -120,10 +138,12 @@ module _ (bytes : List ℕ) where
         (le-or-lt 7 (length bytes))
 
     way-version : Way bytes (damageOf bytes)
-    way-version = ⊎-elim
-        way-count
-        (λ (d : versionOf bytes ≡ version → ⊥). rw (found-version bytes h five d) (wrong-version three five d))
-        (same-or-not (versionOf bytes) version)
+    way-version =
+        (elim (isKnown (versionOf bytes)) as (λ b. isKnown (versionOf bytes) ≡ b → Way bytes (damageOf bytes)) [
+          | true ↦ λ v. way-count v
+          | false ↦ λ u. rw (found-version bytes h five u) (wrong-version three five u)
+        ])
+        refl
 
   pub way : Way bytes (damageOf bytes)
   way = ⊎-elim
@@ -161,7 +181,7 @@ sound-job bytes e = subst (JobWhere bytes) e (way-job bytes (damageOf bytes) (wa
 -- ---- the heading, and then the length
 
 abbrev pub headingFound : List ℕ → Found
-headingFound bytes = elseFound (elseFound (markFound bytes) (wordFound 3 version version Version bytes)) (wordFound 5 0 mostJobStates Count bytes)
+headingFound bytes = elseFound (elseFound (markFound bytes) (wordFound 3 1 2 Version bytes)) (wordFound 5 0 mostJobStates Count bytes)
 
 else-else : (f g h k : Found) → elseFound f (elseFound g (elseFound h k)) ≡ elseFound (elseFound (elseFound f g) h) k
 else-else Sound Sound h k = refl
@@ -170,7 +190,7 @@ else-else (Wrong w p) g h k = refl
 
 damage-is : (bytes : List ℕ) → damageOf bytes ≡ elseFound (headingFound bytes) (lengthFound bytes)
 unfolding damageOf
-damage-is bytes = else-else (markFound bytes) (wordFound 3 version version Version bytes) (wordFound 5 0 mostJobStates Count bytes) (lengthFound bytes)
+damage-is bytes = else-else (markFound bytes) (wordFound 3 1 2 Version bytes) (wordFound 5 0 mostJobStates Count bytes) (lengthFound bytes)
 
 pub heading-wrong : (bytes : List ℕ) (what : Damage) (at : ℕ) → headingFound bytes ≡ Wrong what at → headingFound bytes ≡ damageOf bytes
 heading-wrong bytes what at e = e ∙ sym (damage-is bytes ∙ ap (λ (f : Found). elseFound f (lengthFound bytes)) e)
@@ -191,7 +211,7 @@ pub heading-few : (bytes : List ℕ) → headingFound bytes ≡ Sound → countO
 heading-few bytes e = ⊎-elim
     (λ (f : Wrong Length (length bytes) ≡ Sound). absurd (let z : _≡_ {A = ℕ} 0 1 = cc in omega arith))
     (λ (f : ltb (countOf bytes) 0 || ltb mostJobStates (countOf bytes) ≡ false). ltb-false mostJobStates (countOf bytes) (neither (ltb (countOf bytes) 0) (ltb mostJobStates (countOf bytes)) f .1))
-    (none-wrong (ltb (length bytes) 7) (ltb (countOf bytes) 0 || ltb mostJobStates (countOf bytes)) (Wrong Length (length bytes)) Count 5 (else-none (elseFound (markFound bytes) (wordFound 3 version version Version bytes)) _ e))
+    (none-wrong (ltb (length bytes) 7) (ltb (countOf bytes) 0 || ltb mostJobStates (countOf bytes)) (Wrong Length (length bytes)) Count 5 (else-none (elseFound (markFound bytes) (wordFound 3 1 2 Version bytes)) _ e))
 
 -- ---- what the readers of the parts answer
 
@@ -209,12 +229,16 @@ module _ (bytes : List ℕ) where
     pub word-sound : ltb w least || ltb most w ≡ false → r ≡ foundTo (at + 2) bytes Sound → r ≡ wordFound at least most what bytes
     word-sound t q = q ∙ rw (rw e at t)
 
-  module _ (n : ℕ) (e : n ≡ countOf bytes) where
-    pub length-right : length bytes ≡ lengthOf n → Sound ≡ lengthFound bytes
-    length-right h = rw (eq-eqb (length bytes) (lengthOf (countOf bytes)) (h ∙ ap lengthOf e))
+  -- of the version and the number of states that are read, and the bytes of a state
+  module _ (v w n : ℕ) (a : v ≡ versionOf bytes) (b : w ≡ stateBytes v) (e : n ≡ countOf bytes) where
+    whole-is : 15 + w * n ≡ wholeOf bytes
+    whole-is = rw (b, a, e)
 
-    pub length-wrong : (length bytes ≡ lengthOf n → ⊥) → (r : ℕ) → r ≡ min (length bytes) (lengthOf n) → Wrong Length r ≡ lengthFound bytes
-    length-wrong d r q = rw (ne-eqb (length bytes) (lengthOf (countOf bytes)) (λ h. d (h ∙ ap lengthOf (sym e))), q, e)
+    pub length-right : length bytes ≡ 15 + w * n → Sound ≡ lengthFound bytes
+    length-right h = rw (eq-eqb (length bytes) (wholeOf bytes) (h ∙ whole-is))
 
-  pub heading-is : (m v c f h : Found) → m ≡ markFound bytes → v ≡ wordFound 3 version version Version bytes → c ≡ wordFound 5 0 mostJobStates Count bytes → f ≡ elseFound m v → h ≡ elseFound f c → h ≡ headingFound bytes
+    pub length-wrong : (length bytes ≡ 15 + w * n → ⊥) → (r : ℕ) → r ≡ min (length bytes) (15 + w * n) → Wrong Length r ≡ lengthFound bytes
+    length-wrong d r q = rw (ne-eqb (length bytes) (wholeOf bytes) (λ h. d (h ∙ sym whole-is)), q, whole-is)
+
+  pub heading-is : (m v c f h : Found) → m ≡ markFound bytes → v ≡ wordFound 3 1 2 Version bytes → c ≡ wordFound 5 0 mostJobStates Count bytes → f ≡ elseFound m v → h ≡ elseFound f c → h ≡ headingFound bytes
   heading-is m v c f h a b d e g = g ∙ rw (e, a, b, d)

@@ -5,15 +5,14 @@ use mathlib.Core.List.{List}
 use Prim.Native.Nat.{ℕ, _≤_, _<_}
 use native.Mathlib.Omega.{arith}
 use lib.Dec.{leb, ltb, eqb}
-use lib.ListN.{length, replicate, length-replicate}
+use lib.ListN.{length}
 use lib.Ieee.{Float, eq}
 use borrow.Author.Tests.{eqb-false, leb-false, ltb-false}
 use Rattle.lists.specs.Sizes.{mostFrames}
 use Rattle.lists.specs.Totals.{total}
 use Rattle.lists.proofs.Flags.{neither}
-use Rattle.lists.proofs.Sums.{total-same}
 use Rattle.floats.specs.Numbers.{nought, one}
-use Rattle.steps.specs.Steps.{States, size, shortest, Outcome, unchanged}
+use Rattle.steps.specs.Steps.{States, size, least, Outcome, unchanged}
 use Rattle.duration.specs.Fit.{startOf, atShortest, fitTo, refusalTo}
 use Rattle.duration.specs.Estimate.{naturals}
 use Rattle.duration.specs.Speed.{targetAt, fitAt, refusalAt}
@@ -25,27 +24,27 @@ pub record Bounded (n : ℕ) (o : Outcome) : Type 0 where
   pub count : length (o .durations) ≡ n
   pub few : total (o .durations) ≤ mostFrames
 
-module _ (ss : States) (few : size ss ≤ 4096) where
-  ones : Bounded (size ss) (unchanged (replicate (size ss) shortest))
-  ones = record { count = length-replicate (size ss) shortest; few = omega (arith, total-same (size ss) shortest) }
+module _ (ss : States) (agree : length (ss .shortest) ≡ size ss) (low : least ss ≤ mostFrames) where
+  shortest : Bounded (size ss) (unchanged (ss .shortest))
+  shortest = record { count = agree; few = low }
 
-  -- the target is above the count
+  -- the target is above the sum of the shortest
   module _ (t : ℕ) (e : refusalTo ss t ≡ 0) where
-    fit-above : atShortest (size ss) t ≡ false → Bounded (size ss) (fitTo ss t)
+    fit-above : atShortest ss t ≡ false → Bounded (size ss) (fitTo ss t)
     unfolding refusalTo
     fit-above q =
-        let p = neither (eqb (size ss) 0) (leb t (size ss)) q in
+        let p = neither (eqb (size ss) 0) (leb t (least ss)) q in
         let z : size ss ≡ 0 → ⊥ = eqb-false (size ss) 0 (p .0) in
         let some : 0 < size ss = omega arith in
-        let f = fair-fit ss t some (leb-false t (size ss) (p .1)) e in
-        let a : _≡_ {A = ℕ} (cond (ltb mostFrames t) 7 (cond (leb t (size ss)) 0 (cond (ltb mostFrames (total (startOf ss t))) 8 0))) 0 = rw (p .0) at e in
+        let f = fair-fit ss t some agree (leb-false t (least ss) (p .1)) e in
+        let a : _≡_ {A = ℕ} (cond (ltb mostFrames t) 7 (cond (leb t (least ss)) 0 (cond (ltb mostFrames (total (startOf ss t))) 8 0))) 0 = rw (p .0) at e in
         record { count = f .count; few = omega (arith, f .sum, ltb-false mostFrames t (cond-none (ltb mostFrames t) 6 _ a .0)) }
 
     fit-bounded : Bounded (size ss) (fitTo ss t)
     unfolding fitTo
     fit-bounded =
-        (elim (atShortest (size ss) t) as (λ s. atShortest (size ss) t ≡ s → Bounded (size ss) (fitTo ss t)) [
-          | true ↦ λ q. rw q ones
+        (elim (atShortest ss t) as (λ s. atShortest ss t ≡ s → Bounded (size ss) (fitTo ss t)) [
+          | true ↦ λ q. rw q shortest
           | false ↦ λ q. fit-above q
         ])
         refl

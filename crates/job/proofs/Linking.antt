@@ -7,6 +7,7 @@ use Prim.Native.Nat.{ℕ, zero, suc, _≤_, _<_, min}
 use native.Mathlib.Omega.{arith}
 use lib.ListN.{length, take, drop, length-take, take-append-drop}
 use lib.Seq.{take-all, length-take-le}
+use Rattle.lists.specs.Sizes.{mostJobStates}
 use Rattle.lists.specs.Bytes.{little, alike, wordAt}
 use Rattle.lists.proofs.Numbers.{le-or-lt}
 use Rattle.lists.proofs.Fronts.{alike-same, part-same}
@@ -21,14 +22,14 @@ use Rattle.job.specs.declared.Answered.{Answered}
 use Rattle.job.specs.declared.Answered.the-variants.{Damaged as Answered·Damaged, Refused as Answered·Refused}
 use Rattle.job.specs.declared.link.Linked.{Linked}
 use Rattle.job.specs.declared.link.Linked.the-variants.{Taken, Refused}
-use Rattle.job.specs.Format.{mark, countOf, lengthOf}
+use Rattle.job.specs.Format.{mark, versionOf, isKnown, countOf, wholeOf}
 use Rattle.job.specs.Damage.{damageOf}
 use Rattle.job.specs.Places.{PlaceRight}
 use Rattle.job.specs.Promise.{JobSays}
 use Rattle.job.specs.Link.{headBytes, linkRoom, linkBytes, idle, underWay, hasEnded, cameIn, linkRefusal}
 use Rattle.job.specs.LinkPromise.{LinkBeginSays, LinkPartSays, LinkEndSays}
 use Rattle.job.specs.Linking.{Call, partOf, endWith, CallOutcome, taken, refused11, Calls, none, part-then, end-then, JobInParts, AsWhole}
-use Rattle.job.proofs.Damages.{found-mark, found-version, found-count, found-length, Way, wrong-mark, ends-early, wrong-version, ends-in-count, wrong-count, wrong-length, nowhere, way, sound-job}
+use Rattle.job.proofs.Damages.{length-most, found-mark, found-version, found-count, found-length, Way, wrong-mark, ends-early, wrong-version, ends-in-count, wrong-count, wrong-length, nowhere, way, sound-job}
 use Rattle.job.proofs.Answers.{damaged-so}
 use Rattle.job.proofs.Outcomes.{answered-one, job-one, job-found, job-told}
 use Rattle.job.proofs.Memory.{is-long, is-open, open-long, held-came, held-open, idle-ended, ended-11, open-0}
@@ -43,6 +44,9 @@ module _ (bytes : List ℕ) (h : linkRoom ≤ length bytes) where
   full : length kept ≡ linkRoom
   full = length-take-le linkRoom bytes h
 
+  whole-below : countOf bytes ≤ mostJobStates → wholeOf bytes < linkRoom
+  whole-below few = omega (arith, length-most (versionOf bytes) (countOf bytes) few)
+
   joined : kept ++ drop linkRoom bytes ≡ bytes
   joined = take-append-drop linkRoom bytes
 
@@ -55,23 +59,30 @@ module _ (bytes : List ℕ) (h : linkRoom ≤ length bytes) where
       ∙ ap little (part-same kept [] (drop linkRoom bytes) at 2 (omega (arith, full)))
       ∙ ap (λ (l : List ℕ). wordAt l at) joined
 
+  kept-known : isKnown (versionOf kept) ≡ isKnown (versionOf bytes)
+  kept-known = ap isKnown (kept-word 3 (omega arith))
+
+  kept-whole : wholeOf kept ≡ wholeOf bytes
+  kept-whole = rw (kept-word 3 (omega arith), kept-word 5 (omega arith))
+
   way-kept : (f : Found) → Way bytes f → damageOf kept ≡ f
   way-kept f (wrong-mark m g) = found-mark kept (omega (arith, full, kept-alike)) ∙ ap (Wrong Mark) kept-alike
   way-kept f (ends-early l m) = absurd (omega arith)
-  way-kept f (wrong-version m l d) = found-version kept (omega (arith, kept-alike)) (omega (arith, full)) (λ e. d (sym (kept-word 3 (omega arith)) ∙ e))
+  way-kept f (wrong-version m l d) = found-version kept (omega (arith, kept-alike)) (omega (arith, full)) (kept-known ∙ d)
   way-kept f (ends-in-count m v l g) = absurd (omega arith)
-  way-kept f (wrong-count m v l g) = found-count kept (omega (arith, kept-alike)) (omega (arith, full)) (kept-word 3 (omega arith) ∙ v) (omega (arith, full)) (rw (kept-word 5 (omega arith)) g)
+  way-kept f (wrong-count m v l g) = found-count kept (omega (arith, kept-alike)) (omega (arith, full)) (kept-known ∙ v) (omega (arith, full)) (rw (kept-word 5 (omega arith)) g)
   way-kept f (wrong-length m v l g d) =
       let c : countOf kept ≡ countOf bytes = kept-word 5 (omega arith) in
-      let p : min (length kept) (lengthOf (countOf kept)) ≡ min (length bytes) (lengthOf (countOf bytes)) = omega (arith, full) in
-      found-length kept (omega (arith, kept-alike)) (omega (arith, full)) (kept-word 3 (omega arith) ∙ v) (omega (arith, full)) (rw c g) (λ e. omega (arith, full)) ∙ ap (Wrong Length) p
-  way-kept f (nowhere j) = absurd (omega (arith, j .whole, j .few))
+      let b : wholeOf bytes < linkRoom = whole-below g in
+      let p : min (length kept) (wholeOf kept) ≡ min (length bytes) (wholeOf bytes) = omega (arith, full, kept-whole) in
+      found-length kept (omega (arith, kept-alike)) (omega (arith, full)) (kept-known ∙ v) (omega (arith, full)) (rw c g) (λ e. omega (arith, full, kept-whole)) ∙ ap (Wrong Length) p
+  way-kept f (nowhere j) = absurd (omega (arith, j .whole, whole-below (j .few)))
 
   pub room-found : damageOf kept ≡ damageOf bytes
   room-found = way-kept (damageOf bytes) (way bytes)
 
   no-job : damageOf bytes ≡ Sound → ⊥
-  no-job e = let j = sound-job bytes e in omega (arith, j .whole, j .few)
+  no-job e = let j = sound-job bytes e in omega (arith, j .whole, whole-below (j .few))
 
   -- so both have one outcome
   module _ (out work : List ℕ) (r : Answered) (out′ work′ : List ℕ) where
@@ -95,7 +106,7 @@ module _ (bytes : List ℕ) (h : linkRoom ≤ length bytes) where
         ])
         refl
 
--- a job's outcome is that of its first 16,400 bytes
+-- a job's outcome is that of its first 20,496 bytes
 module _ (bytes out work : List ℕ) (r : Answered) (out′ work′ : List ℕ) where
   pub room-says : JobSays (take linkRoom bytes) out work r out′ work′ → JobSays bytes out work r out′ work′
   room-says s = ⊎-elim

@@ -42,7 +42,7 @@ module _ (link : List ℕ) (z : linkRefusal link ≡ 0) where
   pub open-long : linkBytes ≤ length link
   open-long = long-enough link (open-parts .1)
 
-  -- the number is 1 to 16,401
+  -- the number is 1 to 20,497
   pub open-stage : (0 < stageOf link) × (stageOf link ≤ linkRoom + 1)
   unfolding hasEnded
   open-stage =

@@ -20,7 +20,7 @@ use Rattle.job.specs.declared.Damage.the-variants.{Mark, Version, Count,
 use Rattle.job.specs.declared.finding.Found.{Found}
 use Rattle.job.specs.declared.finding.Found.the-variants.{Sound, Wrong}
 use Rattle.job.specs.declared.Answered.{Answered}
-use Rattle.job.specs.Format.{mark, versionOf, version, countOf, lengthOf, IsJob, Job, jobOf}
+use Rattle.job.specs.Format.{mark, versionOf, isKnown, countOf, wholeOf, IsJob, Job, jobOf}
 use Rattle.job.specs.Damage.{damageOf, damageNumber, isDamage, oldNumber}
 use Rattle.job.specs.Promise.{answered, jobFit, jobRefusal, unlessFound, behind, JobSaysAfter}
 use Rattle.job.specs.Old.{formatRefusal, foundNumber, OldSaysAfter, oldAnswer}
@@ -33,7 +33,7 @@ use Rattle.job.proofs.Telling.{job-none}
 job-accepted : (bytes : List ℕ) → IsJob bytes → formatRefusal bytes ≡ 0
 unfolding formatRefusal
 job-accepted bytes j =
-    rw (is-starts mark bytes (j .marked), eq-eqb (versionOf bytes) version (j .versioned), le-ltb mostJobStates (countOf bytes) (j .few), eq-eqb (length bytes) (lengthOf (countOf bytes)) (j .whole))
+    rw (is-starts mark bytes (j .marked), j .versioned, le-ltb mostJobStates (countOf bytes) (j .few), eq-eqb (length bytes) (wholeOf bytes) (j .whole))
 
 passed : (b : Bool) (k : ℕ) → _≡_ {A = ℕ} (cond b 9 k) 0 → (b ≡ false) × (k ≡ 0)
 passed true k e = absurd (omega arith)
@@ -47,14 +47,14 @@ accepted-job : (bytes : List ℕ) → formatRefusal bytes ≡ 0 → IsJob bytes
 unfolding formatRefusal
 accepted-job bytes e =
     let a = passed (not (startsWith mark bytes)) _ e in
-    let b = passed (not (eqb (versionOf bytes) version)) _ (a .1) in
+    let b = passed (not (isKnown (versionOf bytes))) _ (a .1) in
     let c = passed (ltb mostJobStates (countOf bytes)) _ (b .1) in
-    let d = passed (not (eqb (length bytes) (lengthOf (countOf bytes)))) 0 (c .1) in
+    let d = passed (not (eqb (length bytes) (wholeOf bytes))) 0 (c .1) in
     record {
       marked = starts-is mark bytes (is-so _ (a .0));
-      versioned = eqb-true (versionOf bytes) version (is-so _ (b .0));
+      versioned = is-so _ (b .0);
       few = ltb-false mostJobStates (countOf bytes) (c .0);
-      whole = eqb-true (length bytes) (lengthOf (countOf bytes)) (is-so _ (d .0));
+      whole = eqb-true (length bytes) (wholeOf bytes) (is-so _ (d .0));
     }
 
 none-or-9 : (a b c d : Bool) → (_≡_ {A = ℕ} (cond a 9 (cond b 9 (cond c 9 (cond d 9 0)))) 0) ⊎ (_≡_ {A = ℕ} (cond a 9 (cond b 9 (cond c 9 (cond d 9 0)))) 9)
@@ -66,7 +66,7 @@ none-or-9 false false false false = inl refl
 
 refusal-is : (bytes : List ℕ) → (formatRefusal bytes ≡ 0) ⊎ (formatRefusal bytes ≡ 9)
 unfolding formatRefusal
-refusal-is bytes = none-or-9 (not (startsWith mark bytes)) (not (eqb (versionOf bytes) version)) (ltb mostJobStates (countOf bytes)) (not (eqb (length bytes) (lengthOf (countOf bytes))))
+refusal-is bytes = none-or-9 (not (startsWith mark bytes)) (not (isKnown (versionOf bytes))) (ltb mostJobStates (countOf bytes)) (not (eqb (length bytes) (wholeOf bytes)))
 
 no-job-9 : (bytes : List ℕ) → (IsJob bytes → ⊥) → formatRefusal bytes ≡ 9
 no-job-9 bytes n = ⊎-elim (λ (e : formatRefusal bytes ≡ 0). absurd (n (accepted-job bytes e))) (λ (e : formatRefusal bytes ≡ 9). e) (refusal-is bytes)

@@ -1,8 +1,10 @@
 -- The place of a damage is right.
 use mathlib.Core.Path.{_≡_, refl, sym, ap, _∙_, subst}
+use mathlib.Core.Bool.{true, false, true≢false}
 use mathlib.Core.Logic.{_≢_}
 use mathlib.Core.List.{List, [], _∷_, _++_}
 use Prim.Native.Nat.{ℕ, zero, suc, _+_, _-_, _≤_, _<_, min}
+use native.Mathlib.Nat.{mul-zero}
 use native.Mathlib.Numerals.{add-one}
 use native.Mathlib.Omega.{arith}
 use lib.ListN.{length, take, drop, replicate, length-append, length-replicate, take-append-drop}
@@ -15,7 +17,7 @@ use Rattle.lists.proofs.Fronts.{alike-is, is-alike, alike-still, part-same}
 use Rattle.job.specs.declared.Damage.{Damage}
 use Rattle.job.specs.declared.finding.Found.{Found}
 use Rattle.job.specs.declared.finding.Found.the-variants.{Sound, Wrong}
-use Rattle.job.specs.Format.{mark, versionOf, version, countOf, lengthOf, IsJob}
+use Rattle.job.specs.Format.{mark, versionOf, isKnown, countOf, wholeOf, IsJob}
 use Rattle.job.specs.Damage.{damageOf}
 use Rattle.job.specs.Places.{Begins, lookedTo, PlaceRight}
 use Rattle.lists.proofs.Spelled.{bytes-append}
@@ -36,6 +38,12 @@ module _ (bytes rest : List ℕ) (n : ℕ) (h : n ≤ length bytes) where
 
   like-word : (at : ℕ) → at + 2 ≤ n → wordAt like at ≡ wordAt bytes at
   like-word at g = ap little (front-part at 2 g)
+
+  like-known : 5 ≤ n → isKnown (versionOf like) ≡ isKnown (versionOf bytes)
+  like-known g = ap isKnown (like-word 3 g)
+
+  like-whole : 7 ≤ n → wholeOf like ≡ wholeOf bytes
+  like-whole g = rw (like-word 3 (omega arith), like-word 5 g)
 
   like-long : length like ≡ n + length rest
   like-long = length-append (take n bytes) rest ∙ ap (λ (k : ℕ). k + length rest) (length-take-le n bytes h)
@@ -76,7 +84,7 @@ module _ (bytes : List ℕ) where
   front-begins : (n : ℕ) → n ≤ 3 → n ≤ alike mark bytes → Begins (take n bytes)
   front-begins n h g = record { rest = drop n blank; each = behind-each n; job = rw (alike-is mark bytes n g) (mark-begins n h) }
 
-  module _ (m : 3 ≤ alike mark bytes) (v : versionOf bytes ≡ version) where
+  module _ (m : 3 ≤ alike mark bytes) (v : isKnown (versionOf bytes) ≡ true) where
     marked : take 3 bytes ≡ mark
     marked = alike-is mark bytes 3 m
 
@@ -90,24 +98,24 @@ module _ (bytes : List ℕ) where
           each = zeros-each 10;
           job = record {
             marked = like-marked bytes rest 5 h (omega arith) ∙ marked;
-            versioned = like-word bytes rest 5 h 3 (omega arith) ∙ v;
+            versioned = like-known bytes rest 5 h (omega arith) ∙ v;
             few = rw c (omega arith);
-            whole = rw c (like-long bytes rest 5 h);
+            whole = rw (c, mul-zero) (like-long bytes rest 5 h);
           };
         }
 
-    count-begins : countOf bytes ≤ mostJobStates → (n : ℕ) → 7 ≤ n → n ≤ length bytes → n ≤ lengthOf (countOf bytes) → Begins (take n bytes)
+    count-begins : countOf bytes ≤ mostJobStates → (n : ℕ) → 7 ≤ n → n ≤ length bytes → n ≤ wholeOf bytes → Begins (take n bytes)
     count-begins few n seven h g =
-        let rest : List ℕ = replicate (lengthOf (countOf bytes) - n) 0 in
-        let c : countOf (take n bytes ++ rest) ≡ countOf bytes = like-word bytes rest n h 5 (omega arith) in
+        let more : ℕ = wholeOf bytes - n in
+        let rest : List ℕ = replicate more 0 in
         record {
           rest = rest;
-          each = zeros-each (lengthOf (countOf bytes) - n);
+          each = zeros-each more;
           job = record {
             marked = like-marked bytes rest n h (omega arith) ∙ marked;
-            versioned = like-word bytes rest n h 3 (omega arith) ∙ v;
-            few = rw c few;
-            whole = rw c (like-long bytes rest n h ∙ omega (arith, length-replicate {A = ℕ} (lengthOf (countOf bytes) - n) 0));
+            versioned = like-known bytes rest n h (omega arith) ∙ v;
+            few = rw (like-word bytes rest n h 5 (omega arith)) few;
+            whole = like-long bytes rest n h ∙ omega (arith, length-replicate {A = ℕ} more 0) ∙ sym (like-whole bytes rest n h seven);
           };
         }
 
@@ -130,7 +138,7 @@ module _ (bytes : List ℕ) where
       (λ q. front-begins bytes 3 (omega arith) (omega arith))
       refl
 
-  in-count-begins : (n : ℕ) → n ≡ length bytes → 3 ≤ alike mark bytes → versionOf bytes ≡ version → 5 ≤ n → n < 7 → Begins (take (lookedTo n) bytes)
+  in-count-begins : (n : ℕ) → n ≡ length bytes → 3 ≤ alike mark bytes → isKnown (versionOf bytes) ≡ true → 5 ≤ n → n < 7 → Begins (take (lookedTo n) bytes)
   in-count-begins n e m v l g = by-place
       6
       (λ (k : ℕ). k ≡ n → Begins (take (lookedTo k) bytes))
@@ -145,8 +153,8 @@ module _ (bytes : List ℕ) where
       let j : IsJob front = rw add-one at (b .job) in
       omega (arith, is-alike mark front (j .marked), alike-still mark bytes (b .rest) h g)
 
-  none-as-long : (p : ℕ) → 7 ≤ p → p < length bytes → p ≡ lengthOf (countOf bytes) → Begins (take (p + 1) bytes) → ⊥
-  none-as-long p l i e b = omega (arith, b .job .whole, like-long bytes (b .rest) (p + 1) (omega arith), like-word bytes (b .rest) (p + 1) (omega arith) 5 (omega arith))
+  none-as-long : (p : ℕ) → 7 ≤ p → p < length bytes → p ≡ wholeOf bytes → Begins (take (p + 1) bytes) → ⊥
+  none-as-long p l i e b = omega (arith, b .job .whole, like-long bytes (b .rest) (p + 1) (omega arith), like-whole bytes (b .rest) (p + 1) (omega arith) (omega arith))
 
   way-right : (f : Found) → Way bytes f → Right bytes f
   way-right f (wrong-mark h g) =
@@ -168,7 +176,7 @@ module _ (bytes : List ℕ) where
       record {
         within = omega arith;
         before = front-begins bytes 3 (omega arith) m;
-        there = λ i b. d (sym (like-word bytes (b .rest) 5 l 3 (omega arith)) ∙ b .job .versioned);
+        there = λ i b. true≢false (sym (b .job .versioned) ∙ like-known bytes (b .rest) 5 l (omega arith) ∙ d);
         ends = λ e j. omega arith;
       }
   way-right f (ends-in-count m v l g) =
@@ -186,7 +194,7 @@ module _ (bytes : List ℕ) where
         ends = λ e j. omega arith;
       }
   way-right f (wrong-length m v l g d) =
-      let p : ℕ = min (length bytes) (lengthOf (countOf bytes)) in
+      let p : ℕ = min (length bytes) (wholeOf bytes) in
       record {
         within = omega arith;
         before = rw (looked-all p (λ e. omega arith) (λ e. omega arith)) (count-begins bytes m v g p (omega arith) (omega arith) (omega arith));

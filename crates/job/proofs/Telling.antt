@@ -2,23 +2,23 @@
 use mathlib.Core.Path.{_≡_, refl, ap, _∙_}
 use mathlib.Core.Bool.{Bool, true, false, not, cond}
 use mathlib.Core.List.{List}
-use Prim.Native.Nat.{ℕ, zero, suc, _≤_}
+use Prim.Native.Nat.{ℕ, zero, suc}
 use native.Mathlib.Omega.{arith}
 use lib.Dec.{leb, ltb, eqb}
 use lib.ListN.{length, getD}
-use lib.Ieee.{eq}
-use borrow.Author.Tests.{ne-eqb}
+use lib.Ieee.{Float, eq}
 use Rattle.lists.specs.Sizes.{mostStates, mostFrames}
 use Rattle.lists.specs.Answers.{refusing, answerOf}
 use Rattle.lists.specs.Refusals.{orElse}
 use Rattle.lists.specs.Totals.{total}
 use Rattle.lists.proofs.Answers.{same}
-use Rattle.lists.proofs.Refusals.{or-below}
 use Rattle.floats.specs.Numbers.{one}
 use Rattle.duration.specs.Estimate.{naturals}
 use Rattle.duration.specs.Fit.{startOf, refusalTo}
 use Rattle.duration.specs.Speed.{targetAt, refusalAt}
-use Rattle.duration.specs.Promise.{refusalOfLists}
+use Rattle.duration.specs.Promise.{refusalOfLists, earlyRefusal}
+use Rattle.duration.specs.Shortest.{unfit, refusalOfShortest}
+use Rattle.steps.specs.Steps.{States, size, least}
 use Rattle.job.specs.declared.Damage.{Damage}
 use Rattle.job.specs.declared.Damage.the-variants.{Mark, Version, Count, Length}
 use Rattle.job.specs.declared.finding.Found.{Found}
@@ -43,38 +43,44 @@ damage-is Length = refl
 
 -- ---- no damage's: what the fit refuses with, and a link before the job
 
-below-none : (k : ℕ) → k ≤ 8 → isDamage k ≡ false
-below-none k h = rw (ne-eqb k 9 (λ e. omega arith), ne-eqb k 12 (λ e. omega arith), ne-eqb k 13 (λ e. omega arith), ne-eqb k 14 (λ e. omega arith))
+cond-none : (b : Bool) (k l : ℕ) → isDamage k ≡ false → isDamage l ≡ false → isDamage (cond b k l) ≡ false
+cond-none true k l h g = h
+cond-none false k l h g = g
 
-cond-below : (b : Bool) (k l m : ℕ) → k ≤ m → l ≤ m → cond b k l ≤ m
-cond-below true k l m h g = h
-cond-below false k l m h g = g
+or-none : (k l : ℕ) → isDamage k ≡ false → isDamage l ≡ false → isDamage (orElse k l) ≡ false
+or-none zero l h g = g
+or-none (suc k) l h g = h
 
-lists-below : (n v o w : ℕ) → refusalOfLists n v o w ≤ 8
+lists-none : (n v l o w : ℕ) → isDamage (refusalOfLists n v l o w) ≡ false
 unfolding refusalOfLists
-lists-below n v o w =
-    cond-below (ltb mostStates n) _ _ 8 (omega arith) (cond-below (not (eqb v n)) _ _ 8 (omega arith) (cond-below (ltb o n) _ _ 8 (omega arith) (cond-below (ltb w n) _ _ 8 (omega arith) (omega arith))))
+lists-none n v l o w =
+    cond-none (ltb mostStates n) 3 _ refl
+    (cond-none (not (eqb v n)) 4 _ refl
+    (cond-none (not (eqb l n)) 4 _ refl
+    (cond-none (ltb o n) 6 _ refl
+    (cond-none (ltb w n) 6 _ refl refl))))
 
-job-below : (j : Job) (out work : List ℕ) → jobRefusal j out work ≤ 8
+shortest-none : (ls : List ℕ) → isDamage (refusalOfShortest ls) ≡ false
+unfolding refusalOfShortest
+shortest-none ls = cond-none (unfit ls) 15 0 refl refl
+
+speed-none : (ss : States) (speed : Float) → isDamage (refusalAt ss speed) ≡ false
 unfolding refusalAt refusalTo
-job-below j out work =
-    let ms = j .means in
-    let vs = j .varis in
-    let t = targetAt (jobStates j) (j .speed) in
-    or-below
-    (refusalOfLists (length ms) (length vs) (length out) (length work))
-    _
-    8
-    (lists-below (length ms) (length vs) (length out) (length work))
-    (cond-below (ltb mostFrames (total (naturals (jobStates j)))) _ _ 8 (omega arith)
-    (cond-below (eq (j .speed) one) _ _ 8 (omega arith)
-    (cond-below (eqb (length ms) 0) _ _ 8 (omega arith)
-    (cond-below (ltb mostFrames t) _ _ 8 (omega arith)
-    (cond-below (leb t (length ms)) _ _ 8 (omega arith)
-    (cond-below (ltb mostFrames (total (startOf (jobStates j) t))) _ _ 8 (omega arith) (omega arith)))))))
+speed-none ss speed =
+    let t = targetAt ss speed in
+    cond-none (ltb mostFrames (total (naturals ss))) 8 _ refl
+    (cond-none (eq speed one) 0 _ refl
+    (cond-none (eqb (size ss) 0) 0 _ refl
+    (cond-none (ltb mostFrames t) 7 _ refl
+    (cond-none (leb t (least ss)) 0 _ refl
+    (cond-none (ltb mostFrames (total (startOf ss t))) 8 _ refl refl)))))
 
 pub job-none : (j : Job) (out work : List ℕ) → isDamage (jobRefusal j out work) ≡ false
-job-none j out work = below-none (jobRefusal j out work) (job-below j out work)
+job-none j out work =
+    let ls = j .shortest in
+    or-none (earlyRefusal (jobStates j) out work) _
+    (or-none (refusalOfLists (length (j .means)) (length (j .varis)) (length ls) (length out) (length work)) (refusalOfShortest ls) (lists-none _ _ _ _ _) (shortest-none ls))
+    (speed-none (jobStates j) (j .speed))
 
 link-number : (a b : Bool) → isDamage (orElse (cond a 11 0) (cond b 6 0)) ≡ false
 link-number true b = refl

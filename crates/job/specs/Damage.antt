@@ -10,7 +10,7 @@ use Rattle.job.specs.declared.Damage.{Damage}
 use Rattle.job.specs.declared.Damage.the-variants.{Mark, Version, Count, Length}
 use Rattle.job.specs.declared.finding.Found.{Found}
 use Rattle.job.specs.declared.finding.Found.the-variants.{Sound, Wrong}
-use Rattle.job.specs.Format.{mark, version, countOf, lengthOf}
+use Rattle.job.specs.Format.{mark, wholeOf}
 
 -- the first that is found, or where that is nothing the next
 abbrev pub elseFound : Found → Found → Found
@@ -31,13 +31,13 @@ wordFound at least most what bytes = let w = wordAt bytes at in foundTo (at + 2)
 
 -- RULES, Job file: the file ends short, or goes on behind its last state: the place is its length, or the first byte too many
 abbrev pub lengthFound : List ℕ → Found
-lengthFound bytes = let whole = lengthOf (countOf bytes) in cond (eqb (length bytes) whole) Sound (Wrong Length (min (length bytes) whole))
+lengthFound bytes = let whole = wholeOf bytes in cond (eqb (length bytes) whole) Sound (Wrong Length (min (length bytes) whole))
 
--- RULES, Job file: the order is by place: the mark, the version at 3, the number of states at 5, the length
+-- RULES, Job file: the order is by place: the mark, the version at 3, which is 1 or 2, the number of states at 5, the length
 unfoldable pub damageOf : List ℕ → Found
 damageOf bytes =
     elseFound (markFound bytes)
-    (elseFound (wordFound 3 version version Version bytes)
+    (elseFound (wordFound 3 1 2 Version bytes)
     (elseFound (wordFound 5 0 mostJobStates Count bytes)
     (lengthFound bytes)))
 

@@ -14,7 +14,7 @@ abbrev pub headBytes : ℕ
 headBytes = 8
 
 abbrev pub linkRoom : ℕ
-linkRoom = lengthOf mostJobStates + 1
+linkRoom = lengthOf 2 mostJobStates + 1
 
 abbrev pub linkBytes : ℕ
 linkBytes = headBytes + linkRoom
@@ -35,7 +35,7 @@ underWay bytes = bytesOf headBytes (stage true (length bytes)) ++ bytes
 abbrev pub stageOf : List ℕ → ℕ
 stageOf link = little (take headBytes link)
 
--- RULES, Serial link: 0, and also a number above 16,401, says that no job is under way
+-- RULES, Serial link: 0, and also a number above 20,497, says that no job is under way
 unfoldable pub hasEnded : List ℕ → Bool
 hasEnded link = eqb (stageOf link) 0 || ltb (stage true linkRoom) (stageOf link)
 
@@ -43,7 +43,7 @@ hasEnded link = eqb (stageOf link) 0 || ltb (stage true linkRoom) (stageOf link)
 unfoldable pub cameIn : List ℕ → List ℕ
 cameIn link = take (stageOf link - 1) (drop headBytes link)
 
--- RULES, Serial link: a memory shorter than 16,408 bytes is refused with 6
+-- RULES, Serial link: a memory shorter than 20,504 bytes is refused with 6
 unfoldable pub beginRefusal : List ℕ → ℕ
 beginRefusal link = cond (ltb (length link) linkBytes) 6 0
 

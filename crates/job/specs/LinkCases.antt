@@ -12,6 +12,7 @@ use Rattle.lists.specs.Totals.{total}
 use Rattle.floats.specs.Rounding.{roundedOf}
 use Rattle.floats.specs.Order.{absOf, costBelow}
 use Rattle.model.specs.Pair.{pairsOf, sumOf}
+use Rattle.duration.specs.Shortest.{anyNone, refusalOfShortest}
 use Rattle.duration.specs.Estimate.{estimates, naturals}
 use Rattle.steps.specs.Steps.{keyOf, keys, leastOf, step, settle}
 use Rattle.duration.specs.Fit.{startOf, fitTo, refusalTo}
@@ -36,7 +37,7 @@ holding front = written 0 front memory
 
 -- RULES, Serial link: the worked job, cut inside the mark and with an empty part between, is answered as the file is: 4 and 6
 pub worked-in-parts : JobInParts memory (take 2 bytes ∷ [] ∷ drop 2 bytes ∷ []) sevens nines (Done 2 10 1) (written 0 idle (holding (underWay bytes))) (4 ∷ 6 ∷ 7 ∷ []) (0 ∷ 0 ∷ 9 ∷ [])
-unfolding underWay hasEnded cameIn beginRefusal linkRefusal damageOf alike little bytesOf floatsAt build workOf refusalOfLists refusalAt fitAt naturals targetAt refusalTo fitTo settle step keys keyOf leastOf costBelow absOf total startOf estimates roundedOf sumOf foldFrom pairsOf ofBits ofInt add sub mul div lt eq isNan
+unfolding underWay hasEnded cameIn beginRefusal linkRefusal damageOf alike little bytesOf floatsAt build workOf anyNone refusalOfShortest refusalOfLists refusalAt fitAt naturals targetAt refusalTo fitTo settle step keys keyOf leastOf costBelow absOf total startOf estimates roundedOf sumOf foldFrom pairsOf ofBits ofInt add sub mul div lt eq isNan
 worked-in-parts =
     record {
       begun = Taken;
@@ -76,20 +77,20 @@ pub end-after-end : LinkEndSays (holding idle) sevens nines (Refused 11) (holdin
 unfolding underWay hasEnded cameIn beginRefusal linkRefusal little bytesOf workOf
 end-after-end = record { job = record { answer = refl; output = refl; workspace = refl }; memory = refl }
 
--- RULES, Serial link: the numbers 1 and 16,401 are of a job that is under way, 0 and 16,402 of none
+-- RULES, Serial link: the numbers 1 and 20,497 are of a job that is under way, 0 and 20,498 of none
 abbrev numbered : ℕ → List ℕ
 numbered n = bytesOf 8 n ++ replicate linkRoom 0
 
-pub numbers-under-way : (hasEnded (numbered 0) ≡ true) × (hasEnded (numbered 1) ≡ false) × (hasEnded (numbered 16401) ≡ false) × (hasEnded (numbered 16402) ≡ true)
+pub numbers-under-way : (hasEnded (numbered 0) ≡ true) × (hasEnded (numbered 1) ≡ false) × (hasEnded (numbered 20497) ≡ false) × (hasEnded (numbered 20498) ≡ true)
 unfolding underWay hasEnded cameIn beginRefusal linkRefusal little bytesOf
 numbers-under-way = (refl, refl, refl, refl)
 
 -- RULES, Refusals: 6 for a link's memory goes before a damage, here of a job of no bytes
-pub end-in-short-memory : LinkEndSays (take 16407 (numbered 1)) sevens nines (Refused 6) (take 16407 (numbered 1)) sevens nines
+pub end-in-short-memory : LinkEndSays (take 20503 (numbered 1)) sevens nines (Refused 6) (take 20503 (numbered 1)) sevens nines
 unfolding underWay hasEnded cameIn beginRefusal linkRefusal little bytesOf workOf
 end-in-short-memory = record { job = record { answer = refl; output = refl; workspace = refl }; memory = refl }
 
--- RULES, Serial link: 16,407 bytes are too short, and 11 comes before 6
-pub one-byte-short : (linkBytes ≡ 16408) × (beginRefusal (take 16407 memory) ≡ 6) × (linkRefusal (take 16407 (numbered 1)) ≡ 6) × (linkRefusal (take 16407 (numbered 0)) ≡ 11) × (linkRefusal (numbered 1) ≡ 0)
+-- RULES, Serial link: 20,503 bytes are too short, and 11 comes before 6
+pub one-byte-short : (linkBytes ≡ 20504) × (beginRefusal (take 20503 memory) ≡ 6) × (linkRefusal (take 20503 (numbered 1)) ≡ 6) × (linkRefusal (take 20503 (numbered 0)) ≡ 11) × (linkRefusal (numbered 1) ≡ 0)
 unfolding underWay hasEnded cameIn beginRefusal linkRefusal little bytesOf
 one-byte-short = (refl, refl, refl, refl, refl)

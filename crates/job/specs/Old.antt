@@ -12,7 +12,7 @@ use Rattle.lists.specs.Answers.{Answer}
 use Rattle.duration.specs.Promise.{Says}
 use Rattle.job.specs.declared.finding.Found.{Found}
 use Rattle.job.specs.declared.finding.Found.the-variants.{Sound, Wrong}
-use Rattle.job.specs.Format.{mark, versionOf, version, countOf, lengthOf, jobOf}
+use Rattle.job.specs.Format.{mark, versionOf, isKnown, countOf, wholeOf, jobOf}
 use Rattle.job.specs.Damage.{damageNumber, oldNumber}
 use Rattle.job.specs.Promise.{jobFit, jobRefusal}
 
@@ -20,9 +20,9 @@ use Rattle.job.specs.Promise.{jobFit, jobRefusal}
 unfoldable pub formatRefusal : List ℕ → ℕ
 formatRefusal bytes =
     cond (not (startsWith mark bytes)) 9
-    (cond (not (eqb (versionOf bytes) version)) 9
+    (cond (not (isKnown (versionOf bytes))) 9
     (cond (ltb mostJobStates (countOf bytes)) 9
-    (cond (not (eqb (length bytes) (lengthOf (countOf bytes)))) 9 0)))
+    (cond (not (eqb (length bytes) (wholeOf bytes))) 9 0)))
 
 -- the number of what is found, 0 for nothing
 abbrev pub foundNumber : Found → ℕ

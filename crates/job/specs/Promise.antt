@@ -7,7 +7,7 @@ use Rattle.lists.specs.Totals.{total}
 use Rattle.steps.specs.Steps.{Outcome}
 use Rattle.duration.specs.Speed.{fitAt, refusalAt}
 use Rattle.lists.specs.Answers.{Answer, accepting, refusing, refusingAt, answerOf}
-use Rattle.duration.specs.Promise.{refusalOfLists, Answers}
+use Rattle.duration.specs.Promise.{earlyRefusal, Answers}
 use Rattle.job.specs.declared.finding.Found.{Found}
 use Rattle.job.specs.declared.finding.Found.the-variants.{Sound, Wrong}
 use Rattle.job.specs.declared.Answered.{Answered}
@@ -26,7 +26,7 @@ abbrev pub jobFit : Job → Outcome
 jobFit j = fitAt (jobStates j) (j .speed)
 
 abbrev pub jobRefusal : Job → List ℕ → List ℕ → ℕ
-jobRefusal j out work = orElse (refusalOfLists (length (j .means)) (length (j .varis)) (length out) (length work)) (refusalAt (jobStates j) (j .speed))
+jobRefusal j out work = orElse (earlyRefusal (jobStates j) out work) (refusalAt (jobStates j) (j .speed))
 
 -- RULES, Refusals: what is found wrong with a job comes before all others
 abbrev pub unlessFound : Found → Answer → Answer

@@ -2,7 +2,7 @@
 ghost use mathlib.Core.Path.{_≡_};
 ghost use Prim.Native.Nat.{_≤_};
 ghost use Rattle.lists.specs.Sizes.{mostJobStates};
-ghost use Rattle.job.specs.Format.{countOf};
+ghost use Rattle.job.specs.Format.{countOf, stateBytes};
 ghost use Rattle.job.specs.Damage.{elseFound, foundTo, markFound, wordFound, lengthFound, damageOf};
 use crate::Damage;
 
@@ -58,13 +58,25 @@ fn word_found(at: usize, least: u64, most: u64, damage: Damage, bytes: &[u8]) ->
     found_to(at + 2, bytes, Found::Sound)
 }
 
-// Of the length that the number of states asks for.
+// Bytes of a state. Behind the pair stands its shortest, but for version 1.
+pub fn state_bytes(version: u64) -> usize
+    ensures { λ r. ⌜ r ≡ stateBytes version ⌝ }
+{
+    if version == 1 {
+        return 16;
+    }
+    20
+}
+
+// Of the length that the version and the number of states ask for.
 fn length_found(bytes: &[u8]) -> Found
     requires { ⌜ countOf (now bytes) ≤ mostJobStates ⌝ }
     ensures { λ r. ⌜ r ≡ lengthFound (now (bytes .entry)) ⌝ }
 {
     let len = bytes.len();
-    let whole = 15 + 16 * lists::little_endian(bytes, 5, 2) as usize;
+    let version = lists::little_endian(bytes, 3, 2);
+    let count = lists::little_endian(bytes, 5, 2) as usize;
+    let whole = 15 + state_bytes(version) * count;
     if len == whole {
         return Found::Sound;
     }
@@ -76,7 +88,7 @@ pub fn damage_of(bytes: &[u8]) -> Found
     ensures { λ r. ⌜ r ≡ damageOf (now (bytes .entry)) ⌝ }
 {
     let mark = mark_found(bytes);
-    let version = word_found(3, 1, 1, Damage::Version, bytes);
+    let version = word_found(3, 1, 2, Damage::Version, bytes);
     let count = word_found(5, 0, 1024, Damage::Count, bytes);
     let heading = mark.or(version).or(count);
     let Found::Sound = heading else {

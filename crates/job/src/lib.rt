@@ -3,7 +3,7 @@ ghost use mathlib.Core.Path.{_≡_};
 ghost use Prim.Native.Nat.{_≤_};
 ghost use lib.ListN.{length};
 ghost use Rattle.lists.specs.Sizes.{mostJobStates};
-ghost use Rattle.job.specs.Format.{floatsAt, jobAt};
+ghost use Rattle.job.specs.Format.{floatsAt, numbersBehind, shortestAt, jobAt};
 ghost use Rattle.job.specs.declared.finding.Found.the-variants.{Sound};
 ghost use Rattle.job.specs.Damage.{damageOf, damageNumber, oldNumber};
 ghost use Rattle.job.specs.Inner.Reading.{StatesFitted};
@@ -59,30 +59,60 @@ pub fn old_number(number: u32) -> u32
     number
 }
 
-// Every other float from a place on.
-fn read_floats(bytes: &[u8], from: usize, into: &mut [f64])
-    requires { ⌜ (from ≤ 23) × (length (now into) ≤ mostJobStates) ⌝ }
-    ensures { λ _. ⌜ now (into .exit) ≡ floatsAt (now (bytes .entry)) from (length (now (into .entry))) ⌝ }
+// A float of each state, from the first one's place on.
+fn read_floats(bytes: &[u8], from: usize, step: usize, into: &mut [f64])
+    requires { ⌜ (from ≤ 23) × (step ≤ 20) × (length (now into) ≤ mostJobStates) ⌝ }
+    ensures { λ _. ⌜ now (into .exit) ≡ floatsAt (now (bytes .entry)) from step (length (now (into .entry))) ⌝ }
 {
     let mut i = 0;
     while i < into.len() {
-        into[i] = floats::of_bytes(bytes, from + 16 * i);
+        into[i] = floats::of_bytes(bytes, from + step * i);
         i += 1;
     }
 }
 
-// Fits n states, whose pairs stand in the bytes, to the speed that stands before them.
+// The shortest of each state of version 2.
+fn read_numbers(bytes: &[u8], into: &mut [u32])
+    requires { ⌜ length (now into) ≤ mostJobStates ⌝ }
+    ensures { λ _. ⌜ now (into .exit) ≡ numbersBehind (now (bytes .entry)) (length (now (into .entry))) ⌝ }
+{
+    let mut i = 0;
+    while i < into.len() {
+        into[i] = lists::little_u32(bytes, 31 + 20 * i);
+        i += 1;
+    }
+}
+
+// The shortest of each state. Version 1 has none, and each is 1.
+fn read_shortest(bytes: &[u8], version: u64, into: &mut [u32])
+    requires { ⌜ length (now into) ≤ mostJobStates ⌝ }
+    ensures { λ _. ⌜ now (into .exit) ≡ shortestAt version (now (bytes .entry)) (length (now (into .entry))) ⌝ }
+{
+    if version == 1 {
+        let n = into.len();
+        lists::fill_u32(into, n, 1);
+        return;
+    }
+    read_numbers(bytes, into);
+}
+
+// Fits n states, which stand in the bytes, to the speed that stands before them.
 fn fit_states(bytes: &[u8], n: usize, out: &mut [u32], work: &mut [u32]) -> Fitted
     requires { ⌜ n ≤ mostJobStates ⌝ }
     ensures { λ r. ⌜ StatesFitted (jobAt (now (bytes .entry)) n) (now (out .entry)) (now (work .entry)) r (now (out .exit)) (now (work .exit)) ⌝ }
 {
+    let version = lists::little_endian(bytes, 3, 2);
+    let step = finding::state_bytes(version);
     let mut means = [0.0; MOST_STATES];
     let mut varis = [0.0; MOST_STATES];
-    read_floats(bytes, 15, &mut means[..n]);
-    read_floats(bytes, 23, &mut varis[..n]);
+    let mut shortest = [0u32; MOST_STATES];
+    read_floats(bytes, 15, step, &mut means[..n]);
+    read_floats(bytes, 23, step, &mut varis[..n]);
+    read_shortest(bytes, version, &mut shortest[..n]);
     duration::create(
         &means[..n],
         &varis[..n],
+        &shortest[..n],
         floats::of_bytes(bytes, 7),
         out,
         work,

@@ -7,12 +7,12 @@ ghost use Rattle.job.specs.LinkPromise.{linkedNumber, LinkBeginSays, Lin
 use crate::Answered;
 
 // Bytes of a job that are kept, one more than the largest has; and bytes of a link's memory, with the number in front.
-pub const ROOM: usize = 16_400;
+pub const ROOM: usize = 20_496;
 
-pub const BYTES: usize = 16_408;
+pub const BYTES: usize = 20_504;
 
 // The number where there is no room left.
-const FULL: u64 = 16_401;
+const FULL: u64 = 20_497;
 
 // Whether a link took what it was given, or the number of why not.
 pub enum Linked {

@@ -3,12 +3,15 @@ use mathlib.Core.Path.{_≡_, refl, sym, ap, _∙_}
 use mathlib.Core.List.{List, [], _∷_, _++_, map, map-append}
 use mathlib.Core.Logic.{⊎-elim}
 use Prim.Native.Nat.{ℕ, zero, suc, _+_, _-_, _<_, _≤_}
+use native.Mathlib.Numerals.{add-one}
 use native.Mathlib.Omega.{arith}
 use lib.ListN.{length, getD, drop, length-append, length-drop, List·getD-append}
 use lib.Seq.{ext-getD, getD-at, getD-append-add, getD-drop}
 use Rattle.lists.specs.Build.{build, foldFrom}
+use Rattle.lists.specs.Totals.{total}
 use Rattle.lists.proofs.Fills.{build-length}
 use Rattle.lists.proofs.Numbers.{le-or-lt}
+use Rattle.lists.proofs.Sums.{total-append}
 
 module _ {A : Type 0} (f : ℕ → A) where
   pub build-at : (n j : ℕ) (z : A) → j < n → getD (build f n) j z ≡ f j
@@ -46,6 +49,11 @@ module _ {A : Type 0} where
   unfolding build
   build-first f zero = refl
   build-first f (suc n) = ap (λ (l : List A). l ++ (f (suc n) ∷ [])) (build-first f n)
+
+-- one number more
+pub total-built : (f : ℕ → ℕ) (n : ℕ) → total (build f (n + 1)) ≡ total (build f n) + f n
+unfolding build total
+total-built f n = rw add-one (total-append (build f n) (f n ∷ []) ∙ (let z : total (build f n) + (f n + 0) ≡ total (build f n) + f n = omega arith in z))
 
 -- what g makes of the elements
 pub map-build : {A B : Type 0} (g : A → B) (f : ℕ → A) (n : ℕ) → map g (build f n) ≡ build (λ i. g (f i)) n

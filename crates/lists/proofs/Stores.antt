@@ -7,7 +7,7 @@ use native.Mathlib.Nat.{add-zero, add-suc, suc-add}
 use native.Mathlib.Numerals.{add-one}
 use native.Mathlib.Omega.{arith}
 use lib.ListN.{length, take, drop, getD, set, replicate, length-append, length-take, length-drop, length-replicate, length-set, getD-replicate, take-append-drop, drop-of-length-le}
-use lib.Seq.{sets, length-sets, sets-eq, set-out, take-suc, take-all, take-at, take-length, length-take-le, getD-take, drop-append-add, drop-drop}
+use lib.Seq.{sets, length-sets, sets-eq, set-out, take-suc, take-all, take-at, take-length, length-take-le, getD-take, drop-append-add, drop-cons, drop-drop, getD-at}
 use Rattle.lists.proofs.Numbers.{le-or-lt}
 
 module _ {A : Type 0} where
@@ -92,6 +92,14 @@ module _ {A : Type 0} where
 
     pub storing-done : end ≤ i → s ≡ sets d 0 xs
     storing-done h = let o : length d - 0 ≡ length d = omega arith in store-done xs d s 0 i (rw o (omega arith)) (k .so-far)
+
+  -- what is not stored yet is as it was
+  pub storing-read : (xs d s : List A) (end i : ℕ) (z : A) → end ≤ length xs → i < end → i < length d → Storing xs d s end i → getD s i z ≡ getD d i z
+  storing-read xs d s end i z f h l k =
+      let n : length (take i xs) ≡ i = length-take-le i xs (omega arith) in
+      let room : 0 + length (take i xs) ≤ length d = omega arith in
+      let o : 0 + length (take i xs) ≡ i = omega arith in
+      ap (λ (w : List A). getD w i z) (k .so-far ∙ sets-eq (take i xs) d 0 room) ∙ rw (o, drop-cons d i z l, getD-at (take i xs) (getD d i z) (drop (suc i) d) z i n)
 
   -- the same number n times
   module _ (n : ℕ) (v : A) (d s : List A) (end i : ℕ) (e : end ≡ min n (length d)) (k : Storing (replicate n v) d s end i) where

@@ -1,4 +1,4 @@
-// Alignments.
+// Alignments, with every shortest duration 1.
 use crate::case;
 use duration::Aligned;
 use replay::OUT;
@@ -11,9 +11,19 @@ pub fn agrees(head: &[u32], durations: &[u32], floats: &[f64]) -> bool {
     let varis = lists::part_f64(floats, states, states);
     let nstate = case::number(head, 2);
     let ends = lists::part_f64(floats, 2 * states, case::count(head, 3));
+    let ones = [1u32; 20];
+    let shortest = replay::part_u32(&ones, 0, states);
     let mut out = [OUT; 20];
     let mut work = [WORK; 20];
-    let answer = duration::create_with_alignment(means, varis, nstate, ends, &mut out, &mut work);
+    let answer = duration::create_with_alignment(
+        means,
+        varis,
+        shortest,
+        nstate,
+        ends,
+        &mut out,
+        &mut work,
+    );
     let Aligned::Done(written, changes) = answer else {
         return false;
     };

@@ -1,87 +1,99 @@
 -- The call's door, what lies behind it, and what a caller learns of its outcome.
-use mathlib.Core.Path.{_≡_, refl, sym, _∙_}
-use mathlib.Core.Bool.{Bool, true, false, not, and-eq-true-iff}
+use mathlib.Core.Path.{_≡_, refl, sym, ap, _∙_}
+use mathlib.Core.Bool.{Bool, true, false, not, _&&_, and-eq-true-iff}
 use mathlib.Core.List.{List}
-use Prim.Native.Nat.{ℕ, _^_, _≤_, _<_}
+use Prim.Native.Nat.{ℕ, _≤_, _<_}
 use native.Mathlib.Omega.{arith}
-use lib.ListN.{length, take}
+use lib.ListN.{length}
 use lib.Ieee.{Float}
 use borrow.Author.Tests.{ltb-true, ltb-false, leb-true, eqb-true, lt-ltb, le-ltb, le-leb, eq-eqb, not-true, not-false}
 use Rattle.lists.specs.Sizes.{mostStates, mostFrames}
 use Rattle.lists.specs.Totals.{total}
-use Rattle.lists.proofs.Sums.{total-whole}
 use Rattle.steps.specs.declared.Settled.{Settled}
 use Rattle.steps.specs.declared.Settled.the-variants.{Done, Over}
-use Rattle.steps.specs.Steps.{States, size, Outcome, settle}
-use Rattle.steps.specs.Promise.{opens, tooLong, SettleSays}
+use Rattle.steps.specs.Steps.{States, size, least, Outcome, settle}
+use Rattle.steps.specs.Promise.{fitTogether, inReach, opens, tooLong, SettleSays}
 use Rattle.steps.specs.Inner.Asked.{Ready, Aim}
 
-pub record Opened (n v d t : ℕ) : Type 0 where
+pub record Together (n v l d : ℕ) : Type 0 where
   pub some : 0 < n
   pub few : n ≤ mostStates
   pub varis : v ≡ n
+  pub shortest : l ≡ n
   pub work : d ≡ n
-  pub above : n < t
-  pub within : t ≤ mostFrames
 
-opened : (n v d t : ℕ) → opens n v d t ≡ true → Opened n v d t
-opened n v d t e =
-    let f = and-eq-true-iff _ _ .0 e in
-    let a = and-eq-true-iff _ _ .0 (f .0) in
-    let w = and-eq-true-iff _ _ .0 (a .0) in
-    let u = and-eq-true-iff _ _ .0 (w .0) in
-    let s = and-eq-true-iff _ _ .0 (u .0) in
+together : (n v l d : ℕ) → fitTogether n v l d ≡ true → Together n v l d
+together n v l d e =
+    let w = and-eq-true-iff _ _ .0 e in
+    let s = and-eq-true-iff _ _ .0 (w .0) in
+    let u = and-eq-true-iff _ _ .0 (s .0) in
+    let f = and-eq-true-iff _ _ .0 (u .0) in
     record {
-      some = ltb-true 0 n (s .0);
-      few = leb-true n mostStates (s .1);
+      some = ltb-true 0 n (f .0);
+      few = leb-true n mostStates (f .1);
       varis = eqb-true v n (u .1);
+      shortest = eqb-true l n (s .1);
       work = eqb-true d n (w .1);
-      above = ltb-true n t (a .1);
-      within = leb-true t mostFrames (f .1);
     }
 
--- it stands open for lists that agree
-pub stands-open : (n v d t : ℕ) → Opened n v d t → opens n v d t ≡ true
-stands-open n v d t o = rw (lt-ltb 0 n (o .some), le-leb n mostStates (o .few), eq-eqb v n (o .varis), eq-eqb d n (o .work), lt-ltb n t (o .above), le-leb t mostFrames (o .within))
+-- as it is found
+pub lists-fit : (n v l d : ℕ) (b : Bool) → b ≡ fitTogether n v l d → not b ≡ false → Together n v l d
+lists-fit n v l d b e h = together n v l d (sym e ∙ not-false b h)
+
+fit-together : (n v l d : ℕ) → Together n v l d → fitTogether n v l d ≡ true
+fit-together n v l d o = rw (lt-ltb 0 n (o .some), le-leb n mostStates (o .few), eq-eqb v n (o .varis), eq-eqb l n (o .shortest), eq-eqb d n (o .work))
+
+in-reach : (sum t : ℕ) → inReach sum t ≡ true → (sum < t) × (t ≤ mostFrames)
+in-reach sum t e = let r = and-eq-true-iff _ _ .0 e in (ltb-true sum t (r .0), leb-true t mostFrames (r .1))
+
+-- it stands open for lists that agree, and a target that is not too low and not too high
+pub stands-open : (ss : States) (ds : List ℕ) (t : ℕ) → Together (size ss) (length (ss .varis)) (length (ss .shortest)) (length ds) → least ss < t → t ≤ mostFrames → opens ss ds t ≡ true
+stands-open ss ds t o a b = rw (fit-together _ _ _ _ o, lt-ltb (least ss) t a, le-leb t mostFrames b)
 
 outcome-is : (o : Outcome) (k : ℕ) (es : List ℕ) → Done k ≡ Done (o .changes) → es ≡ o .durations → o ≡ record { durations = es; changes = k }
 outcome-is o k es e f = let n : k ≡ o .changes = cc in rw (n, f)
 
 module _ (rho : Float) (t : ℕ) (ss : States) (ds : List ℕ) where
   abbrev Open : Type 0
-  Open = opens (size ss) (length (ss .varis)) (length ds) t ≡ true
+  Open = opens ss ds t ≡ true
 
   -- ---- the ways through the call
 
-  pub settles-none : (b : Bool) → b ≡ opens (size ss) (length (ss .varis)) (length ds) t → not b ≡ true → SettleSays rho t ss ds (Done 0) ds
-  settles-none b e h = let o : opens (size ss) (length (ss .varis)) (length ds) t ≡ false = sym e ∙ not-true b h in record { answer = rw o; durations = rw o }
+  shut : opens ss ds t ≡ false → SettleSays rho t ss ds (Done 0) ds
+  shut o = record { answer = rw o; durations = rw o }
 
-  -- the door is open, and the total is taken
-  module _ (b : Bool) (e : b ≡ opens (size ss) (length (ss .varis)) (length ds) t) (h : not b ≡ false) (sum : ℕ) (q : sum ≡ total (take (2 ^ 32) ds)) where
-    is-open : Open
-    is-open = sym e ∙ not-false b h
+  module _ (b : Bool) (e : b ≡ fitTogether (size ss) (length (ss .varis)) (length (ss .shortest)) (length ds)) where
+    pub settles-none : not b ≡ true → SettleSays rho t ss ds (Done 0) ds
+    settles-none h = shut (ap (λ (c : Bool). c && inReach (least ss) t) (sym e ∙ not-true b h))
 
-    behind : Opened (size ss) (length (ss .varis)) (length ds) t
-    behind = opened (size ss) (length (ss .varis)) (length ds) t is-open
+    -- the lists fit together, and their totals are taken
+    module _ (h : not b ≡ false) where
+      fit : Together (size ss) (length (ss .varis)) (length (ss .shortest)) (length ds)
+      fit = lists-fit _ _ _ _ b e h
 
-    sum-is : sum ≡ total ds
-    sum-is = q ∙ total-whole ds (omega (arith, behind .few, behind .work))
+      module _ (low sum : ℕ) (p : low ≡ least ss) (q : sum ≡ total ds) (c : Bool) (r : c ≡ inReach low t) where
+        pub settles-low : not c ≡ true → SettleSays rho t ss ds (Done 0) ds
+        settles-low g = shut (rw (sym e ∙ not-false b h, ← p, ← r, not-true c g))
 
-    pub settles-over : mostFrames < sum → SettleSays rho t ss ds Over ds
-    settles-over l = let long : tooLong ds ≡ true = lt-ltb mostFrames (total ds) (omega (arith, sum-is)) in record { answer = rw (is-open, long); durations = rw (is-open, long) }
+        module _ (g : not c ≡ false) where
+          reached : (low < t) × (t ≤ mostFrames)
+          reached = in-reach low t (sym r ∙ not-false c g)
 
-    module _ (l : sum ≤ mostFrames) where
-      small : total ds ≤ mostFrames
-      small = omega (arith, sum-is)
+          is-open : Open
+          is-open = stands-open ss ds t fit (rw (← p) (reached .0)) (reached .1)
 
-      pub ready : Ready ss ds
-      ready = record { some = behind .some; few = behind .few; varis = behind .varis; work = behind .work; small = small }
+          pub settles-over : mostFrames < sum → SettleSays rho t ss ds Over ds
+          settles-over l = let long : tooLong ds ≡ true = lt-ltb mostFrames (total ds) (omega arith) in record { answer = rw (is-open, long); durations = rw (is-open, long) }
 
-      pub aimed : Aim ss ds sum t
-      aimed = record { known = sum-is; above = behind .above; within = behind .within }
+          module _ (l : sum ≤ mostFrames) where
+            pub ready : Ready ss ds
+            ready = record { some = fit .some; few = fit .few; varis = fit .varis; shortest = fit .shortest; work = fit .work; small = omega arith }
 
-      pub settles-all : (k : ℕ) (es : List ℕ) → settle mostFrames rho ss t ds ≡ record { durations = es; changes = k } → SettleSays rho t ss ds (Done k) es
-      settles-all k es f = let short : tooLong ds ≡ false = le-ltb mostFrames (total ds) small in record { answer = rw (is-open, short, f); durations = rw (is-open, short, f) }
+            pub aimed : Aim ss ds sum t
+            aimed = record { known = q; above = rw (← p) (reached .0); within = reached .1 }
+
+            pub settles-all : (k : ℕ) (es : List ℕ) → settle mostFrames rho ss t ds ≡ record { durations = es; changes = k } → SettleSays rho t ss ds (Done k) es
+            settles-all k es f = let short : tooLong ds ≡ false = le-ltb mostFrames (total ds) (omega arith) in record { answer = rw (is-open, short, f); durations = rw (is-open, short, f) }
 
   -- ---- what a caller learns, whose lists fit
 

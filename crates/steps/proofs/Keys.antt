@@ -1,5 +1,5 @@
--- The keys of the states, and that on the way down the least one's state is above 1.
-use mathlib.Core.Path.{_≡_, refl, sym, ap, subst}
+-- The keys of the states, and that on the way down the least one's state is above its shortest.
+use mathlib.Core.Path.{_≡_, refl, sym, ap, _∙_, subst}
 use mathlib.Core.Bool.{Bool, true, false, cond}
 use mathlib.Core.List.{List, [], _∷_}
 use mathlib.Core.Logic.{⊎-elim}
@@ -17,7 +17,7 @@ use Rattle.lists.proofs.Builds.{build-at}
 use Rattle.lists.proofs.Fills.{build-length}
 use Rattle.lists.proofs.Numbers.{le-or-lt}
 use Rattle.floats.proofs.Ordered.{abs-fits, abs-clear}
-use Rattle.steps.specs.Steps.{shortest, State, States, size, stateAt, Key, costOf, keyOf, keys, sooner, leastOf}
+use Rattle.steps.specs.Steps.{State, States, size, least, stateAt, Key, costOf, keyOf, keys, sooner, leastOf}
 use Rattle.steps.specs.Steps.Key.{Fixed, Cost}
 use Rattle.steps.specs.Inner.Scores.{rank, keyAt, scores}
 use Rattle.steps.proofs.Order.{clash, Sound}
@@ -28,7 +28,7 @@ key-sound : (up : Bool) (rho : Float) (x : State) (d : ℕ) → Sound (keyOf up 
 unfolding keyOf
 key-sound true rho x d = cost (abs-fits _ (sub-fits binary64 rho _)) (abs-clear _)
 key-sound false rho x d =
-    elim (ltb shortest d) as (λ s. Sound (cond s (Cost (costOf rho x (d - 1))) Fixed)) [
+    elim (ltb (x .shortest) d) as (λ s. Sound (cond s (Cost (costOf rho (x .mean) (x .vari) (d - 1))) Fixed)) [
       | true ↦ cost (abs-fits _ (sub-fits binary64 rho _)) (abs-clear _)
       | false ↦ fixed
     ]
@@ -80,31 +80,33 @@ least-moves (x ∷ xs) j t =
     ])
     refl
 
--- a total above the count has a state above 1
-record Long (ds : List ℕ) : Type 0 where
+-- a total above that of other numbers has one above its own
+record Long (ls ds : List ℕ) : Type 0 where
   place : ℕ
   inside : place < length ds
-  long : 1 < getD ds place 0
+  long : getD ls place 0 < getD ds place 0
 
-some-long : (ds : List ℕ) → length ds < total ds → Long ds
+some-long : (ls ds : List ℕ) → length ls ≡ length ds → total ls < total ds → Long ls ds
 unfolding total
-some-long [] h = absurd (not-suc-le-zero h)
-some-long (d ∷ ds) h =
-    (elim (ltb 1 d) as (λ s. ltb 1 d ≡ s → Long (d ∷ ds)) [
-      | true ↦ λ g. record { place = 0; inside = omega arith; long = ltb-true 1 d g }
-      | false ↦ λ g. let l = some-long ds (omega (arith, ltb-false 1 d g)) in record { place = suc (l .place); inside = suc-le-suc (l .inside); long = l .long }
+some-long [] [] q h = absurd (not-suc-le-zero h)
+some-long [] (d ∷ ds) q h = absurd (omega arith)
+some-long (l ∷ ls) [] q h = absurd (omega arith)
+some-long (l ∷ ls) (d ∷ ds) q h =
+    (elim (ltb l d) as (λ s. ltb l d ≡ s → Long (l ∷ ls) (d ∷ ds)) [
+      | true ↦ λ g. record { place = 0; inside = omega arith; long = ltb-true l d g }
+      | false ↦ λ g. let o = some-long ls ds (omega arith) (omega (arith, ltb-false l d g)) in record { place = suc (o .place); inside = suc-le-suc (o .inside); long = o .long }
     ])
     refl
 
-key-moves : (rho : Float) (x : State) (d : ℕ) → 1 < d → T (movable (keyOf false rho x d))
+key-moves : (rho : Float) (x : State) (d : ℕ) → x .shortest < d → T (movable (keyOf false rho x d))
 unfolding keyOf movable
-key-moves rho x d h = rw (lt-ltb 1 d h) tt
+key-moves rho x d h = rw (lt-ltb (x .shortest) d h) tt
 
-moves-long : (rho : Float) (x : State) (d : ℕ) → T (movable (keyOf false rho x d)) → 1 < d
+moves-long : (rho : Float) (x : State) (d : ℕ) → T (movable (keyOf false rho x d)) → x .shortest < d
 unfolding keyOf movable
 moves-long rho x d =
-    (elim (ltb 1 d) as (λ s. ltb 1 d ≡ s → T (movable (cond s (Cost (costOf rho x (d - 1))) Fixed)) → 1 < d) [
-      | true ↦ λ g t. ltb-true 1 d g
+    (elim (ltb (x .shortest) d) as (λ s. ltb (x .shortest) d ≡ s → T (movable (cond s (Cost (costOf rho (x .mean) (x .vari) (d - 1))) Fixed)) → x .shortest < d) [
+      | true ↦ λ g t. ltb-true (x .shortest) d g
       | false ↦ λ g t. absurd t
     ])
     refl
@@ -114,12 +116,12 @@ module _ (rho : Float) (ss : States) (ds : List ℕ) where
   place-in up z = let n : length (keys up rho ss ds) ≡ size ss = length-keys up rho ss ds in subst (λ (n : ℕ). leastOf (keys up rho ss ds) < n) n (least-in (keys up rho ss ds) (omega arith))
 
   -- the state that gives a frame has one to give
-  pub place-long : length ds ≡ size ss → size ss < total ds → 1 < getD ds (leastOf (keys false rho ss ds)) 0
+  pub place-long : length (ss .shortest) ≡ size ss → length ds ≡ size ss → least ss < total ds → getD (ss .shortest) (leastOf (keys false rho ss ds)) 0 < getD ds (leastOf (keys false rho ss ds)) 0
   unfolding movable
-  place-long q h =
+  place-long e q h =
       let ks : List Key = keys false rho ss ds in
       let i : ℕ = leastOf ks in
-      let l = some-long ds (omega arith) in
+      let l = some-long (ss .shortest) ds (e ∙ sym q) h in
       let z : 0 < size ss = omega (arith, l .inside) in
       let t : T (movable (leastKey ks)) = least-moves ks (l .place) (subst (λ (k : Key). T (movable k)) (getD-keys false rho ss ds (l .place) (omega (arith, l .inside))) (key-moves rho _ _ (l .long))) in
       moves-long rho (stateAt ss i) (getD ds i 0) (subst (λ (k : Key). T (movable k)) (sym (getD-keys false rho ss ds i (place-in false z))) t)

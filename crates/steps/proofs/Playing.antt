@@ -12,7 +12,7 @@ use Rattle.lists.specs.Sizes.{mostFrames, mostStates}
 use Rattle.lists.specs.Totals.{total}
 use Rattle.lists.proofs.Sums.{getD-le-total}
 use Rattle.steps.specs.declared.costs.Entry.{Entry}
-use Rattle.steps.specs.Steps.{States, size, moved, keys, leastOf, step, settle}
+use Rattle.steps.specs.Steps.{States, size, least, moved, keys, leastOf, step, settle}
 use Rattle.steps.specs.Inner.Scores.{keyAt, scores, keyed, soonerOf}
 use Rattle.steps.specs.Inner.Tree.{node, Kept, Path}
 use Rattle.steps.specs.Inner.Pack.{width, lows, highs}
@@ -147,7 +147,7 @@ moved-small : (up : Bool) (ds : List ℕ) (p n : ℕ) → total ds ≤ mostFrame
 moved-small true ds p n h r = omega (arith, getD-le-total ds p)
 moved-small false ds p n h r = omega (arith, getD-le-total ds p)
 
-module _ (up : Bool) (rho : Float) (ss : States) (w : List ℕ) (r : Ready ss (lows w)) (room : RoomFor up (size ss) (total (lows w))) (k : Standing up rho ss w) (p : ℕ) (at : p ≡ node (highs w) 1) where
+module _ (up : Bool) (rho : Float) (ss : States) (w : List ℕ) (r : Ready ss (lows w)) (room : RoomFor up (least ss) (total (lows w))) (k : Standing up rho ss w) (p : ℕ) (at : p ≡ node (highs w) 1) where
   wide : length (highs w) ≡ size ss
   wide = length-highs w ∙ sized ss w r
 
@@ -170,7 +170,7 @@ module _ (up : Bool) (rho : Float) (ss : States) (w : List ℕ) (r : Ready ss (l
 
     module _ (m : ℕ) (s : m ≡ moved up d) where
       pub root-small : m < width
-      root-small = let h : moved up (getD (lows w) p 0) ≤ mostFrames = moved-small up (lows w) p (size ss) (r .small) room in let e : m ≡ moved up (getD (lows w) p 0) = s ∙ ap (moved up) q in omega arith
+      root-small = let h : moved up (getD (lows w) p 0) ≤ mostFrames = moved-small up (lows w) p (least ss) (r .small) room in let e : m ≡ moved up (getD (lows w) p 0) = s ∙ ap (moved up) q in omega arith
 
       module _ (w′ : List ℕ) (t : PutsDuration w p m w′) where
         stepped : lows w′ ≡ step up rho ss (lows w)

@@ -2,7 +2,7 @@
 use mathlib.Core.Path.{_≡_, refl, ap, _∙_}
 use mathlib.Core.Bool.{Bool, true, false}
 use mathlib.Core.List.{List, [], _∷_}
-use Prim.Native.Nat.{ℕ, zero, suc, _+_, _-_, _≤_, _<_}
+use Prim.Native.Nat.{ℕ, zero, suc, _+_, _-_, _≤_, _<_, zero-le}
 use native.Mathlib.Nat.{le-refl, le-trans}
 use native.Mathlib.Omega.{arith}
 use lib.Dec.{ltb, eqb}
@@ -10,7 +10,7 @@ use lib.ListN.{length, getD, set}
 use lib.Ieee.{Float}
 use borrow.Author.Tests.{ltb-true, ltb-false, eqb-true, eqb-false}
 use Rattle.lists.specs.Totals.{total, gap}
-use Rattle.steps.specs.Steps.{States, size, keys, leastOf, step, Settles, Outcome, settle}
+use Rattle.steps.specs.Steps.{States, size, least, keys, leastOf, step, Settles, Outcome, settle}
 use Rattle.steps.specs.Steps.Settles.{there, below, above}
 use Rattle.steps.proofs.Keys.{place-long}
 use Rattle.steps.proofs.Stepping.{length-step, total-up, total-down, settle-there, settle-turn}
@@ -21,7 +21,7 @@ pub data Pointwise : List ℕ → List ℕ → Type 0 where
   nil : Pointwise [] []
   cons : {x y : ℕ} {xs ys : List ℕ} → x ≤ y → Pointwise xs ys → Pointwise (x ∷ xs) (y ∷ ys)
 
-same : (xs : List ℕ) → Pointwise xs xs
+pub same : (xs : List ℕ) → Pointwise xs xs
 same [] = nil
 same (x ∷ xs) = cons (le-refl x) (same xs)
 
@@ -39,16 +39,22 @@ set-shorter [] i = nil
 set-shorter (d ∷ ds) zero = cons {x = d - 1} {y = d} (omega arith) (same ds)
 set-shorter (d ∷ ds) (suc i) = cons (le-refl d) (set-shorter ds i)
 
--- ---- at least 1
+pub pointwise-at : {xs ys : List ℕ} → Pointwise xs ys → (i : ℕ) → getD xs i 0 ≤ getD ys i 0
+pointwise-at nil i = zero-le
+pointwise-at (cons h p) zero = h
+pointwise-at (cons h p) (suc i) = pointwise-at p i
 
-pub data Positive : List ℕ → Type 0 where
-  none : Positive []
-  more : {x : ℕ} {xs : List ℕ} → 1 ≤ x → Positive xs → Positive (x ∷ xs)
+-- and place by place
+pub pointwise-of : (xs ys : List ℕ) → length xs ≡ length ys → ((i : ℕ) → i < length xs → getD xs i 0 ≤ getD ys i 0) → Pointwise xs ys
+pointwise-of [] [] e h = nil
+pointwise-of [] (y ∷ ys) e h = absurd (omega arith)
+pointwise-of (x ∷ xs) [] e h = absurd (omega arith)
+pointwise-of (x ∷ xs) (y ∷ ys) e h = cons (h 0 (omega arith)) (pointwise-of xs ys (omega arith) (λ i l. h (suc i) (omega arith)))
 
-positive-set : {xs : List ℕ} → Positive xs → (i y : ℕ) → 1 ≤ y → Positive (set xs i y)
-positive-set none i y h = none
-positive-set (more p ps) zero y h = more h ps
-positive-set (more p ps) (suc i) y h = more p (positive-set ps i y h)
+pointwise-set : {xs ys : List ℕ} → Pointwise xs ys → (i y : ℕ) → getD xs i 0 ≤ y → Pointwise xs (set ys i y)
+pointwise-set nil i y h = nil
+pointwise-set (cons g p) zero y h = cons h p
+pointwise-set (cons g p) (suc i) y h = cons g (pointwise-set p i y h)
 
 -- ---- the rule
 
@@ -76,13 +82,13 @@ module _ (rho : Float) (ss : States) (t : ℕ) where
   settles-length (below {ds = ds} h s) = settles-length s ∙ length-step rho ss true ds
   settles-length (above {ds = ds} h s) = settles-length s ∙ length-step rho ss false ds
 
-  module _ (some : 0 < size ss) (room : size ss ≤ t) where
+  module _ (some : 0 < size ss) (agree : length (ss .shortest) ≡ size ss) (room : least ss ≤ t) where
     -- each step brings the total one nearer
     risen : (ds : List ℕ) → length ds ≡ size ss → total (step true rho ss ds) ≡ total ds + 1
     risen ds q = total-up rho ss some ds q
 
     fallen : (ds : List ℕ) → length ds ≡ size ss → t < total ds → total (step false rho ss ds) + 1 ≡ total ds
-    fallen ds q h = total-down rho ss some ds q (omega arith)
+    fallen ds q h = total-down rho ss some ds q agree (omega arith)
 
     stepped : (up : Bool) (ds : List ℕ) → length ds ≡ size ss → length (step up rho ss ds) ≡ size ss
     stepped up ds q = length-step rho ss up ds ∙ q
@@ -106,14 +112,17 @@ module _ (rho : Float) (ss : States) (t : ℕ) where
     settles-down q l (below h s) = absurd (omega arith)
     settles-down q l (above {ds = ds} h s) = through (settles-down (stepped false ds q) (omega (arith, fallen ds q h)) s) (set-shorter ds (leastOf (keys false rho ss ds)))
 
-    pub settles-positive : {ds es : List ℕ} {k : ℕ} → length ds ≡ size ss → Positive ds → Settles rho ss t ds es k → Positive es
+    -- no state falls below its shortest
+    pub settles-above : {ds es : List ℕ} {k : ℕ} → length ds ≡ size ss → Pointwise (ss .shortest) ds → Settles rho ss t ds es k → Pointwise (ss .shortest) es
     unfolding step
-    settles-positive q p (there e) = p
-    settles-positive q p (below {ds = ds} h s) = settles-positive (stepped true ds q) (positive-set p _ _ (omega arith)) s
-    settles-positive q p (above {ds = ds} h s) =
+    settles-above q p (there e) = p
+    settles-above q p (below {ds = ds} h s) =
+        let i : ℕ = leastOf (keys true rho ss ds) in
+        settles-above (stepped true ds q) (pointwise-set p i _ (omega (arith, pointwise-at p i))) s
+    settles-above q p (above {ds = ds} h s) =
         let i : ℕ = leastOf (keys false rho ss ds) in
-        let l : 1 < getD ds i 0 = place-long rho ss ds q (omega arith) in
-        settles-positive (stepped false ds q) (positive-set p i _ (omega arith)) s
+        let l : getD (ss .shortest) i 0 < getD ds i 0 = place-long rho ss ds agree q (omega arith) in
+        settles-above (stepped false ds q) (pointwise-set p i _ (omega arith)) s
 
     -- the computation ends there, however many steps more it is given
     pub settle-settles : (most : ℕ) (ds : List ℕ) → length ds ≡ size ss → gap (total ds) t ≤ most → Settles rho ss t ds (settle most rho ss t ds .durations) (settle most rho ss t ds .changes)

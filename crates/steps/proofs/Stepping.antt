@@ -11,7 +11,7 @@ use borrow.Author.Tests.{ltb-true, ltb-false, lt-ltb, le-ltb, eqb-true, eqb-fals
 use Rattle.lists.specs.Sizes.{mostFrames}
 use Rattle.lists.specs.Totals.{total, gap}
 use Rattle.lists.proofs.Sums.{getD-le-total, total-set}
-use Rattle.steps.specs.Steps.{States, size, moved, keys, leastOf, step, Outcome, unchanged, onceMore, settle}
+use Rattle.steps.specs.Steps.{States, size, least, moved, keys, leastOf, step, Outcome, unchanged, onceMore, settle}
 use Rattle.steps.specs.Inner.Asked.{Ready, RoomFor, MayMove, Aim}
 use Rattle.steps.proofs.Keys.{place-in, place-long}
 
@@ -32,11 +32,11 @@ module _ (rho : Float) (ss : States) where
         let i : ℕ = leastOf (keys true rho ss ds) in
         omega (arith, total-set ds i (getD ds i 0 + 1) (step-in true))
 
-    pub total-down : size ss < total ds → total (step false rho ss ds) + 1 ≡ total ds
+    pub total-down : length (ss .shortest) ≡ size ss → least ss < total ds → total (step false rho ss ds) + 1 ≡ total ds
     unfolding step
-    total-down h =
+    total-down e h =
         let i : ℕ = leastOf (keys false rho ss ds) in
-        omega (arith, total-set ds i (getD ds i 0 - 1) (step-in false), place-long rho ss ds q h)
+        omega (arith, total-set ds i (getD ds i 0 - 1) (step-in false), place-long rho ss ds e q h)
 
 -- a step at the place i that was found
 module _ (up : Bool) (rho : Float) (ss : States) (ds : List ℕ) (r : Ready ss ds) (i : ℕ) (at : i ≡ leastOf (keys up rho ss ds)) where
@@ -47,14 +47,14 @@ module _ (up : Bool) (rho : Float) (ss : States) (ds : List ℕ) (r : Ready ss d
   unfolding step
   found-step x e = rw (e, at)
 
-pub found-may : (up : Bool) (rho : Float) (ss : States) (ds : List ℕ) → Ready ss ds → (i : ℕ) → i ≡ leastOf (keys up rho ss ds) → RoomFor up (size ss) (total ds) → MayMove up (getD ds i 0)
+pub found-may : (up : Bool) (rho : Float) (ss : States) (ds : List ℕ) → Ready ss ds → (i : ℕ) → i ≡ leastOf (keys up rho ss ds) → RoomFor up (least ss) (total ds) → MayMove up (getD ds i 0)
 found-may true rho ss ds r i at h = omega (arith, getD-le-total ds i, r .small)
-found-may false rho ss ds r i at h = let k : 1 < getD ds i 0 = rw at (place-long rho ss ds (r .work) h) in omega arith
+found-may false rho ss ds r i at h = let k : getD (ss .shortest) i 0 < getD ds i 0 = rw at (place-long rho ss ds (r .shortest) (r .work) h) in omega arith
 
 -- the durations are ready for the next
-pub step-ready : (rho : Float) (ss : States) (up : Bool) (ds : List ℕ) → Ready ss ds → RoomFor up (size ss) (total ds) → Ready ss (step up rho ss ds)
-step-ready rho ss true ds r h = record { some = r .some; few = r .few; varis = r .varis; work = length-step rho ss true ds ∙ r .work; small = omega (arith, total-up rho ss (r .some) ds (r .work)) }
-step-ready rho ss false ds r h = record { some = r .some; few = r .few; varis = r .varis; work = length-step rho ss false ds ∙ r .work; small = omega (arith, r .small, total-down rho ss (r .some) ds (r .work) h) }
+pub step-ready : (rho : Float) (ss : States) (up : Bool) (ds : List ℕ) → Ready ss ds → RoomFor up (least ss) (total ds) → Ready ss (step up rho ss ds)
+step-ready rho ss true ds r h = record { some = r .some; few = r .few; varis = r .varis; shortest = r .shortest; work = length-step rho ss true ds ∙ r .work; small = omega (arith, total-up rho ss (r .some) ds (r .work)) }
+step-ready rho ss false ds r h = record { some = r .some; few = r .few; varis = r .varis; shortest = r .shortest; work = length-step rho ss false ds ∙ r .work; small = omega (arith, r .small, total-down rho ss (r .some) ds (r .work) (r .shortest) h) }
 
 -- ---- the rule, a turn at a time
 
@@ -119,7 +119,7 @@ module _ (rho : Float) (ss : States) (t : ℕ) (start : List ℕ) where
       }
 
   module _ (ds : List ℕ) (sum changes : ℕ) (d : sum ≡ t → ⊥) where
-    pub going-room : (up : Bool) → Going up ds sum changes → RoomFor up (size ss) (total ds)
+    pub going-room : (up : Bool) → Going up ds sum changes → RoomFor up (least ss) (total ds)
     going-room true g = omega (arith, g .way, g .aim .known, g .aim .within)
     going-room false g = omega (arith, g .way, g .aim .known, g .aim .above)
 
@@ -155,7 +155,7 @@ module _ (rho : Float) (ss : States) (t : ℕ) (start : List ℕ) where
         }
     going-next false g =
         let l : t < sum = omega (arith, g .way) in
-        let u : total (step false rho ss ds) + 1 ≡ total ds = total-down rho ss (g .ready .some) ds (g .ready .work) (omega (arith, g .aim .known, g .aim .above)) in
+        let u : total (step false rho ss ds) + 1 ≡ total ds = total-down rho ss (g .ready .some) ds (g .ready .work) (g .ready .shortest) (omega (arith, g .aim .known, g .aim .above)) in
         record {
           ready = step-ready rho ss false ds (g .ready) (going-room false g);
           aim = record { known = omega (arith, g .aim .known); above = g .aim .above; within = g .aim .within };

@@ -11,25 +11,23 @@ use Rattle.lists.specs.Totals.{total}
 use Rattle.floats.specs.Order.{absOf, costBelow}
 use Rattle.floats.specs.Numbers.{number}
 
--- RULES, Durations: an estimate is at least 1, which `roundedOf` sees to, and only a state above 1 frame gives one
-abbrev pub shortest : ℕ
-shortest = 1
-
--- a state: its mean and its variance
+-- RULES, Durations: a state has a mean, a variance and a shortest duration of its own
 pub record State : Type 0 where
   pub mean : Float
   pub vari : Float
+  pub shortest : ℕ
 
-abbrev pub state : Float → Float → State
-state m v = record { mean = m; vari = v }
+abbrev pub state : Float → Float → ℕ → State
+state m v l = record { mean = m; vari = v; shortest = l }
 
 -- states as they are lent: a list of each
 pub record States : Type 0 where
   pub means : List Float
   pub varis : List Float
+  pub shortest : List ℕ
 
-abbrev pub states : List Float → List Float → States
-states ms vs = record { means = ms; varis = vs }
+abbrev pub states : List Float → List Float → List ℕ → States
+states ms vs ls = record { means = ms; varis = vs; shortest = ls }
 
 -- how many there are: as many as means
 abbrev pub size : States → ℕ
@@ -37,11 +35,15 @@ size ss = length (ss .means)
 
 -- the state at a place
 abbrev pub stateAt : States → ℕ → State
-stateAt ss i = state (getD (ss .means) i nan) (getD (ss .varis) i nan)
+stateAt ss i = state (getD (ss .means) i nan) (getD (ss .varis) i nan) (getD (ss .shortest) i 0)
+
+-- RULES, Durations: the sum of the shortest, below which no fit goes
+abbrev pub least : States → ℕ
+least ss = total (ss .shortest)
 
 -- RULES, Durations: a state's cost at d frames is how far (d - mean) / variance is from rho
-abbrev pub costOf : Float → State → ℕ → Float
-costOf rho x d = absOf (sub binary64 rho (div binary64 (sub binary64 (number d) (x .mean)) (x .vari)))
+abbrev pub costOf : Float → Float → Float → ℕ → Float
+costOf rho m v d = absOf (sub binary64 rho (div binary64 (sub binary64 (number d) m) v))
 
 -- RULES, Durations: a step gives a state one frame (true) or takes one (false)
 abbrev pub moved : Bool → ℕ → ℕ
@@ -53,10 +55,10 @@ pub data Key : Type 0 where
   Fixed : Key
   Cost : Float → Key
 
--- RULES, Durations: a step costs what its state costs after it; a state of one frame has no step down, and is fixed
+-- RULES, Durations: a step costs what its state costs after it; a state that is not above its shortest has no step down, and is fixed
 unfoldable pub keyOf : Bool → Float → State → ℕ → Key
-keyOf true rho x d = Cost (costOf rho x (d + 1))
-keyOf false rho x d = cond (ltb shortest d) (Cost (costOf rho x (d - 1))) Fixed
+keyOf true rho x d = Cost (costOf rho (x .mean) (x .vari) (d + 1))
+keyOf false rho x d = cond (ltb (x .shortest) d) (Cost (costOf rho (x .mean) (x .vari) (d - 1))) Fixed
 
 -- one key a state
 unfoldable pub keys : Bool → Float → States → List ℕ → List Key

@@ -14,20 +14,20 @@ pub(crate) struct Entry {
 }
 
 fn cost(rho: f64, mean: f64, vari: f64, d: u32) -> u64
-    ensures { λ r. ⌜ r ≡ toBits binary64 (costOf rho (state mean vari) d) ⌝ }
+    ensures { λ r. ⌜ r ≡ toBits binary64 (costOf rho mean vari d) ⌝ }
 {
     floats::magnitude_bits(rho - ((d as f64) - mean) / vari)
 }
 
 // The bits of the cost of a state's step, and all ones where it may take none.
-pub(crate) fn key_of(up: bool, rho: f64, mean: f64, vari: f64, d: u32) -> u64
+pub(crate) fn key_of(up: bool, rho: f64, mean: f64, vari: f64, shortest: u32, d: u32) -> u64
     requires { ⌜ d ≤ mostFrames ⌝ }
-    ensures { λ r. ⌜ r ≡ rank (keyOf up rho (state mean vari) d) ⌝ }
+    ensures { λ r. ⌜ r ≡ rank (keyOf up rho (state mean vari shortest) d) ⌝ }
 {
     if up {
         return cost(rho, mean, vari, d + 1);
     }
-    if d > 1 {
+    if d > shortest {
         return cost(rho, mean, vari, d - 1);
     }
     0xffff_ffff_ffff_ffff

@@ -10,11 +10,8 @@ returns c = record { same = refl; output = search needs; workspace = c .before .
 
 returns-2 : tie.Need-returns-2
 returns-2 c =
-    record {
-      same = refl;
-      output = handed _ _ _ _ _ (c .before .before .before .before .before .before .before .before .before .enum-told .given .1) (c .before .before .before .before .before .before .copy-u32 .ensures);
-      workspace = c .before .before .fill-u322 .ensures;
-    }
+    let m = c .before .before .before .before in
+    record { same = refl; output = handed _ _ _ _ _ (m .before .before .before .enum-told .given .1) (m .move-out .ensures .0); workspace = m .move-out .ensures .1 }
 
 pub hand-out-spec : {M : Type 1} → statement M
 hand-out-spec =
@@ -25,7 +22,6 @@ hand-out-spec =
     (λ c κs. search needs)
     (λ c. search needs)
     returns
-    (λ c κs. search needs)
     (λ c κs. search needs)
     (λ c. search needs)
     (λ c. search needs)

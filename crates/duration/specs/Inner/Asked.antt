@@ -1,5 +1,6 @@
 -- What the crate's own functions ask of each other and give. No public call's promise names any of it.
 use mathlib.Core.Path.{_≡_}
+use mathlib.Core.Bool.{cond}
 use mathlib.Core.List.{List, [], _∷_, _++_}
 use Prim.Native.Nat.{ℕ, _*_, _≤_}
 use lib.ListN.{length, take, drop, replicate}
@@ -11,7 +12,11 @@ use Rattle.duration.specs.declared.Fitted.{Fitted}
 use Rattle.duration.specs.declared.Fitted.the-variants as fit
 use Rattle.duration.specs.declared.align.Closed.{Closed}
 use Rattle.duration.specs.declared.align.Closed.the-variants as close
-use Rattle.steps.specs.Steps.{States, size, Outcome}
+use Rattle.steps.specs.Steps.{States, size, least, Outcome}
+use Rattle.duration.specs.declared.Low.{Low}
+use Rattle.duration.specs.declared.Low.the-variants as low
+use Rattle.duration.specs.Shortest.{unfit}
+use Rattle.duration.specs.Estimate.{estimates}
 use Rattle.duration.specs.Align.{Group, fitOf, refusalOf}
 use Rattle.lists.specs.Answers.{Answer, accepting, refusing, answerOf}
 use Rattle.duration.specs.Promise.{fitted}
@@ -20,7 +25,17 @@ use Rattle.duration.specs.Promise.{fitted}
 pub record Agree (ss : States) (work : List ℕ) : Type 0 where
   pub few : size ss ≤ mostStates
   pub varis : length (ss .varis) ≡ size ss
+  pub shortest : length (ss .shortest) ≡ size ss
   pub workspace : length work ≡ size ss
+
+-- the sum of the shortest, or that they are refused
+abbrev pub lowOf : List ℕ → Low
+lowOf ls = cond (unfit ls) low.Refused (low.Frames (total ls))
+
+-- the states' estimates in place, and their total
+pub record Estimated (rho : Float) (ss : States) (r : ℕ) (work′ : List ℕ) : Type 0 where
+  pub total : r ≡ total (estimates rho ss)
+  pub output : work′ ≡ estimates rho ss
 
 -- an outcome in place, or its refusal
 pub record InPlace (k : ℕ) (o : Outcome) (r : Fitted) (work′ : List ℕ) : Type 0 where
@@ -40,6 +55,7 @@ pub record HandsOut (answer : Fitted) (n : ℕ) (out work : List ℕ) (r : Fitte
 -- a group that lies in the lists, after so many frames
 pub record Lies (ss : States) (work : List ℕ) (g : Group) (frames : ℕ) : Type 0 where
   pub lists : Agree ss work
+  pub low : least ss ≤ mostFrames
   pub order : g .from ≤ g .to
   pub inside : g .to ≤ size ss
   pub few : frames ≤ mostFrames
@@ -61,5 +77,6 @@ pub record Closes (ss : States) (g : Group) (frames : ℕ) (work values : List �
 -- labels of k states each that cover the lists
 pub record Labelled (ss : States) (k : ℕ) (ends : List Float) (work : List ℕ) : Type 0 where
   pub lists : Agree ss work
+  pub low : least ss ≤ mostFrames
   pub some : 1 ≤ k
   pub cover : length ends * k ≡ size ss

@@ -8,7 +8,7 @@ use Rattle.steps.proofs.scan.entry_of.Tie as tie
 
 key-of-requires : tie.Need-key-of-requires
 key-of-requires c κs =
-    let st = c .before .before .before .before .before .before in
+    let st = c .before .before .before .before .before .before .before .before in
     omega (arith, getD-le-total (st .args .work .now) (st .args .p), st .pre .0 .small)
 
 returns : tie.Need-returns
@@ -19,6 +19,8 @@ pub entry-of-spec : {M : Type 1} → statement M
 entry-of-spec =
     tie.close
     (tie.spec
+    (λ c. search needs)
+    (λ c. search needs)
     (λ c. search needs)
     (λ c. search needs)
     (λ c. search needs)

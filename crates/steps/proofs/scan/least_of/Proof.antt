@@ -11,19 +11,19 @@ use Rattle.steps.proofs.scan.least_of.Statement.{statement}
 use Rattle.steps.proofs.scan.least_of.Tie as tie
 
 abbrev Inv-loop : tie.InvT-loop
-Inv-loop up rho means varis work best₀ i₀ best i = Scanning (keyAt up rho (states means varis) work) (length means) i best
+Inv-loop up rho means varis shortest work best₀ i₀ best i = Scanning (keyAt up rho (states means varis shortest) work) (length means) i best
 
 abbrev μ-loop : tie.MeasureT-loop
-μ-loop up rho means varis work best₀ i₀ best i = length means - i
+μ-loop up rho means varis shortest work best₀ i₀ best i = length means - i
 
 entry-of-requires : tie.Need-entry-of-requires Inv-loop μ-loop
-entry-of-requires c κs = let st = c .before .before .before in (st .pre, st .pre .some)
+entry-of-requires c κs = let st = c .before .before .before .before in (st .pre, st .pre .some)
 
 loop-holds : tie.Need-loop-holds Inv-loop μ-loop
-loop-holds c = scan-start _ _ _ (c .before .before .before .before .pre .some) (c .entry-of .ensures)
+loop-holds c = scan-start _ _ _ (c .before .before .before .before .before .pre .some) (c .entry-of .ensures)
 
 better-of-requires : tie.Need-better-of-requires Inv-loop μ-loop
-better-of-requires c κs = scan-fits _ _ _ _ (c .before .before .loop .inv) (c .before .loop-test .taken) _ (c .entry-of2 .ensures) (c .before .before .before .before .before .before .before .pre .few)
+better-of-requires c κs = scan-fits _ _ _ _ (c .before .before .loop .inv) (c .before .loop-test .taken) _ (c .entry-of2 .ensures) (c .before .before .before .before .before .before .before .before .pre .few)
 
 loop-less : tie.Need-loop-less Inv-loop μ-loop
 loop-less c = omega arith
@@ -33,7 +33,7 @@ loop-again c = scan-next _ _ _ _ (c .before .before .before .loop .inv) (c .befo
 
 returns : tie.Need-returns Inv-loop μ-loop
 returns c =
-    let st = c .before .before .before .before .before .before in
+    let st = c .before .before .before .before .before .before .before in
     let s = c .before .loop .inv in
     least-place _ _ _ _ (st .pre .few) _ (omega (arith, s .place, s .within)) (λ j h. s .least j (omega (arith, s .within)))
 

@@ -7,13 +7,13 @@ use Rattle.steps.proofs.scan.settle.Statement.{statement}
 use Rattle.steps.proofs.scan.settle.Tie as tie
 
 abbrev Inv-loop : tie.InvT-loop
-Inv-loop sum target rho means varis work₀ up now-at₀ changes₀ work now-at changes = Going rho (states means varis) target work₀ up work now-at changes
+Inv-loop sum target rho means varis shortest work₀ up now-at₀ changes₀ work now-at changes = Going rho (states means varis shortest) target work₀ up work now-at changes
 
 abbrev μ-loop : tie.MeasureT-loop
-μ-loop sum target rho means varis work₀ up now-at₀ changes₀ work now-at changes = gap now-at target
+μ-loop sum target rho means varis shortest work₀ up now-at₀ changes₀ work now-at changes = gap now-at target
 
 loop-holds : tie.Need-loop-holds Inv-loop μ-loop
-loop-holds c = let st = c .before .before .before in going _ _ _ _ _ (st .pre .0) (st .pre .1)
+loop-holds c = let st = c .before .before .before .before in going _ _ _ _ _ (st .pre .0) (st .pre .1)
 
 step-once-requires : tie.Need-step-once-requires Inv-loop μ-loop
 step-once-requires c κs = let l = c .before .before .loop in (l .inv .ready, going-room _ _ _ _ _ _ _ (c .before .loop-test .taken) _ (l .inv))

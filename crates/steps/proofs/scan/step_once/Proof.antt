@@ -8,8 +8,8 @@ use Rattle.steps.proofs.scan.step_once.Statement.{statement}
 use Rattle.steps.proofs.scan.step_once.Tie as tie
 
 -- where `least_of` has returned: its place is one of the states
-inside : (c : tie.After-least-of) → c .least-of .result < length (c .before .before .before .before .before .args .work .now)
-inside c = found-in _ _ _ _ (c .before .before .before .before .before .pre .0) _ (c .least-of .ensures)
+inside : (c : tie.After-least-of) → c .least-of .result < length (c .before .before .before .before .before .before .args .work .now)
+inside c = found-in _ _ _ _ (c .before .before .before .before .before .before .pre .0) _ (c .least-of .ensures)
 
 mul-moved-one : tie.Need-mul-moved-one
 mul-moved-one c = omega (arith, inside c)
@@ -19,7 +19,7 @@ slice-read-moved-one c = omega (arith, inside (c .before))
 
 moved-one-requires : tie.Need-moved-one-requires
 moved-one-requires c κs =
-    let st = c .before .before .before .before .before .before in
+    let st = c .before .before .before .before .before .before .before in
     found-may _ _ _ _ (st .pre .0) _ (c .before .least-of .ensures) (st .pre .1)
 
 mul-work : tie.Need-mul-work
@@ -29,7 +29,7 @@ slice-write-work : tie.Need-slice-write-work
 slice-write-work c = omega (arith, inside (c .before .before))
 
 returns : tie.Need-returns
-returns c = found-step _ _ _ _ (c .before .before .before .before .before .before .before .pre .0) _ (c .before .before .least-of .ensures) _ (c .moved-one .ensures)
+returns c = found-step _ _ _ _ (c .before .before .before .before .before .before .before .before .pre .0) _ (c .before .before .least-of .ensures) _ (c .moved-one .ensures)
 
 pub step-once-spec : {M : Type 1} → statement M
 step-once-spec =

@@ -8,22 +8,22 @@ use Rattle.steps.proofs.tree.play_above.Statement.{statement}
 use Rattle.steps.proofs.tree.play_above.Tie as tie
 
 abbrev Inv-loop : tie.InvT-loop
-Inv-loop up rho means varis work₀ p i₀ winner₀ work i winner = Rising up rho (states means varis) work₀ work i winner
+Inv-loop up rho means varis shortest work₀ p i₀ winner₀ work i winner = Rising up rho (states means varis shortest) work₀ work i winner
 
 abbrev μ-loop : tie.MeasureT-loop
-μ-loop up rho means varis work₀ p i₀ winner₀ work i winner = i
+μ-loop up rho means varis shortest work₀ p i₀ winner₀ work i winner = i
 
 abbrev entry : tie.At-loop Inv-loop μ-loop → tie.Start Inv-loop μ-loop
-entry c = c .before .before .before .before .before .before
+entry c = c .before .before .before .before .before .before .before
 
 add-i : tie.Need-add-i Inv-loop μ-loop
-add-i c = let st = c .before .before .before in omega (arith, sized _ _ (st .pre .0), st .pre .0 .few, st .pre .1 .0)
+add-i c = let st = c .before .before .before .before in omega (arith, sized _ _ (st .pre .0), st .pre .0 .few, st .pre .1 .0)
 
 entry-at-requires : tie.Need-entry-at-requires Inv-loop μ-loop
-entry-at-requires c κs = let st = c .before .before .before .before in (st .pre .0, leaf-in _ _ (st .pre .0) _ (st .pre .1 .0))
+entry-at-requires c κs = let st = c .before .before .before .before .before in (st .pre .0, leaf-in _ _ (st .pre .0) _ (st .pre .1 .0))
 
 loop-holds : tie.Need-loop-holds Inv-loop μ-loop
-loop-holds c = let st = c .before .before .before .before .before in rising _ _ _ _ (st .pre .0) _ _ (st .pre .1 .0) (st .pre .1 .1) (c .entry-at .ensures)
+loop-holds c = let st = c .before .before .before .before .before .before in rising _ _ _ _ (st .pre .0) _ _ (st .pre .1 .0) (st .pre .1 .1) (c .entry-at .ensures)
 
 add-entry-at : tie.Need-add-entry-at Inv-loop μ-loop
 add-entry-at c = let h = c .before .before in omega (arith, entry h .pre .0 .few, h .loop .inv .climb .high)

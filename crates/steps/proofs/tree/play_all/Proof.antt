@@ -10,20 +10,20 @@ use Rattle.steps.proofs.tree.play_all.Statement.{statement}
 use Rattle.steps.proofs.tree.play_all.Tie as tie
 
 abbrev Inv-loop : tie.InvT-loop
-Inv-loop up rho means varis work₀ i₀ work i = Playing up rho (states means varis) work₀ work i
+Inv-loop up rho means varis shortest work₀ i₀ work i = Playing up rho (states means varis shortest) work₀ work i
 
 abbrev μ-loop : tie.MeasureT-loop
-μ-loop up rho means varis work₀ i₀ work i = i
+μ-loop up rho means varis shortest work₀ i₀ work i = i
 
 abbrev entry : tie.At-loop Inv-loop μ-loop → tie.Start Inv-loop μ-loop
-entry c = c .before .before .before .before
+entry c = c .before .before .before .before .before
 
 -- a node's place is far from the largest number
 small : (c : tie.At-loop Inv-loop μ-loop) → c .loop .i ≤ mostStates
 small c = omega (arith, sized _ _ (entry c .pre), entry c .pre .few, c .loop .inv .high, c .loop .inv .long)
 
 loop-holds : tie.Need-loop-holds Inv-loop μ-loop
-loop-holds c = playing _ _ _ _ (c .before .before .before .pre)
+loop-holds c = playing _ _ _ _ (c .before .before .before .before .pre)
 
 mul-entry-at : tie.Need-mul-entry-at Inv-loop μ-loop
 mul-entry-at c = omega (arith, small (c .before .before))

@@ -10,16 +10,16 @@ use Rattle.steps.proofs.tree.settle.Statement.{statement}
 use Rattle.steps.proofs.tree.settle.Tie as tie
 
 abbrev Inv-loop : tie.InvT-loop
-Inv-loop sum target rho means varis work₀ up now-at₀ changes₀ work now-at changes = Tended rho (states means varis) target work₀ up work now-at changes
+Inv-loop sum target rho means varis shortest work₀ up now-at₀ changes₀ work now-at changes = Tended rho (states means varis shortest) target work₀ up work now-at changes
 
 abbrev μ-loop : tie.MeasureT-loop
-μ-loop sum target rho means varis work₀ up now-at₀ changes₀ work now-at changes = gap now-at target
+μ-loop sum target rho means varis shortest work₀ up now-at₀ changes₀ work now-at changes = gap now-at target
 
 play-all-requires : tie.Need-play-all-requires Inv-loop μ-loop
-play-all-requires c κs = packed-ready _ _ (c .before .before .before .before .pre .0)
+play-all-requires c κs = packed-ready _ _ (c .before .before .before .before .before .pre .0)
 
 loop-holds : tie.Need-loop-holds Inv-loop μ-loop
-loop-holds c = let st = c .before .before .before .before .before .before .before in tended _ _ _ _ _ _ (st .pre .0) (c .before .before .play-all .ensures) _ refl (st .pre .1)
+loop-holds c = let st = c .before .before .before .before .before .before .before .before in tended _ _ _ _ _ _ (st .pre .0) (c .before .before .play-all .ensures) _ refl (st .pre .1)
 
 step-once-requires : tie.Need-step-once-requires Inv-loop μ-loop
 step-once-requires c κs = let l = c .before .before .loop in (l .inv .way .ready, (going-room _ _ _ _ _ _ _ (c .before .loop-test .taken) _ (l .inv .way), l .inv .tree))
@@ -36,14 +36,14 @@ loop-less c = going-less _ _ _ _ _ _ _ (c .before .before .before .before .befor
 loop-again : tie.Need-loop-again Inv-loop μ-loop
 loop-again c =
     let s = c .before .before .before .step-once in
-    tended-next _ _ _ _ _ _ _ _ _ _ (c .before .before .before .before .before .loop-test .taken) (c .before .before .before .before .before .before .loop .inv) (s .kept .1 .1 .1 .1 .0) (s .ensures) (c .moved-one .ensures)
+    tended-next _ _ _ _ _ _ _ _ _ _ (c .before .before .before .before .before .loop-test .taken) (c .before .before .before .before .before .before .loop .inv) (s .kept .1 .1 .1 .1 .1 .0) (s .ensures) (c .moved-one .ensures)
 
 same-length : tie.Need-same-length Inv-loop μ-loop
-same-length c = c .before .before .unpack .kept .0 ∙ c .before .before .before .before .before .loop .inv .long ∙ c .before .before .before .before .before .before .before .before .play-all .kept .1 .1 .1 .1 .0
+same-length c = c .before .before .unpack .kept .0 ∙ c .before .before .before .before .before .loop .inv .long ∙ c .before .before .before .before .before .before .before .before .play-all .kept .1 .1 .1 .1 .1 .0
 
 returns : tie.Need-returns Inv-loop μ-loop
 returns c =
-    let st = c .before .before .before .before .before .before .before .before .before .before .before .before .before in
+    let st = c .before .before .before .before .before .before .before .before .before .before .before .before .before .before in
     tended-done _ _ _ _ _ _ (st .pre .0) (c .before .before .before .before .before .before .before .before .play-all .ensures) _ _ _ _ (c .before .before .before .before .loop-test .left) (c .before .before .before .before .before .loop .inv) (c .before .before .unpack .ensures)
 
 pub settle-spec : {M : Type 1} → statement M

@@ -5,7 +5,7 @@ use Rattle.steps.proofs.tree.step_once.Statement.{statement}
 use Rattle.steps.proofs.tree.step_once.Tie as tie
 
 abbrev entry : tie.After-place-at → tie.Start
-entry c = c .before .before .before .before .before
+entry c = c .before .before .before .before .before .before
 
 duration-at-requires : tie.Need-duration-at-requires
 duration-at-requires c κs = let p = c .before in root-place _ _ _ _ (entry p .pre .0) (entry p .pre .1 .0) (entry p .pre .1 .1) _ (p .place-at .ensures)
