@@ -15,6 +15,7 @@ use Rattle.steps.specs.Steps.{States, size, least, Outcome, unchanged, settle}
 abbrev pub rhoOf : List Float → List Float → ℕ → Float
 rhoOf ms vs t = div binary64 (sub binary64 (number t) (sumOf ms vs .0)) (sumOf ms vs .1)
 
+-- that of states
 abbrev pub rhoFor : States → ℕ → Float
 rhoFor ss t = rhoOf (ss .means) (ss .varis) t
 
