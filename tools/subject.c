@@ -45,6 +45,14 @@ uint32_t hejmirov_trajectory(uint32_t v, uint32_t masked, double threshold, doub
                              DOUBLES(coefficients), DOUBLES(records), WHOLES(durations),
                              DOUBLES(gv), BYTES(switches), OUT_DOUBLES(out), OUT_DOUBLES(work),
                              OUT_WHOLES(marks), uint32_t *clamped_high, uint32_t *clamped_low);
+#pragma weak hejmirov_runs
+uint32_t hejmirov_runs(uint32_t v, uint32_t masked, double threshold, size_t windows,
+                       DOUBLES(records), WHOLES(durations), OUT_WHOLES(runs), uint32_t *count);
+#pragma weak hejmirov_run
+uint32_t hejmirov_run(uint32_t v, uint32_t masked, double threshold, double fill, uint32_t gv_on,
+                      double gv_weight, WHOLES(widths), DOUBLES(coefficients), DOUBLES(records),
+                      WHOLES(durations), DOUBLES(gv), BYTES(switches), uint32_t run,
+                      OUT_DOUBLES(out), OUT_DOUBLES(work), OUT_WHOLES(marks), uint32_t *frames);
 #pragma weak hejmirov_place
 uint32_t hejmirov_place(uint32_t frame, uint32_t component, uint32_t v, uint64_t *place);
 #pragma weak hejmirov_excerpt
@@ -115,7 +123,9 @@ enum {
     SETTINGS_FILE,
     SPOKEN_WORDS,
     TIMING_FILE,
-    CHAPTER
+    CHAPTER,
+    RUNS,
+    RUN
 };
 enum { ANSWERED = 0, NO_SUCH_CALL = 3, STRAYED = 4, PARTED = 5, LOST = 6, MISTIMED = 7 };
 
@@ -176,6 +186,12 @@ static void *room_for(size_t bytes) {
 static void take(void *number, size_t size) {
     memcpy(number, cursor, size);
     cursor += size;
+}
+
+static uint64_t take_u64(void) {
+    uint64_t number;
+    take(&number, sizeof number);
+    return number;
 }
 
 static uint32_t take_u32(void) {
@@ -347,24 +363,68 @@ static void run_band(void) {
     put_list(right);
 }
 
+/* What a trajectory is worked out from, and one of its runs too. */
+typedef struct {
+    uint32_t v, masked, gv_on;
+    double threshold, fill, gv_weight;
+    List *widths, *coefficients, *records, *durations, *gv, *switches;
+} Stream;
+
+static Stream take_stream(void) {
+    Stream stream = {.v = take_u32()};
+    stream.masked = take_u32();
+    stream.threshold = take_f64();
+    stream.fill = take_f64();
+    stream.gv_on = take_u32();
+    stream.gv_weight = take_f64();
+    stream.widths = input(4);
+    stream.coefficients = input(8);
+    stream.records = input(8);
+    stream.durations = input(4);
+    stream.gv = input(8);
+    stream.switches = input(1);
+    return stream;
+}
+
+#define IN_STREAM(stream)                                                                      \
+    stream.v, stream.masked, stream.threshold, stream.fill, stream.gv_on, stream.gv_weight,     \
+        IN_W(stream.widths), IN_D(stream.coefficients), IN_D(stream.records),                  \
+        IN_W(stream.durations), IN_D(stream.gv), IN_B(stream.switches)
+
 static void run_trajectory(void) {
-    uint32_t v = take_u32(), masked = take_u32();
-    double threshold = take_f64(), fill = take_f64();
-    uint32_t gv_on = take_u32();
-    double gv_weight = take_f64();
-    List *widths = input(4), *coefficients = input(8), *records = input(8), *durations = input(4);
-    List *gv = input(8), *switches = input(1);
+    Stream stream = take_stream();
     List *out = lent(8), *work = lent(8), *marks = lent(4);
     uint32_t high = untouched, low = untouched;
-    put_u32(hejmirov_trajectory(v, masked, threshold, fill, gv_on, gv_weight, IN_W(widths),
-                                IN_D(coefficients), IN_D(records), IN_W(durations), IN_D(gv),
-                                IN_B(switches), OUT_D(out), OUT_D(work), OUT_W(marks), &high,
+    put_u32(hejmirov_trajectory(IN_STREAM(stream), OUT_D(out), OUT_D(work), OUT_W(marks), &high,
                                 &low));
     put_list(out);
     put_list(work);
     put_list(marks);
     put_u32(high);
     put_u32(low);
+}
+
+static void run_runs(void) {
+    uint32_t v = take_u32(), masked = take_u32();
+    double threshold = take_f64();
+    size_t windows = take_u64();
+    List *records = input(8), *durations = input(4), *runs = lent(4);
+    uint32_t count = untouched;
+    put_u32(hejmirov_runs(v, masked, threshold, windows, IN_D(records), IN_W(durations),
+                          OUT_W(runs), &count));
+    put_list(runs);
+    put_u32(count);
+}
+
+static void run_run(void) {
+    Stream stream = take_stream();
+    uint32_t run = take_u32(), frames = untouched;
+    List *out = lent(8), *work = lent(8), *marks = lent(4);
+    put_u32(hejmirov_run(IN_STREAM(stream), run, OUT_D(out), OUT_D(work), OUT_W(marks), &frames));
+    put_list(out);
+    put_list(work);
+    put_list(marks);
+    put_u32(frames);
 }
 
 static void run_place(void) {
@@ -799,6 +859,8 @@ static bool there(uint8_t kind) {
     case MASK: return hejmirov_mask;
     case BAND: return hejmirov_band_rows;
     case TRAJECTORY: return hejmirov_trajectory;
+    case RUNS: return hejmirov_runs;
+    case RUN: return hejmirov_run;
     case PLACE: return hejmirov_place;
     case EXCERPT: return hejmirov_excerpt;
     case OLD_NUMBER: return hejmirov_job_old_number;
@@ -836,6 +898,8 @@ static void run(uint8_t kind) {
     case SETTINGS_FILE: run_settings_file(); break;
     case SPOKEN_WORDS: run_words(); break;
     case TIMING_FILE: run_timing_file(); break;
+    case RUNS: run_runs(); break;
+    case RUN: run_run(); break;
     }
 }
 
@@ -942,8 +1006,9 @@ static void print_kinds(void) {
                                   [OLD_NUMBER] = "old_number",
                                   [STORE] = "store", [SETTINGS_FILE] = "settings_file",
                                   [SPOKEN_WORDS] = "words", [TIMING_FILE] = "timing_file",
-                                  [CHAPTER] = "chapter"};
-    for (uint8_t kind = FIT; kind <= CHAPTER; kind++)
+                                  [CHAPTER] = "chapter",
+                                  [RUNS] = "runs",   [RUN] = "run"};
+    for (uint8_t kind = FIT; kind <= RUN; kind++)
         if (there(kind)) puts(names[kind]);
 }
 

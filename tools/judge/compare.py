@@ -4,13 +4,14 @@ import struct
 from collections import Counter
 from collections.abc import Iterable, Iterator
 from dataclasses import dataclass, field
-from itertools import groupby
+from itertools import groupby, islice
 
-from . import drift, reading
+from . import drift, lone, reading
 from .domain import WITH_SHORTEST, Judge, all_ones, answered, judge_of, oracle_answers, tail_of
 from .formats import ALIGNMENTS, KINDS, READ, Case, Fields, decode, encode, encode_case, store_calls
 from .programs import ANSWERED, LOST, MISTIMED, PANICKED, PARTED, STRAYED, Program
 from .reading import jobs, links
+from .reading.ieee import one_nan
 from .reading.trajectory import TooLong
 
 BAD_SHORTEST = 15
@@ -86,6 +87,8 @@ class Tally:
     shortest_refused: Counter = field(default_factory=Counter)
     # Accepted chapters whose totals were held to the claim.
     chapters: drift.Held = field(default_factory=drift.Held)
+    # Runs alone beside the full trajectory, by whose numbers they are.
+    alone: dict[str, lone.Held] = field(default_factory=dict)
     # Accepted trajectories with clamped pairs, and such pairs in all, each once a voiced frame.
     clamped: int = 0
     high: int = 0
@@ -116,6 +119,8 @@ class Tally:
             line += f"; shortest durations other than ones in {', '.join(map(self.of_kind, sorted(self.other_shortest)))}"
         if self.chapters.chapters:
             line += f"; {self.chapters}"
+        for whose, held in self.alone.items():
+            line += f"; runs alone beside the full trajectory by {whose}: {held}"
         if self.clamped:
             line += f"; {self.clamped} trajectories with clamped pairs, {self.high} high and {self.low} low"
         if any(self.damaged.values()):
@@ -162,6 +167,7 @@ class Comparison:
         found = self.against_oracles(cases, answers)
         self.count(cases, answers)
         found += self.against_subject(cases, answers)
+        found += self.runs_against_whole(cases)
         return found + self.claim_without_calls(cases, answers)
 
     def read(self, case: Case) -> tuple[int, Fields | None]:
@@ -291,6 +297,56 @@ class Comparison:
             if case.kind == "chapter" and case.kind not in self.kinds_there and refusal == 0 and values is not None:
                 found += self.against_claim(case, "the reading", values["durations"])
         return found
+
+
+    def runs_against_whole(self, cases: list[Case]) -> list[Difference]:
+        """Every run of a stream that hands them out, beside its full trajectory: the reading's, the Rust's and the C calls'."""
+        streams = [stream for case in cases if case.kind == "run" and (stream := lone.stream_of(case))]
+        found = []
+        for stream, (rust,) in zip(streams, oracle_answers(self.oracle, [stream.whole() for stream in streams])):
+            parts, (_, values) = dict(enumerate(stream.numbers)), reading.answer(stream.whole())
+            found += self.against_whole(stream, "the reading", parts, values["out"])
+            if rust is None or rust[0] != ANSWERED:
+                found.append(Difference(stream.case, f"the full trajectory by {self.oracle.name}", None, failure(rust)))
+            else:
+                whole = decode(KINDS["trajectory"].values, rust[1:])["out"]
+                found += self.against_whole(stream, self.oracle.name, parts, whole)
+        return found + self.calls_against_whole(streams)
+
+    def calls_against_whole(self, streams: list[lone.Stream]) -> list[Difference]:
+        if not self.subject or not {"run", "trajectory"} <= self.kinds_there:
+            return []
+        asked = [[*map(stream.part, stream.asked()), stream.whole()] for stream in streams]
+        given = iter(self.subject.answers([encode_case(case, False) for asking in asked for case in asking]))
+        found = []
+        for stream, asking in zip(streams, asked):
+            found += self.call_against_whole(stream, asking, list(islice(given, len(asking))))
+        return found
+
+    def call_against_whole(self, stream: lone.Stream, cases: list[Case], answers: list[bytes | None]) -> list[Difference]:
+        """Each run by the C call is the reading's, to the bit, and is held to the C call's own full trajectory, the last."""
+        whose, numbers = f"every run by {self.subject.name}", stream.asked()
+        wrong = [answer for answer in answers if answer is None or answer[0] != ANSWERED]
+        if wrong:
+            return [Difference(stream.case, whose, None, failure(wrong[0]))]
+        *left, whole = [decode(KINDS[case.kind].exit, answer[1:]) for case, answer in zip(cases, answers)]
+        for number, case, one in zip(numbers, cases, left):
+            values = {"out": one_nan(stream.numbers[number]), "frames": stream.runs[number].frames}
+            expected = reading.at_exit(case, 0, values)
+            if encode(KINDS[case.kind].exit, one) != encode(KINDS[case.kind].exit, expected):
+                told = "; ".join(f"{name}: {compared(one[name], expected[name])}" for name in one)
+                return [Difference(stream.case, whose, None, f"run {number}: {told}")]
+        parts = {number: one["out"] for number, one in zip(numbers, left)}
+        return self.against_whole(stream, self.subject.name, parts, whole["out"])
+
+    def against_whole(
+        self, stream: lone.Stream, whose: str, parts: dict[int, list[float]], whole: list[float]
+    ) -> list[Difference]:
+        try:
+            self.tally.alone.setdefault(whose, lone.Held()).add(lone.held(stream, parts, whole))
+        except lone.Unlike as unlike:
+            return [Difference(stream.case, f"a run alone beside the full trajectory by {whose}", None, str(unlike))]
+        return []
 
 
 def failure(answer: bytes | None) -> str:

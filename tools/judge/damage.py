@@ -9,7 +9,7 @@ from .broken_jobs import broken
 from .formats import KINDS, PART, READ, ROOM, Case, LinkCall, StoreCall
 from .formats import link_calls, link_case, store_calls, store_case
 from .reading.ieee import MAX_FRAMES, NAN
-from .reading.refusals import MAX_STATES, MAX_V, MAX_WIDTH
+from .reading.refusals import MAX_STATES, MAX_V, MAX_WIDTH, MAX_WINDOWS
 
 Damage = Callable[[Random, Case], Case]
 
@@ -17,6 +17,7 @@ LISTS = ("u32s", "f64s", "u8s")
 OUT_OF_RANGE = {
     "v": [0, MAX_V + 1, 2**32 - 1],
     "nstate": [0, 17, 2**32 - 1],
+    "windows": [0, MAX_WINDOWS + 1, 2**32 + 1, 2**63, 2**64 - 1],
 }
 
 
@@ -97,6 +98,38 @@ def bad_windows(rng: Random, case: Case) -> Case:
     if rng.random() < 0.2:
         taps = [*case["coefficients"], NAN]  # behind those that the widths count
     return case.with_fields(coefficients=taps)
+
+
+def other_windows(rng: Random, case: Case) -> Case:
+    """As many windows as the records weren't made for."""
+    return case.with_fields(windows=rng.randint(1, MAX_WINDOWS))
+
+
+def other_voicing(rng: Random, case: Case) -> Case:
+    """Records with their weights, taken for some without, or the other way round."""
+    return case.with_fields(masked=0 if case["masked"] else 1)
+
+
+def other_run(rng: Random, case: Case) -> Case:
+    """A run that is not there, or perhaps not."""
+    return case.with_fields(run=rng.choice([case["run"] + 1, case["run"] + 2**31, 2**32 - 1, 2**16, 2**8, 0]) % 2**32)
+
+
+def longer_first_window(rng: Random, case: Case) -> Case:
+    """The lists still agree."""
+    if not case["widths"] or case["widths"][0] >= MAX_WIDTH:
+        return case
+    more = rng.choice([1, 1, 2, MAX_WIDTH - case["widths"][0]])
+    widths = [case["widths"][0] + more, *case["widths"][1:]]
+    return case.with_fields(widths=widths, coefficients=[rng.choice([0.0, 0.5])] * more + case["coefficients"])
+
+
+def gv_on(rng: Random, case: Case) -> Case:
+    """With lists that agree, or as they are."""
+    case = case.with_fields(gv_on=rng.choice([1, 1, 2, 0x100, 2**31]))
+    if rng.random() < 0.7 and case["v"] <= MAX_V:
+        case = case.with_fields(gv=[1.0] * (2 * case["v"]), switches=bytes([1]) * len(case["durations"]))
+    return case
 
 
 def too_many_frames(rng: Random, case: Case) -> Case:
@@ -252,6 +285,9 @@ BY_KIND: dict[str, list[Damage]] = {
     "words": [*GENERAL, too_many_states, too_many_frames, longer_trajectory, other_words, other_words],
     "timing_file": [short_room, changed_bytes],
     "chapter": [*GENERAL, too_many_states, other_shortest],
+    "runs": [*GENERAL, short_room, too_many_states, too_many_frames, other_windows, other_voicing],
+    "run": [*GENERAL, short_room, bad_windows, too_many_frames, too_many_states]
+    + [other_voicing, other_run, longer_first_window, gv_on, gv_on],
 }
 
 

@@ -6,7 +6,7 @@ from itertools import islice
 
 from .formats import ALIGNMENTS, KINDS, Case, Fields, decode, encode_case
 from .programs import Program
-from .reading import ieee, jobs, links
+from .reading import ieee, jobs, links, runs
 from .reading.durations import estimate, states_in
 from .reading.refusals import band_frames
 
@@ -20,6 +20,7 @@ class Judge(Enum):
 # The kinds whose states have shortest durations of their own, which the Rust doesn't know.
 WITH_SHORTEST = ("fit", "speed", "align", "chapter", "job")
 BY_RUST = ("float", "pair", "record", "fit", "speed", "align", "mask", "band", "trajectory", "job", "link", "chapter")
+BY_RUST += ("runs", "run")
 
 
 def drops_nothing(case: Case) -> bool:
@@ -66,15 +67,38 @@ def speed_of(job: bytes) -> Case:
     return Case("speed", {**states, "speed": parsed.speed, "out": 0, "work": 0})
 
 
+def mask_of(case: Case) -> Case:
+    """A stream's voicing as the Rust takes it."""
+    fields = {"weights": runs.voicing_weights(case), "threshold": case["threshold"], "durations": case["durations"]}
+    return Case("mask", {**fields, "voiced": 0, "left": 0, "right": 0})
+
+
+def lone_stream(case: Case) -> Case:
+    """The run that is asked for as a stream of its own, which has nothing but the run's states and is voiced throughout."""
+    first, frames = runs.runs_of(case)[case["run"]]
+    before, records, durations = 0, [], []
+    for record, duration in zip(runs.records_of(case), case["durations"]):
+        if duration and first <= before < first + frames:
+            records += record[: 2 * (len(record) // 2)]
+            durations.append(duration)
+        before += duration
+    own = {"masked": 0, "threshold": 0.0, "gv_on": 0, "gv": [], "switches": b"", "records": records, "durations": durations}
+    return Case("trajectory", {name: value for name, value in case.fields.items() if name != "run"} | own)
+
+
 def asked(case: Case) -> list[Case]:
     """What the Rust is asked of an accepted case: mostly the case, of a link each accepted end with ones, of a chapter its
-    alignment; NaNs are one."""
+    alignment, of a stream's runs its mask, and of a run alone a stream that has no other; NaNs are one."""
     if case.kind == "job":
         questions = [speed_of(case["bytes"])]
     elif case.kind == "link":
         questions = [speed_of(end.job["bytes"]) for end in links.followed(case).accepted() if all_ones(end.job)]
     elif case.kind == "chapter":
         questions = [Case("align", case.fields)]
+    elif case.kind == "runs":
+        questions = [mask_of(case)]
+    elif case.kind == "run":
+        questions = [lone_stream(case)]
     else:
         questions = [case]
     return [Case(question.kind, ieee.one_nan(question.fields)) for question in questions]
@@ -106,6 +130,19 @@ def align_answered(case: Case, answer: bytes) -> Fields:
     return {**values, "written": values["written"] + len(tail), "durations": values["durations"] + tail}
 
 
+def runs_answered(answer: bytes) -> Fields:
+    """A run begins at each voiced frame with none before it, and has as many frames as that one has behind it, and itself."""
+    mask = decode(KINDS["mask"].values, answer)
+    frames = zip(mask["voiced"], mask["left"], mask["right"])
+    numbers = [(frame, right + 1) for frame, (voiced, left, right) in enumerate(frames) if voiced and left == 0]
+    return {"runs": [number for run in numbers for number in run], "count": len(numbers)}
+
+
+def run_answered(case: Case, answer: bytes) -> Fields:
+    out = decode(KINDS["trajectory"].values, answer)["out"]
+    return {"out": out, "frames": len(out) // case["v"]}
+
+
 def answered(case: Case, answers: list[bytes]) -> Fields:
     """The case's values, from the Rust's answers to what it was asked."""
     if case.kind == "link":
@@ -114,4 +151,8 @@ def answered(case: Case, answers: list[bytes]) -> Fields:
     (answer,) = answers
     if case.kind in ALIGNMENTS:
         return align_answered(case, answer)
+    if case.kind == "runs":
+        return runs_answered(answer)
+    if case.kind == "run":
+        return run_answered(case, answer)
     return job_answered(answer) if case.kind == "job" else decode(KINDS[case.kind].values, answer)

@@ -5,7 +5,7 @@ from dataclasses import dataclass
 IEEE, PAIRS, DURATIONS = "ieee.py", "pairs.py", "durations.py"
 TRAJECTORY, PLACES, JOBS, LINKS = "trajectory.py", "places.py", "jobs.py", "links.py"
 SETTINGS, WORDS, REFUSALS, EXITS = "settings.py", "words.py", "refusals.py", "exits.py"
-ANSWER = "__init__.py"
+RUNS, ALONE, ANSWER = "runs.py", "alone.py", "__init__.py"
 
 
 @dataclass(frozen=True)
@@ -16,6 +16,8 @@ class Fault:
     fault: str
     hidden: str = ""  # why no call can show it, if so
     drifts: bool = False  # the claim on chapters refuses it by itself, with no answer beside it
+    unlike: bool = False  # so does the claim on runs alone
+    kinds: tuple[str, ...] = ()  # whose cases alone can show it, if they are fewer than the file's
 
 
 HALF = "    if abs(x) - whole >= 0.5:  # the difference is exact"
@@ -153,6 +155,60 @@ FORWARD = "    return any(after < first for first, after in zip(firsts, afters))
 READ_ROOM = "    number = refusal({MALFORMED: lambda: is_malformed(data), TOO_SHORT: lambda: room < 2 * count})"
 NOTHING_READ = '        return {"refusal": number, "spans": marked_u32(0, room), "words": UNTOUCHED_U32}'
 READ_SPANS = '    return {"refusal": 0, "spans": spans_in(data) + marked_u32(2 * count, room), "words": count}'
+OF_RUNS = ("runs", "run")
+RUN_SIZE = '    return 2 * window_count(case) * case["v"] + (case["masked"] != 0)'
+RUN_WEIGHTS = "    return [pairs.voicing_weight(pairs.split_record(record)[2]) for record in records_of(case)]"
+RUN_VOICED = '    return [weight > case["threshold"] for weight in voicing_weights(case)]'
+RUN_STATES = (
+    '    states = [(voiced, frames) for voiced, frames in zip(is_voiced(case), case["durations"]) if frames > 0]'
+)
+RUN_STRETCHES = "    for voiced, stretch in groupby(states, lambda state: state[0]):"
+RUN_FRAMES = "        frames = sum(frames for _, frames in stretch)"
+RUN_FOUND = "            runs.append(Run(first, frames))"
+RUN_FIRST = "        first += frames\n    return runs"
+RUN_THERE = '    return case["run"] < len(runs_of(case))'
+RUN_WANTS = '    return runs_of(case)[case["run"]].frames if is_there(case) else 0'
+RUNS_TOLD = '    return {"runs": [number for run in runs for number in run], "count": len(runs)}'
+FRAMES_OF_STATES = '    return [state for state, duration in zip(states, case["durations"]) for _ in range(duration)]'
+OWN_OF_RUN = "    return frames[run.first : run.first + run.frames]"
+RUN_HALF = "    half = len(window) // 2"
+REACHES = "    return left < half or right < len(window) - half - 1"
+RUN_ZEROED = "        zeroed = not is_first and reaches_out(window, frame, last - frame)"
+RUN_INVERSE = "        inverse.append(0.0 if zeroed else pairs.inverse_variance(varis[pair]))"
+RUN_PAIR = '        pair = case["v"] * number + component'
+RUN_MEANS = "        means.append([mean[pair] for mean, _ in frames])"
+RUN_COMPONENTS = '    components = [solved(*equations(case, frames, component)) for component in range(case["v"])]'
+RUN_NUMBERS = "    return [number for frame in zip(*components) for number in frame]"
+RUN_ASKED = '    run = runs_of(case)[case["run"]]'
+RUN_ALONE = '    return {"out": numbers_of(case, own(frames_of(case), run)), "frames": run.frames}'
+FULL_AT_RUN = (
+    '__import__("judge.reading.trajectory", fromlist=["x"]).trajectory_values(case)["out"]'
+    '[run.first * case["v"] : (run.first + run.frames) * case["v"]]'
+)
+RUNS_1 = '        1: lambda: not 1 <= case["windows"] <= MAX_WINDOWS,'
+RUNS_3 = "        3: lambda: states > MAX_STATES or not 1 <= v <= MAX_V,\n        4: lambda: len"
+RUNS_4 = '        4: lambda: len(case["records"]) != states * runs.record_size(case),'
+RUNS_5 = '        5: lambda: sum(case["durations"]) > MAX_FRAMES,'
+RUNS_6 = '        6: lambda: case["runs"] < 2 * len(runs.runs_of(case)),'
+RUN_AS_TRAJECTORY = "    return trajectory_checks(case) | {\n        6: too_short,"
+RUN_6 = "        6: too_short,\n        20:"
+RUN_N = "        n = runs.frames_asked(case)"
+RUN_ROOM = (
+    '        return case["out"] < n * case["v"] or case["work"] < n * WORK_FLOATS or case["marks"] < n * WORK_MARKS'
+)
+RUN_20 = '        20: lambda: case["gv_on"] != 0,'
+RUN_21 = "        21: lambda: not runs.is_there(case),"
+RUN_22 = '        22: lambda: case["widths"][0] > 1,'
+RUNS_LEFT = '    return {"runs": written_u32(values["runs"], case["runs"]), "count": values["count"]}'
+RUN_WORK_LEFT = '        "work": written_f64([0.0] * (n * WORK_FLOATS), case["work"]),'
+RUN_MARKS_LEFT = '        "marks": written_u32([0] * (n * WORK_MARKS), case["marks"]),'
+RUN_FRAMES_LEFT = '        "frames": n,'
+
+
+def of_runs(name: str, file: str, line: str, fault: str, hidden: str = "", unlike: bool = False) -> Fault:
+    """Of a line that no other call reads."""
+    return Fault(name, file, line, fault, hidden, unlike=unlike, kinds=OF_RUNS)
+
 
 FAULTS = [
     Fault("rounding to even", IEEE, HALF,
@@ -1036,4 +1092,217 @@ FAULTS = [
     Fault("work space zeroed whole", EXITS,
           '        "work": written_f64([0.0] * (WORK_FLOATS * frames), case["work"]),',
           '        "work": [0.0] * case["work"],'),
+    Fault("a run's stream masked by 1 alone", RUNS, RUN_SIZE, RUN_SIZE.replace("!= 0", "== 1"), unlike=True),
+    Fault("a run's weight at the front of its record", RUNS, RUN_WEIGHTS,
+          "    return [pairs.voicing_weight(record[0] if len(record) % 2 else None) for record in records_of(case)]",
+          unlike=True),
+    Fault("a run's absent weights unvoiced", RUNS, RUN_WEIGHTS,
+          "    return [float('nan') if len(record) % 2 == 0 else record[-1] for record in records_of(case)]"),
+    Fault("a run's absent weights voiced at any threshold", RUNS, RUN_VOICED,
+          RUN_VOICED.replace("[weight >", '[case["masked"] == 0 or weight >')),
+    Fault("a run's frames voiced at the threshold", RUNS, RUN_VOICED, RUN_VOICED.replace(">", ">="), unlike=True),
+    Fault("a run's weight of NaN voiced", RUNS, RUN_VOICED, RUN_VOICED.replace("weight >", "not weight <="), unlike=True),
+    Fault("a run's weight of NaN voiced, not a threshold of NaN", RUNS, RUN_VOICED,
+          RUN_VOICED.replace("[weight >", "[weight != weight or weight >"), unlike=True),
+    Fault("a run's infinite weight unvoiced", RUNS, RUN_VOICED,
+          RUN_VOICED.replace("[weight >", '[weight < float("inf") and weight >'), unlike=True),
+    Fault("a state of 0 frames splits a run, or is one", RUNS, RUN_STATES, RUN_STATES.replace(" if frames > 0", ""), unlike=True),
+    Fault("an unvoiced state of 0 frames splits a run", RUNS, RUN_STATES,
+          RUN_STATES.replace("frames > 0", "frames > 0 or not voiced"), unlike=True),
+    Fault("a voiced state of 0 frames in a gap is a run", RUNS, RUN_STATES,
+          RUN_STATES.replace("frames > 0", "frames > 0 or voiced"), unlike=True),
+    Fault("a state of 0 frames has one, in runs", RUNS, RUN_STATES,
+          RUN_STATES.replace("[(voiced, frames)", "[(voiced, max(1, frames))").replace(" if frames > 0", ""), unlike=True),
+    Fault("a run ends with its state", RUNS, RUN_STRETCHES,
+          "    for voiced, stretch in ((voiced, [(voiced, frames)]) for voiced, frames in states):", unlike=True),
+    Fault("a run ends at a state of another length", RUNS, RUN_STRETCHES,
+          "    for (voiced, _), stretch in groupby(states):", unlike=True),
+    Fault("a run's frames as its states", RUNS, RUN_FRAMES, "        frames = sum(1 for _, frames in stretch)", unlike=True),
+    Fault("a run's frames those of its longest state", RUNS, RUN_FRAMES,
+          "        frames = max(frames for _, frames in stretch)", unlike=True),
+    Fault("a run's first frame counted from 1", RUNS, RUN_FOUND, RUN_FOUND.replace("first,", "first + 1,"), unlike=True),
+    Fault("a run's first frame one too far left", RUNS, RUN_FOUND, RUN_FOUND.replace("first,", "max(0, first - 1),"),
+          unlike=True),
+    Fault("a run's last frame for its first", RUNS, RUN_FOUND, RUN_FOUND.replace("first,", "first + frames - 1,"), unlike=True),
+    Fault("a run's first frame in 8 bits", RUNS, RUN_FOUND, RUN_FOUND.replace("first,", "first % 2**8,")),
+    Fault("a run's frames in 8 bits", RUNS, RUN_FOUND, RUN_FOUND.replace("frames)", "frames % 2**8)")),
+    Fault("a run's frames in 16 bits", RUNS, RUN_FOUND, RUN_FOUND.replace("frames)", "frames % 2**16)")),
+    Fault("a run a frame too long", RUNS, RUN_FOUND, RUN_FOUND.replace("frames)", "frames + 1)"), unlike=True),
+    Fault("runs of one frame left out", RUNS, RUN_FOUND,
+          RUN_FOUND.replace("runs.append(Run(first, frames))", "runs += [Run(first, frames)] * (frames > 1)")),
+    Fault("a run's first frame among the voiced ones", RUNS, RUN_FIRST,
+          RUN_FIRST.replace("first += frames", "first += frames * voiced"), unlike=True),
+    Fault("gaps numbered among the runs", RUNS, "        if voiced:\n" + RUN_FOUND, RUN_FOUND.removeprefix("    "), unlike=True),
+    Fault("runs from the last to the first", RUNS, RUN_FIRST, RUN_FIRST + "[::-1]", unlike=True),
+    Fault("runs by their lengths", RUNS, RUN_FIRST,
+          RUN_FIRST.replace("return runs", "return sorted(runs, key=lambda run: -run.frames)"), unlike=True),
+    Fault("a run at the end left out", RUNS, RUN_FIRST,
+          RUN_FIRST.replace("return runs", "return [run for run in runs if run.first + run.frames < first]")),
+    Fault("a run at the start left out", RUNS, RUN_FIRST,
+          RUN_FIRST.replace("return runs", "return [run for run in runs if run.first]"), unlike=True),
+    Fault("as many runs as 8 bits count", RUNS, RUN_FIRST, RUN_FIRST + "[: 2**8 - 1]"),
+    Fault("the run after the last taken", RUNS, RUN_THERE,
+          '    return case["run"] <= len(runs_of(case))'),
+    Fault("the last run not there", RUNS, RUN_THERE, '    return case["run"] + 1 < len(runs_of(case))'),
+    Fault("a run's number in 8 bits", RUNS, RUN_THERE,
+          '    return case.fields.update(run=case["run"] % 2**8) or case["run"] < len(runs_of(case))'),
+    Fault("a run's number in 16 bits", RUNS, RUN_THERE,
+          '    return case.fields.update(run=case["run"] % 2**16) or case["run"] < len(runs_of(case))'),
+    Fault("a run's number with a sign", RUNS, RUN_THERE,
+          '    return case["run"] < len(runs_of(case)) or case["run"] >= 2**31'),
+    Fault("room for the whole utterance wanted by a run", RUNS, RUN_WANTS, '    return sum(case["durations"])'),
+    Fault("room for the whole utterance wanted by a run that is not there", RUNS, RUN_WANTS,
+          RUN_WANTS.replace("else 0", 'else sum(case["durations"])')),
+    Fault("room for a frame wanted by a run that is not there", RUNS, RUN_WANTS, RUN_WANTS.replace("else 0", "else 1")),
+    Fault("room for the longest run wanted", RUNS, RUN_WANTS,
+          "    return max([run.frames for run in runs_of(case)], default=0)"),
+    Fault("room for all voiced frames wanted by a run", RUNS, RUN_WANTS,
+          "    return sum(run.frames for run in runs_of(case))"),
+    Fault("room for the first run wanted", RUNS, RUN_WANTS,
+          "    return runs_of(case)[0].frames if is_there(case) else 0"),
+    Fault("the frame after a run's last for its frames", RUNS, RUNS_TOLD,
+          RUNS_TOLD.replace("number in run]", "number in (run.first, run.first + run.frames)]")),
+    Fault("a run's last frame for its frames", RUNS, RUNS_TOLD,
+          RUNS_TOLD.replace("number in run]", "number in (run.first, run.first + run.frames - 1)]")),
+    Fault("a run's frames before its first frame", RUNS, RUNS_TOLD,
+          RUNS_TOLD.replace("number in run]", "number in run[::-1]]")),
+    Fault("all runs' first frames, then all their frames", RUNS, RUNS_TOLD,
+          RUNS_TOLD.replace("[number for run in runs for number in run]", "[number for numbers in zip(*runs) for number in numbers]")),
+    Fault("both numbers of a run counted", RUNS, RUNS_TOLD, RUNS_TOLD.replace("len(runs)}", "2 * len(runs)}")),
+    Fault("runs counted in 8 bits", RUNS, RUNS_TOLD, RUNS_TOLD.replace("len(runs)}", "len(runs) % 2**8}")),
+    Fault("voiced frames counted for runs", RUNS, RUNS_TOLD,
+          RUNS_TOLD.replace("len(runs)}", "sum(run.frames for run in runs)}")),
+    Fault("a run's numbers one a state", ALONE, FRAMES_OF_STATES,
+          FRAMES_OF_STATES.replace("range(duration)", "range(min(1, duration))"), unlike=True),
+    Fault("states of 0 frames have one, in a run's numbers", ALONE, FRAMES_OF_STATES,
+          FRAMES_OF_STATES.replace("range(duration)", "range(max(1, duration))"), unlike=True),
+    Fault("a run's numbers from one frame too far left", ALONE, OWN_OF_RUN,
+          "    return frames[max(0, run.first - 1) : max(0, run.first - 1) + run.frames]", unlike=True),
+    Fault("the frame before a run solved with it", ALONE, OWN_OF_RUN, OWN_OF_RUN.replace("[run.first", "[max(0, run.first - 1)"),
+          unlike=True),
+    Fault("the frame behind a run solved with it", ALONE, OWN_OF_RUN, OWN_OF_RUN.replace("run.frames]", "run.frames + 1]"),
+          unlike=True),
+    Fault("all frames up to a run's last solved with it", ALONE, OWN_OF_RUN, OWN_OF_RUN.replace("[run.first :", "[:"),
+          unlike=True),
+    Fault("half rounded up at a run's ends", ALONE, RUN_HALF, "    half = (len(window) + 1) // 2", unlike=True),
+    Fault("a run's ends a frame too far in", ALONE, REACHES, REACHES.replace("left <", "left <=").replace("right <", "right <="),
+          unlike=True),
+    Fault("a window as long to a run's end as to its front", ALONE, REACHES, REACHES.replace("len(window) - half - 1", "half"),
+          unlike=True),
+    Fault("inverse variances near a run's ends not zeroed", ALONE, RUN_ZEROED, "        zeroed = False", unlike=True),
+    Fault("inverse variances near a run's front not zeroed", ALONE, RUN_ZEROED,
+          RUN_ZEROED.replace("window, frame,", "window, len(window),"), unlike=True),
+    Fault("inverse variances near a run's end not zeroed", ALONE, RUN_ZEROED,
+          RUN_ZEROED.replace("last - frame", "len(window)"), unlike=True),
+    Fault("a run's left distance from 1", ALONE, RUN_ZEROED, RUN_ZEROED.replace("window, frame,", "window, frame + 1,"),
+          unlike=True),
+    Fault("a run's right distance from 1", ALONE, RUN_ZEROED, RUN_ZEROED.replace("last - frame", "last - frame + 1"),
+          unlike=True),
+    Fault("a run's distances the other way round", ALONE, RUN_ZEROED,
+          RUN_ZEROED.replace("window, frame, last - frame", "window, last - frame, frame"), unlike=True),
+    Fault("a run's first window zeroed too", ALONE, RUN_ZEROED, RUN_ZEROED.replace("not is_first and ", ""),
+          "it has one coefficient, which reaches past nothing"),
+    Fault("a run's variances not inverted", ALONE, RUN_INVERSE, "        inverse.append(0.0 if zeroed else varis[pair])",
+          unlike=True),
+    Fault("a run's variances inverted without their bounds", ALONE, RUN_INVERSE,
+          "        inverse.append(0.0 if zeroed else pairs.ieee.divide(1.0, varis[pair]))", unlike=True),
+    Fault("a run's pairs component by component", ALONE, RUN_PAIR, "        pair = len(windows) * component + number",
+          unlike=True),
+    Fault("a run's first mean for every window", ALONE, RUN_MEANS, "        means.append([mean[component] for mean, _ in frames])",
+          unlike=True),
+    Fault("a run's first component for all", ALONE, RUN_COMPONENTS, RUN_COMPONENTS.replace("frames, component)", "frames, 0)"),
+          unlike=True),
+    Fault("a run's numbers component by component", ALONE, RUN_NUMBERS,
+          "    return [number for component in components for number in component]", unlike=True),
+    Fault("a run's zeros without their sign", ALONE, RUN_NUMBERS, RUN_NUMBERS.replace("[number for", "[number + 0.0 for")),
+    Fault("the fill for a run's numbers that aren't finite", ALONE, RUN_NUMBERS,
+          RUN_NUMBERS.replace("[number for", '[number if abs(number) < float("inf") else case["fill"] for')),
+    Fault("zeros for a run's numbers that aren't finite", ALONE, RUN_NUMBERS,
+          RUN_NUMBERS.replace("[number for", '[number if abs(number) < float("inf") else 0.0 for')),
+    Fault("the run after", ALONE, RUN_ASKED, '    run = runs_of(case)[(case["run"] + 1) % len(runs_of(case))]', unlike=True),
+    Fault("the run before", ALONE, RUN_ASKED, '    run = runs_of(case)[case["run"] - 1]', unlike=True),
+    Fault("a run counted from the last", ALONE, RUN_ASKED, '    run = runs_of(case)[-1 - case["run"]]', unlike=True),
+    Fault("the longest run, whichever is asked for", ALONE, RUN_ASKED,
+          "    run = max(runs_of(case), key=lambda run: run.frames)", unlike=True),
+    Fault("the full trajectory's numbers for a run's", ALONE, RUN_ALONE,
+          RUN_ALONE.replace("numbers_of(case, own(frames_of(case), run))", FULL_AT_RUN)),
+    Fault("the full trajectory's numbers for a run's, its zeros alike", ALONE, RUN_ALONE,
+          "    alone = numbers_of(case, own(frames_of(case), run)); return {\"out\": [a if a == b == 0 else b for a, b in zip(alone, "
+          + FULL_AT_RUN + ')], "frames": run.frames}'),
+    Fault("a run's frames told as its numbers", ALONE, RUN_ALONE, RUN_ALONE.replace("run.frames}", 'run.frames * case["v"]}'),
+          unlike=True),
+    Fault("a run's frames told from its first frame on", ALONE, RUN_ALONE,
+          RUN_ALONE.replace("run.frames}", "run.first + run.frames}"), unlike=True),
+    of_runs("runs of no windows taken", REFUSALS, RUNS_1, RUNS_1.replace("not 1 <=", "not 0 <=")),
+    of_runs("runs of 5 windows taken", REFUSALS, RUNS_1, RUNS_1.replace("MAX_WINDOWS", "MAX_WINDOWS + 1")),
+    of_runs("a run's windows counted in 32 bits", REFUSALS, RUNS_1, RUNS_1.replace('case["windows"]', 'case["windows"] % 2**32')),
+    of_runs("runs of any v", REFUSALS, RUNS_3, RUNS_3.replace(" or not 1 <= v <= MAX_V", "")),
+    of_runs("runs of 4,097 states taken", REFUSALS, RUNS_3, RUNS_3.replace("MAX_STATES", "MAX_STATES + 1")),
+    of_runs("runs of 4,096 states refused", REFUSALS, RUNS_3, RUNS_3.replace("states >", "states >=")),
+    of_runs("runs of too long records taken", REFUSALS, RUNS_4, RUNS_4.replace("!=", "<")),
+    of_runs("runs of too short records taken", REFUSALS, RUNS_4, RUNS_4.replace("!=", ">")),
+    of_runs("runs of 65,536 frames refused", REFUSALS, RUNS_5 + "\n" + RUNS_6, (RUNS_5 + "\n" + RUNS_6).replace("> MAX", ">= MAX")),
+    of_runs("runs of any number of frames", REFUSALS, RUNS_5 + "\n" + RUNS_6, RUNS_6),
+    of_runs("a run's frames totalled in 32 bits", REFUSALS, RUNS_5 + "\n" + RUNS_6,
+            (RUNS_5 + "\n" + RUNS_6).replace("> MAX", "% 2**32 > MAX")),
+    of_runs("no room for runs told before their frames", REFUSALS, RUNS_5 + "\n" + RUNS_6,
+            RUNS_5.replace("MAX_FRAMES", 'MAX_FRAMES and case["runs"] >= 2') + "\n" + RUNS_6),
+    of_runs("room for one number a run", REFUSALS, RUNS_6, RUNS_6.replace("2 * len", "len")),
+    of_runs("room for one more run wanted", REFUSALS, RUNS_6, RUNS_6.replace("2 * len", "2 + 2 * len")),
+    of_runs("room for a run a state wanted", REFUSALS, RUNS_6, RUNS_6.replace("len(runs.runs_of(case))", "states")),
+    of_runs("6 before 5, for a run", REFUSALS, RUN_AS_TRAJECTORY,
+            "    whole = trajectory_checks(case)\n    return whole | {\n        5: lambda: whole[5]() and not too_short(),\n"
+            "        6: too_short,"),
+    of_runs("GV's lists looked at for a run with GV off", REFUSALS, RUN_AS_TRAJECTORY,
+            '    whole = trajectory_checks(case.with_fields(gv_on=1))\n    return whole | {\n        6: too_short,'),
+    of_runs("GV's lists not looked at for a run", REFUSALS, RUN_AS_TRAJECTORY,
+            '    whole = trajectory_checks(case.with_fields(gv_on=0))\n    return whole | {\n        6: too_short,'),
+    of_runs("20 before all others", REFUSALS, RUN_AS_TRAJECTORY,
+            RUN_AS_TRAJECTORY.replace("return", 'return {20: lambda: True} if case["gv_on"] else')),
+    of_runs("20 before 6", REFUSALS, RUN_6, RUN_6.replace("too_short", 'lambda: not case["gv_on"] and too_short()')),
+    of_runs("21 before 6", REFUSALS, RUN_6, RUN_6.replace("too_short", "lambda: runs.is_there(case) and too_short()"),
+            "a run that is not there has no frames, and nothing is too short for it"),
+    of_runs("22 before 6", REFUSALS, RUN_6, RUN_6.replace("too_short", 'lambda: case["widths"][0] == 1 and too_short()')),
+    of_runs("6 by a trajectory's rule, for a run", REFUSALS, RUN_N, '        n = sum(case["durations"])'),
+    of_runs("a run's room for a frame less", REFUSALS, RUN_N, "        n = max(0, runs.frames_asked(case) - 1)"),
+    of_runs("a run's output of a number a frame taken", REFUSALS, RUN_ROOM, RUN_ROOM.replace('n * case["v"]', "n")),
+    of_runs("a run's output unchecked", REFUSALS, RUN_ROOM, RUN_ROOM.replace('case["out"] < n * case["v"] or ', "")),
+    of_runs("a run's work space unchecked", REFUSALS, RUN_ROOM, RUN_ROOM.replace('case["work"] < n * WORK_FLOATS or ', "")),
+    of_runs("a run's marks unchecked", REFUSALS, RUN_ROOM, RUN_ROOM.replace(' or case["marks"] < n * WORK_MARKS', "")),
+    of_runs("a run with GV taken", REFUSALS, RUN_20, "        20: lambda: False,"),
+    of_runs("a run with GV taken by another number than 1", REFUSALS, RUN_20, RUN_20.replace("!= 0", "== 1")),
+    of_runs("a run with GV taken where nothing is switched", REFUSALS, RUN_20,
+            RUN_20.replace("!= 0", '!= 0 and any(case["switches"])')),
+    of_runs("21 before 20", REFUSALS, RUN_20, RUN_20.replace("!= 0", "!= 0 and runs.is_there(case)")),
+    of_runs("22 before 20", REFUSALS, RUN_20, RUN_20.replace("!= 0", '!= 0 and case["widths"][0] == 1')),
+    of_runs("22 before 21", REFUSALS, RUN_21, RUN_21.replace("not runs", 'case["widths"][0] == 1 and not runs')),
+    of_runs("no run told as 10", REFUSALS, RUN_21, RUN_21.replace("21", "10")),
+    of_runs("a run's longer first window taken", REFUSALS, RUN_22, "        22: lambda: False,"),
+    of_runs("a run's first window of two coefficients taken", REFUSALS, RUN_22, RUN_22.replace("> 1", "> 2")),
+    of_runs("a run's longer first window taken where all of it but one is 0", REFUSALS, RUN_22,
+            '        22: lambda: sum(tap != 0 for tap in case["coefficients"][: case["widths"][0]]) > 1,'),
+    of_runs("22 for any longer window", REFUSALS, RUN_22, RUN_22.replace('case["widths"][0]', 'max(case["widths"])')),
+    of_runs("zeros behind the runs", EXITS, RUNS_LEFT,
+            RUNS_LEFT.replace('written_u32(values["runs"], case["runs"])',
+                              'values["runs"] + [0] * (case["runs"] - len(values["runs"]))')),
+    of_runs("no runs not counted", EXITS, RUNS_LEFT, RUNS_LEFT.replace('values["count"]}', 'values["count"] or UNTOUCHED_U32}')),
+    of_runs("a run's work space left as it was", EXITS, RUN_WORK_LEFT, '        "work": marked_f64(0, case["work"]),'),
+    of_runs("a run's work space zeroed whole", EXITS, RUN_WORK_LEFT, '        "work": [0.0] * case["work"],'),
+    of_runs("a run's work space zeroed for the utterance", EXITS, RUN_WORK_LEFT,
+            RUN_WORK_LEFT.replace("n * WORK_FLOATS", 'min(case["work"], sum(case["durations"]) * WORK_FLOATS)')),
+    of_runs("a run's marks left as they were", EXITS, RUN_MARKS_LEFT, '        "marks": marked_u32(0, case["marks"]),'),
+    of_runs("a run's marks zeroed whole", EXITS, RUN_MARKS_LEFT, '        "marks": [0] * case["marks"],'),
+    of_runs("the utterance's frames told for a run's", EXITS, RUN_FRAMES_LEFT, '        "frames": sum(case["durations"]),',
+            unlike=True),
+    of_runs("a run's frames not told", EXITS, RUN_FRAMES_LEFT, '        "frames": UNTOUCHED_U32,', unlike=True),
+    of_runs("a refused run's frames told as 0", EXITS, LEFT,
+            LEFT + ' | ({"frames": 0} if case.kind == "run" and refusal >= 20 else {})'),
+    of_runs("a run's frames told as 0 with 6", EXITS, LEFT,
+            LEFT + ' | ({"frames": 0} if case.kind == "run" and refusal == 6 else {})'),
+    of_runs("refused runs counted as none", EXITS, LEFT,
+            LEFT + ' | ({"count": 0} if case.kind == "runs" and refusal == 6 else {})'),
+    of_runs("a refused run's work space zeroed", EXITS, LEFT,
+            LEFT + ' | ({"work": [0.0] * case["work"]} if case.kind == "run" and refusal >= 20 else {})'),
+    of_runs("a refused run's output filled", EXITS, LEFT,
+            LEFT + ' | ({"out": [case["fill"]] * case["out"]} if case.kind == "run" and refusal == 21 else {})'),
 ]

@@ -64,6 +64,11 @@ STORE_EXIT = [("refusals", "u32s"), ("got", "u64s"), ("held", "u32s"), ("written
 # pointers; of the write its value and list.
 WORDS_EXIT = [("refusals", "u32s"), ("spans", "u32s"), ("milliseconds", "u32s"), ("sounding", "u32s")]
 WORDS_EXIT += [("firsts", "u64s"), ("counts", "u64s"), ("written", "u64"), ("out", "u8s")]
+# What a trajectory is worked out from, and one of its runs too.
+STREAM = [("v", "u32"), ("masked", "u32"), ("threshold", "f64"), ("fill", "f64"), ("gv_on", "u32"), ("gv_weight", "f64")]
+STREAM += [*WINDOWS, ("records", "f64s"), ("durations", "u32s"), ("gv", "f64s"), ("switches", "u8s")]
+STREAM_ROOM = [("out", ROOM), ("work", ROOM), ("marks", ROOM)]
+STREAM_EXIT = [("out", "f64s"), ("work", "f64s"), ("marks", "u32s")]
 TIMING_EXIT = [REFUSAL, ("spans", "u32s"), ("words", "u32")]
 
 KINDS = {
@@ -106,12 +111,9 @@ KINDS = {
     ),
     "trajectory": Kind(
         8,
-        [("v", "u32"), ("masked", "u32"), ("threshold", "f64"), ("fill", "f64")]
-        + [("gv_on", "u32"), ("gv_weight", "f64"), *WINDOWS, ("records", "f64s")]
-        + [("durations", "u32s"), ("gv", "f64s"), ("switches", "u8s")]
-        + [("out", ROOM), ("work", ROOM), ("marks", ROOM)],
+        [*STREAM, *STREAM_ROOM],
         [("out", "f64s"), *CLAMPED],
-        [REFUSAL, ("out", "f64s"), ("work", "f64s"), ("marks", "u32s"), *CLAMPED],
+        [REFUSAL, *STREAM_EXIT, *CLAMPED],
     ),
     "place": Kind(
         9,
@@ -169,6 +171,21 @@ KINDS = {
     "timing_file": Kind(17, [("bytes", "u8s"), ("spans", ROOM)], TIMING_EXIT, TIMING_EXIT),
     # An alignment whose totals are held to the claim that they don't drift, too.
     "chapter": Kind(18, ALIGNED, ALIGNED_VALUES, ALIGNED_EXIT),
+    # Two numbers a voiced run: its first frame and its frames.
+    "runs": Kind(
+        19,
+        [("v", "u32"), ("masked", "u32"), ("threshold", "f64"), ("windows", "u64")]
+        + [("records", "f64s"), ("durations", "u32s"), ("runs", ROOM)],
+        [("runs", "u32s"), ("count", "u32")],
+        [REFUSAL, ("runs", "u32s"), ("count", "u32")],
+    ),
+    # One of them alone; every run of the stream is held to the full trajectory, too.
+    "run": Kind(
+        20,
+        [*STREAM, ("run", "u32"), *STREAM_ROOM],
+        [("out", "f64s"), ("frames", "u32")],
+        [REFUSAL, *STREAM_EXIT, ("frames", "u32")],
+    ),
 }
 
 ALIGNMENTS = ("align", "chapter")

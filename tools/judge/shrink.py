@@ -7,8 +7,9 @@ from functools import partial
 from .broken_jobs import COUNT_AT, SPEED_AT, VERSION_AT, count_of, put, put_number, state_size, version_of
 from .broken_timing import numbers_of, packed, put_long
 from .formats import END, KINDS, PART, ROOM, Case, LinkCall, StoreCall, link_calls, link_case, store_calls, store_case
-from .reading import settings, words
+from .reading import runs, settings, words
 from .reading.jobs import FIRST_VERSION, HEAD, PAIR, SHORTEST_VERSION
+from .reading.refusals import MAX_WINDOWS
 
 # Which lists hold one number a state, so that a state leaves them all at once.
 STATE_LISTS = ("means", "varis", "shortest", "weights", "durations", "switches")
@@ -93,11 +94,22 @@ def narrower_trajectory(case: Case) -> Iterator[Case]:
         yield case.with_fields(v=v - 1, gv=gv, records=records(lambda _, component: component != gone))
 
 
+def narrower_runs(case: Case) -> Iterator[Case]:
+    """One window and one component, each record with its first pair and its weight."""
+    states, size = len(case["durations"]), runs.record_size(case)
+    if size > 3 and len(case["records"]) == states * size:
+        weight = [size - 1] if case["masked"] else []
+        records = [case["records"][state * size + place] for state in range(states) for place in [0, size // 2, *weight]]
+        yield case.with_fields(windows=1, v=1, records=records)
+
+
 def narrower(case: Case) -> Iterator[Case]:
     if case.kind == "band" and case["widths"]:
         yield from narrower_band(case)
-    if case.kind == "trajectory":
+    if case.kind in ("trajectory", "run"):
         yield from narrower_trajectory(case)
+    if case.kind == "runs" and 1 <= case["windows"] <= MAX_WINDOWS:
+        yield from narrower_runs(case)
 
 
 def shorter_lists(case: Case) -> Iterator[Case]:
@@ -111,7 +123,7 @@ def shorter_lists(case: Case) -> Iterator[Case]:
 def smaller_numbers(case: Case) -> Iterator[Case]:
     for name, form in KINDS[case.kind].inputs:
         value = case[name]
-        if form in ("u32", ROOM):
+        if form in ("u32", "u64", ROOM):
             yield from (case.with_fields(**{name: less}) for less in smaller_wholes(value))
         elif form == "f64":
             yield from (case.with_fields(**{name: simple}) for simple in simpler(value))

@@ -5,7 +5,7 @@ from random import Random
 
 from .. import damage
 from ..formats import Case
-from . import chapters, durations, links, operations, settings, shortest, spool, trajectories, words
+from . import chapters, durations, links, operations, runs, settings, shortest, spool, trajectories, words
 from .common import with_odd_nan
 
 GENERATORS: dict[str, Callable[[Random, bool], Case]] = {
@@ -28,6 +28,8 @@ GENERATORS: dict[str, Callable[[Random, bool], Case]] = {
     "words": words.words_case,
     "timing_file": words.timing_case,
     "chapter": chapters.chapter_case,
+    "runs": runs.runs_case,
+    "run": runs.run_case,
 }
 
 # Fits with many steps to take and many ties.

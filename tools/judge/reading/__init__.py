@@ -5,7 +5,7 @@
 """
 
 from ..formats import Case, Fields
-from . import durations, exits, ieee, jobs, links, pairs, places, refusals, settings, trajectory, words
+from . import alone, durations, exits, ieee, jobs, links, pairs, places, refusals, runs, settings, trajectory, words
 from .durations import Refused
 
 at_exit = exits.at_exit
@@ -30,6 +30,8 @@ ANSWERS = {
     "words": words.words_values,
     "timing_file": words.timing_values,
     "chapter": durations.align_values,
+    "runs": runs.runs_values,
+    "run": alone.run_values,
 }
 
 

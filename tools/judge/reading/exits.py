@@ -63,6 +63,21 @@ def trajectory_exit(case: Case, values: Fields) -> Fields:
     }
 
 
+def runs_exit(case: Case, values: Fields) -> Fields:
+    return {"runs": written_u32(values["runs"], case["runs"]), "count": values["count"]}
+
+
+def run_exit(case: Case, values: Fields) -> Fields:
+    """The run's own frames decide, not the utterance's."""
+    n = values["frames"]
+    return {
+        "out": written_f64(values["out"], case["out"]),
+        "work": written_f64([0.0] * (n * WORK_FLOATS), case["work"]),
+        "marks": written_u32([0] * (n * WORK_MARKS), case["marks"]),
+        "frames": n,
+    }
+
+
 def separate(values: Fields) -> Iterator[Fields]:
     """Each job's values, of a link's."""
     first = 0
@@ -97,6 +112,8 @@ EXITS = {
     "job": duration_exit,
     "old_number": lambda case, values: values,
     "chapter": duration_exit,
+    "runs": runs_exit,
+    "run": run_exit,
 }
 
 

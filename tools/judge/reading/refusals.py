@@ -4,7 +4,7 @@ import math
 from collections.abc import Callable
 
 from ..formats import Case
-from . import jobs
+from . import jobs, runs
 from .ieee import MAX_FRAMES
 
 MAX_WINDOWS = 4
@@ -116,6 +116,32 @@ def trajectory_checks(case: Case) -> Checks:
     }
 
 
+def runs_checks(case: Case) -> Checks:
+    states, v = len(case["durations"]), case["v"]
+    return {
+        1: lambda: not 1 <= case["windows"] <= MAX_WINDOWS,
+        3: lambda: states > MAX_STATES or not 1 <= v <= MAX_V,
+        4: lambda: len(case["records"]) != states * runs.record_size(case),
+        5: lambda: sum(case["durations"]) > MAX_FRAMES,
+        6: lambda: case["runs"] < 2 * len(runs.runs_of(case)),
+    }
+
+
+def run_checks(case: Case) -> Checks:
+    """A trajectory's up to 5; the lists that are lent are as long as the run that is asked for wants them."""
+
+    def too_short() -> bool:
+        n = runs.frames_asked(case)
+        return case["out"] < n * case["v"] or case["work"] < n * WORK_FLOATS or case["marks"] < n * WORK_MARKS
+
+    return trajectory_checks(case) | {
+        6: too_short,
+        20: lambda: case["gv_on"] != 0,
+        21: lambda: not runs.is_there(case),
+        22: lambda: case["widths"][0] > 1,
+    }
+
+
 def place_checks(case: Case) -> Checks:
     return {
         3: lambda: not 1 <= case["v"] <= MAX_V,
@@ -152,6 +178,8 @@ CHECKS: dict[str, Callable[[Case], Checks]] = {
     "mask": mask_checks,
     "band": band_checks,
     "trajectory": trajectory_checks,
+    "runs": runs_checks,
+    "run": run_checks,
     "place": place_checks,
     "excerpt": excerpt_checks,
     "job": job_checks,
