@@ -100,6 +100,9 @@ enum hejmirov_refusal {
     HEJMIROV_STORE_FULL = 17,         /* a store with no place for one more voice */
     HEJMIROV_SETTINGS_MALFORMED = 18, /* settings file's mark or length is wrong */
     HEJMIROV_VOICE_NOT_HELD = 19,     /* a voice that the store doesn't hold */
+    HEJMIROV_RUN_WITH_GV = 20,        /* one run alone, with global variance on */
+    HEJMIROV_NO_SUCH_RUN = 21,        /* no run of that number */
+    HEJMIROV_RUN_FIRST_WINDOW = 22,   /* one run alone, with a first window longer than one */
 
     /* The old number of 9, 12, 13 and 14: see hejmirov_job_old_number. */
     HEJMIROV_JOB_DAMAGED = 9
@@ -128,6 +131,9 @@ static inline const char *hejmirov_refusal_text(uint32_t refusal) {
     case HEJMIROV_STORE_FULL: return "a store with no place for one more voice";
     case HEJMIROV_SETTINGS_MALFORMED: return "settings file's mark or length is wrong";
     case HEJMIROV_VOICE_NOT_HELD: return "a voice that the store doesn't hold";
+    case HEJMIROV_RUN_WITH_GV: return "one run alone, with global variance on";
+    case HEJMIROV_NO_SUCH_RUN: return "no run of that number";
+    case HEJMIROV_RUN_FIRST_WINDOW: return "one run alone, with a first window longer than one";
     default: return "a refusal that this header doesn't know";
     }
 }
@@ -362,6 +368,76 @@ uint32_t hejmirov_trajectory(uint32_t v,
                              uint32_t *marks, size_t n_marks,
                              uint32_t *clamped_high,
                              uint32_t *clamped_low);
+
+/* The voiced runs of a stream: how many there are, and where each lies, so that a frame that a
+ * listener names finds its run. A run is a stretch of voiced frames without a gap, as long as can
+ * be; the runs are numbered from 0 in the order of their frames. A state of 0 frames has none, and
+ * separates nothing.
+ *
+ *   v, masked, threshold, records, durations   as for hejmirov_trajectory
+ *   windows        how many windows the records are for: n_widths there
+ *   runs           afterwards two numbers a run, its first frame and its number of frames, run k's
+ *                  at 2 x k; no stream has more runs than states, so 2 x n_durations are enough
+ *   count          afterwards how many runs there are
+ *
+ * Of a record only the weight is read. Frame f is run k's where runs[2k] <= f and f is below
+ * runs[2k] + runs[2k + 1]; a frame that is in no run is unvoiced.
+ *
+ * Refused with 1: windows is not 1 to 4. 3: n_durations above 4,096, or v out of range. 4:
+ * n_records is not n_durations x (2 x windows x v, and 1 more where masked). 5: the durations total
+ * above 65,536. 6: n_runs below 2 x the number of runs.
+ */
+uint32_t hejmirov_runs(uint32_t v,
+                       uint32_t masked,
+                       double threshold,
+                       size_t windows,
+                       const double *records, size_t n_records,
+                       const uint32_t *durations, size_t n_durations,
+                       uint32_t *runs, size_t n_runs,
+                       uint32_t *count);
+
+/* One voiced run of a stream alone: its part of the trajectory, from its own states' records. The
+ * other runs' records are not read but for their weights, so its time grows with the run and with
+ * the number of states, and not with the frames of the utterance.
+ *
+ *   v .. switches  as for hejmirov_trajectory; fill is not used, all frames of a run being voiced
+ *   run            the number of the run, as hejmirov_runs counts them
+ *   out            afterwards n x v numbers, where n is the run's number of frames: component c of
+ *                  its frame t at t x v + c
+ *   work           n x 48 numbers; afterwards n x 48 zeros
+ *   marks          n x 4 numbers; afterwards n x 4 zeros
+ *   frames         afterwards n
+ *
+ * They are the numbers that hejmirov_trajectory gives for these frames, +0 and -0 being the same,
+ * where all of this holds, of every run and not of this one alone: the means of the voiced states
+ * are finite; the numbers of each run, by this call, are finite, and none at its last frame is a
+ * zero; where every window has one coefficient, none at any frame. Elsewhere, where a divisor is
+ * zero or infinite or a number is not finite, they are what solving the run by itself gives, and
+ * nothing is said of the full trajectory's: there a run's infinity or NaN can reach the runs beside
+ * it.
+ *
+ * Refused with 1 to 5: as hejmirov_trajectory. 6: n_out below n x v, n_work below n x 48, or
+ * n_marks below n x 4, where n is 0 for a run that is not there. 20: gv_on, since global variance
+ * joins all runs. 21: there is no run of that number. 22: the first window has more than one
+ * coefficient, and so reaches over the ends of runs.
+ */
+uint32_t hejmirov_run(uint32_t v,
+                      uint32_t masked,
+                      double threshold,
+                      double fill,
+                      uint32_t gv_on,
+                      double gv_weight,
+                      const uint32_t *widths, size_t n_widths,
+                      const double *coefficients, size_t n_coefficients,
+                      const double *records, size_t n_records,
+                      const uint32_t *durations, size_t n_durations,
+                      const double *gv, size_t n_gv,
+                      const uint8_t *switches, size_t n_switches,
+                      uint32_t run,
+                      double *out, size_t n_out,
+                      double *work, size_t n_work,
+                      uint32_t *marks, size_t n_marks,
+                      uint32_t *frames);
 
 /* The byte place of one number in the spool, a file of frames of v doubles each.
  *

@@ -3,6 +3,7 @@
 
 mod durations;
 mod links;
+mod runs;
 mod settings;
 mod shortest;
 mod trajectories;
@@ -78,13 +79,14 @@ type Group = (&'static str, &'static str, fn());
 
 const BOTH: &str = "Rust | Hejmirov | times as fast";
 const PLAIN: &str = "plain Rust | Hejmirov | times as fast";
-const GROUPS: [Group; 9] = [
+const GROUPS: [Group; 10] = [
     ("durations", BOTH, durations::run),
     ("alignments", BOTH, durations::alignments),
     ("shortest", PLAIN, shortest::run),
     ("trajectories", BOTH, trajectories::run),
     ("growth", BOTH, trajectories::growth),
     ("largest", BOTH, trajectories::largest),
+    ("runs", BOTH, runs::run),
     ("links", "as a file | over a link | of that a part", links::run),
     ("settings", PLAIN, settings::run),
     ("words", PLAIN, words::run),

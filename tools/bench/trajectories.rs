@@ -22,43 +22,54 @@ unsafe extern "C" {
 /// As on a real voice: a state lasts five frames, and one in five of a masked stream is unvoiced.
 const FRAMES_A_STATE: usize = 5;
 
-const THRESHOLD: f64 = 0.5;
+pub const THRESHOLD: f64 = 0.5;
 
-const FILL: f64 = -1e10;
+pub const FILL: f64 = -1e10;
 
 /// Static, velocity and acceleration, as voices have them.
 const USUAL: [&[f64]; 3] = [&[1.0], &[-0.5, 0.0, 0.5], &[1.0, -2.0, 1.0]];
 
 /// What a stream is made of.
 #[derive(Clone)]
-struct Shape {
-    v: usize,
-    frames: usize,
-    windows: Vec<Vec<f64>>,
-    masked: bool,
-    gv: bool,
+pub struct Shape {
+    pub v: usize,
+    pub frames: usize,
+    pub windows: Vec<Vec<f64>>,
+    pub masked: bool,
+    pub gv: bool,
 }
 
 impl Shape {
-    fn usual(v: usize, frames: usize, gv: bool) -> Self {
+    pub fn usual(v: usize, frames: usize, gv: bool) -> Self {
         Self { v, frames, windows: USUAL.iter().map(|window| window.to_vec()).collect(), masked: false, gv }
+    }
+
+    /// A state's means, variances and, where the stream is masked, its voicing weight.
+    pub fn record(&self, inputs: &mut Inputs, voiced: bool) -> Vec<f64> {
+        let pairs = self.v * self.windows.len();
+        let mut record: Vec<f64> = (0..pairs).map(|_| inputs.between(-2.0, 2.0)).collect();
+        record.extend((0..pairs).map(|_| inputs.between(0.05, 1.0)));
+        if self.masked {
+            record.push(f64::from(voiced));
+        }
+        record
     }
 }
 
 /// A stream as both sides take it, with room for our answer.
-struct Utterance {
-    shape: Shape,
+pub struct Utterance {
+    pub shape: Shape,
     windows: Windows,
-    records: Vec<f64>,
-    durations: Vec<usize>,
+    pub records: Vec<f64>,
+    pub durations: Vec<usize>,
     gv: Vec<f64>,
     switches: Vec<u8>,
-    widths: Vec<u32>,
-    coefficients: Vec<f64>,
-    lengths: Vec<u32>,
-    out: Vec<f64>,
-    work: Vec<f64>,
-    marks: Vec<u32>,
+    pub widths: Vec<u32>,
+    pub coefficients: Vec<f64>,
+    pub lengths: Vec<u32>,
+    pub out: Vec<f64>,
+    pub work: Vec<f64>,
+    pub marks: Vec<u32>,
 }
 
 impl Utterance {
@@ -68,18 +79,15 @@ impl Utterance {
         let states = (shape.frames / FRAMES_A_STATE).clamp(1, 4_096);
         let (each, more) = (shape.frames / states, shape.frames % states);
         let durations: Vec<usize> = (0..states).map(|state| each + usize::from(state < more)).collect();
-        let pairs = shape.v * shape.windows.len();
-        let mut records = Vec::new();
-        for state in 0..states {
-            records.extend((0..pairs).map(|_| inputs.between(-2.0, 2.0)));
-            records.extend((0..pairs).map(|_| inputs.between(0.05, 1.0)));
-            if shape.masked {
-                records.push(if state % 5 == 4 { 0.0 } else { 1.0 });
-            }
-        }
+        let records = (0..states).flat_map(|state| shape.record(&mut inputs, state % 5 != 4)).collect();
         let mut gv: Vec<f64> = (0..shape.v).map(|_| inputs.between(0.5, 1.5)).collect();
         gv.extend((0..shape.v).map(|_| inputs.between(1.0, 20.0)));
-        let (frames, v) = (shape.frames, shape.v);
+        Self::of(shape, records, durations, gv)
+    }
+
+    /// That of given states.
+    pub fn of(shape: Shape, records: Vec<f64>, durations: Vec<usize>, gv: Vec<f64>) -> Self {
+        let (states, frames, v) = (durations.len(), shape.frames, shape.v);
         Self {
             windows: Windows::new(shape.windows.iter().cloned().map(Window::new).collect()),
             widths: shape.windows.iter().map(|window| window.len() as u32).collect(),
@@ -97,7 +105,7 @@ impl Utterance {
     }
 
     /// The Rust's own form of the stream, which it is handed as voices give it.
-    fn adjust(&self) -> MlpgAdjust<'_> {
+    pub fn adjust(&self) -> MlpgAdjust<'_> {
         let pairs = self.shape.v * self.shape.windows.len();
         let pairs_of = |numbers: &[f64], count: usize| -> Vec<MeanVari> {
             numbers[..count].iter().zip(&numbers[count..]).map(|(&mean, &vari)| MeanVari(mean, vari)).collect()
@@ -114,7 +122,7 @@ impl Utterance {
         MlpgAdjust::new(1.0, THRESHOLD, ModelStream { vector_length: self.shape.v, stream, gv, windows: &self.windows })
     }
 
-    fn render(&mut self) {
+    pub fn render(&mut self) {
         let shape = &self.shape;
         let (mut high, mut low) = (1, 1);
         // Every list comes with its own length and outlives the call; so do both counts.

@@ -181,7 +181,7 @@ fn file(words: u32) -> Vec<u8> {
 }
 
 /// Short calls are timed many at once, so that reading the clock doesn't count.
-fn timed(what: &str, rounds: u32, mut plain: impl FnMut(), mut ours: impl FnMut()) {
+pub fn timed(what: &str, rounds: u32, mut plain: impl FnMut(), mut ours: impl FnMut()) {
     let (first, second) = least_times(|side| {
         for _ in 0..rounds {
             match side {

@@ -8,6 +8,7 @@
 //! | [`mask`] | which frames are voiced, and how far each is from the ends of its run |
 //! | [`band_rows`] | the equations of one component, before they are solved |
 //! | [`Stream::trajectory`] | a stream's numbers, frame after frame, and how many of its pairs were clamped |
+//! | [`Stream::runs`], [`Stream::run`] | where the voiced runs of a stream lie, and the numbers of one of them alone |
 //! | [`place`], [`excerpt`] | where a number stands in the spool, and a state's part of a trajectory |
 //! | [`Store`] | voices' settings by the voice's number, and the file of them |
 //! | [`words_spans`], [`words_milliseconds`] | when each word of an utterance sounds, in frames and in milliseconds |
@@ -37,6 +38,7 @@
 mod durations;
 mod link;
 mod refusal;
+mod runs;
 mod settings;
 mod spool;
 mod sys;
@@ -48,6 +50,7 @@ pub use durations::{
 };
 pub use link::{Link, link_begin, link_end_into, link_part};
 pub use refusal::{Damage, Refusal, WordsRefusal};
+pub use runs::Run;
 pub use settings::{
     Settings, Store, settings_clear, settings_count, settings_get, settings_read, settings_remove,
     settings_set, settings_write_into,

@@ -68,6 +68,12 @@ pub enum Refusal {
     SettingsMalformed,
     /// 19: a voice that the store doesn't hold.
     VoiceNotHeld,
+    /// 20: one run alone, with global variance on.
+    RunWithGv,
+    /// 21: no run of that number.
+    NoSuchRun,
+    /// 22: one run alone, with a first window longer than one.
+    RunFirstWindow,
     /// A number that these bindings don't know, of a newer library.
     Unknown(u32),
 }
@@ -93,6 +99,9 @@ impl Refusal {
             Refusal::StoreFull => 17,
             Refusal::SettingsMalformed => 18,
             Refusal::VoiceNotHeld => 19,
+            Refusal::RunWithGv => 20,
+            Refusal::NoSuchRun => 21,
+            Refusal::RunFirstWindow => 22,
             Refusal::Unknown(number) => number,
         }
     }
@@ -132,6 +141,9 @@ impl Refusal {
             17 => Refusal::StoreFull,
             18 => Refusal::SettingsMalformed,
             19 => Refusal::VoiceNotHeld,
+            20 => Refusal::RunWithGv,
+            21 => Refusal::NoSuchRun,
+            22 => Refusal::RunFirstWindow,
             other => Refusal::Unknown(other),
         }
     }
@@ -154,6 +166,9 @@ impl Refusal {
             Refusal::StoreFull => "a store with no place for one more voice",
             Refusal::SettingsMalformed => "settings file's mark or length is wrong",
             Refusal::VoiceNotHeld => "a voice that the store doesn't hold",
+            Refusal::RunWithGv => "one run alone, with global variance on",
+            Refusal::NoSuchRun => "no run of that number",
+            Refusal::RunFirstWindow => "one run alone, with a first window longer than one",
             Refusal::Unknown(_) => "a refusal that these bindings don't know",
         }
     }
@@ -359,7 +374,7 @@ mod tests {
 
     #[test]
     fn every_number_comes_back() {
-        for number in 1..=20 {
+        for number in 1..=23 {
             assert_eq!(Refusal::of(number).number(), number);
             assert_eq!(Refusal::or_at(number, 5, ()).unwrap_err().number(), number);
         }
@@ -371,7 +386,10 @@ mod tests {
             (17, Refusal::StoreFull),
             (18, Refusal::SettingsMalformed),
             (19, Refusal::VoiceNotHeld),
-            (20, Refusal::Unknown(20)),
+            (20, Refusal::RunWithGv),
+            (21, Refusal::NoSuchRun),
+            (22, Refusal::RunFirstWindow),
+            (23, Refusal::Unknown(23)),
         ] {
             assert_eq!(Refusal::or(number, ()), Err(refusal));
         }

@@ -108,6 +108,49 @@ unsafe extern "C" {
         clamped_low: *mut u32,
     ) -> u32;
 
+    pub fn hejmirov_runs(
+        v: u32,
+        masked: u32,
+        threshold: f64,
+        windows: usize,
+        records: *const f64,
+        n_records: usize,
+        durations: *const u32,
+        n_durations: usize,
+        runs: *mut u32,
+        n_runs: usize,
+        count: *mut u32,
+    ) -> u32;
+
+    pub fn hejmirov_run(
+        v: u32,
+        masked: u32,
+        threshold: f64,
+        fill: f64,
+        gv_on: u32,
+        gv_weight: f64,
+        widths: *const u32,
+        n_widths: usize,
+        coefficients: *const f64,
+        n_coefficients: usize,
+        records: *const f64,
+        n_records: usize,
+        durations: *const u32,
+        n_durations: usize,
+        gv: *const f64,
+        n_gv: usize,
+        switches: *const u8,
+        n_switches: usize,
+        run: u32,
+        out: *mut f64,
+        n_out: usize,
+        work: *mut f64,
+        n_work: usize,
+        marks: *mut u32,
+        n_marks: usize,
+        frames: *mut u32,
+    ) -> u32;
+
     pub fn hejmirov_place(frame: u32, component: u32, v: u32, place: *mut u64) -> u32;
 
     pub fn hejmirov_excerpt(

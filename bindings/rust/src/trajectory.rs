@@ -260,6 +260,15 @@ pub struct GlobalVariance<'a> {
     pub switches: &'a [bool],
 }
 
+impl GlobalVariance<'_> {
+    /// What a call is handed where it is off, and doesn't look at.
+    pub(crate) const OFF: Self = GlobalVariance {
+        weight: 0.0,
+        pairs: &[],
+        switches: &[],
+    };
+}
+
 /// What a stream's trajectory is worked out with, but for its states.
 ///
 /// ```
@@ -406,12 +415,7 @@ impl Stream<'_> {
         work: &mut [f64],
         marks: &mut [u32],
     ) -> Result<Clamped, Refusal> {
-        let off = GlobalVariance {
-            weight: 0.0,
-            pairs: &[],
-            switches: &[],
-        };
-        let gv = self.gv.unwrap_or(off);
+        let gv = self.gv.unwrap_or(GlobalVariance::OFF);
         let mut clamped = Clamped::default();
         // SAFETY: each pointer and length are those of one slice, and the written ones are borrowed
         // alone; a `bool` is a byte of 0 or 1; the last two pointers are to numbers of our own.

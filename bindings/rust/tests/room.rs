@@ -94,6 +94,10 @@ fn frames() {
         let trajectory = stream.trajectory(&records, &durations);
         accepted += u32::from(trajectory.is_ok());
         has_room(trajectory);
+        has_room(stream.runs(&records, &durations));
+        for number in [0, 1, seed.size()] {
+            has_room(stream.run(&records, &durations, number));
+        }
     }
     assert!(accepted > 100, "{accepted} accepted");
 }
@@ -125,6 +129,11 @@ fn values_of_any_fields() {
     assert_eq!(stream.record_len() as u64, 10 * most + 1);
     assert_eq!(
         stream.trajectory(&[], &[u32::MAX]),
+        Err(Refusal::BadWindows)
+    );
+    assert_eq!(stream.runs(&[], &[u32::MAX]), Err(Refusal::BadWindows));
+    assert_eq!(
+        stream.run(&[], &[u32::MAX], u32::MAX),
         Err(Refusal::BadWindows)
     );
 

@@ -1,20 +1,25 @@
 -- Laws of the paper's terms: which frames have none, and what a frame's taps add to a row.
-use mathlib.Core.Path.{_≡_, refl, sym, _∙_}
-use mathlib.Core.Bool.{Bool, true, false, cond}
+use mathlib.Core.Path.{_≡_, refl, sym, ap, _∙_}
+use mathlib.Core.Bool.{Bool, true, false, cond, true≢false}
 use mathlib.Core.List.{List, [], _∷_, _++_}
 use mathlib.Core.Logic.{⊎-elim}
 use Prim.Native.Nat.{ℕ, zero, suc, _+_, _-_, _/_, _<_, _≤_, min}
 use native.Mathlib.Omega.{arith}
 use borrow.Author.Tests.{lt-ltb, le-ltb}
-use lib.Dec.{ltb}
+use lib.Dec.{T, ltb}
 use lib.ListN.{length, getD, set, drop, length-take, length-drop, List·getD-eq-default}
 use lib.Seq.{getD-take, getD-drop}
 use lib.Ieee.{Float, nan, binary64, ofBits, add, mul, eq}
+use lib.Ieee.Scale.{finite}
 use Rattle.lists.specs.Build.{build, over}
+use Rattle.lists.proofs.Flags.{either}
 use Rattle.lists.proofs.Orders.{over-idle}
 use Rattle.lists.proofs.Fills.{build-length, build-next, build-read}
 use Rattle.lists.proofs.Numbers.{le-or-lt}
 use Rattle.floats.specs.Numbers.{nought}
+use Rattle.floats.proofs.Signs.{nought-zero, zero-finite}
+use Rattle.model.specs.Windows.{allFinite}
+use Rattle.model.proofs.Windows.{finite-part}
 use Rattle.region.specs.Rows.{elem}
 use Rattle.lists.specs.Parts.{part}
 use Rattle.band.specs.Paper.{W, plusTerm, term, rightTerm}
@@ -106,6 +111,37 @@ module _ (taps : List Float) where
   pub W-short : (t f : ℕ) → f ≤ t + half → length taps ≤ t + half - f → W taps f t ≡ nought
   unfolding W
   W-short t f l b = rw (le-ltb (t + half) f l, List·getD-eq-default taps nought b)
+
+  -- n frames and n columns further on it is the same
+  pub W-further : (n f t : ℕ) → W taps (n + f) (n + t) ≡ W taps f t
+  unfolding W
+  W-further n f t =
+      let e : n + t + half - (n + f) ≡ t + half - f = omega arith in
+      ⊎-elim
+      (λ (l : f ≤ t + half). rw (le-ltb (n + t + half) (n + f) (omega arith), le-ltb (t + half) f l, e))
+      (λ (l : t + half < f). rw (lt-ltb (n + t + half) (n + f) (omega arith), lt-ltb (t + half) f l))
+      (le-or-lt f (t + half))
+
+  -- row t has one for frame f only where the taps reach so far
+  module _ (t f : ℕ) (some : eq (W taps f t) nought ≡ false) where
+    present : W taps f t ≡ nought → ⊥
+    present e = true≢false (sym eq-nought ∙ ap (λ (c : Float). eq c nought) (sym e) ∙ some)
+
+    pub reached-back : f ≤ t + length taps / 2
+    reached-back = ⊎-elim (λ (l : f ≤ t + half). l) (λ (l : t + half < f). absurd (present (W-beyond t f l))) (le-or-lt f (t + half))
+
+    pub reached-on : t + length taps / 2 < f + length taps
+    reached-on = ⊎-elim
+        (λ (l : length taps ≤ t + half - f). absurd (present (W-short t f reached-back l)))
+        (λ (l : t + half - f < length taps). omega (arith, reached-back))
+        (le-or-lt (length taps) (t + half - f))
+
+-- it is finite where the numbers are of which the taps are some
+pub finite-W : (xs : List Float) (a w f t : ℕ) → allFinite xs ≡ true → T (finite (W (part a w xs) f t))
+unfolding W
+finite-W xs a w f t h =
+    let taps : List Float = part a w xs in
+    either (λ c. T (finite c)) (ltb (t + half taps) f) nought _ (zero-finite nought nought-zero) (finite-part xs a w (t + half taps - f) h)
 
 -- a part's number, where the part has all that the list has
 pub part-read : (xs : List Float) (k m j : ℕ) (z : Float) → (m ≤ j → length xs ≤ k + j) → getD (part k m xs) j z ≡ getD xs (k + j) z

@@ -8,6 +8,7 @@ pub mod Below
 pub mod Whole
 pub mod Squares
 pub mod Unique
+pub mod Signs
 pub mod Roots
 pub mod Claims
 pub mod Closest

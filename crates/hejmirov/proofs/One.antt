@@ -25,6 +25,8 @@ use Rattle.settings.proofs.Holding.{count-one}
 use Rattle.settings.proofs.Writing.{write-one}
 use Rattle.read_along.specs.Promise.{countedAs, writtenAs, partedAs}
 use Rattle.read_along.proofs.One as words
+use Rattle.runs.proofs.One.{runs-one, run-one}
+use Rattle.hejmirov.specs.Runs.{RunsCallSays, RunCallSays}
 use Rattle.hejmirov.specs.Words.{WordsSpansCallSays, WordsMillisecondsCallSays, WordsAtCallSays, WordsExcerptCallSays, WordsWriteCallSays, WordsReadCallSays}
 use Rattle.hejmirov.specs.Settings.{bitsOf, gotNumber, handedFloat, SettingsClearCallSays, SettingsSetCallSays, SettingsGetCallSays, SettingsRemoveCallSays, SettingsCountCallSays, SettingsReadCallSays, SettingsWriteCallSays}
 use Rattle.hejmirov.specs.Promise.{handed, HandsOne, HandsTwo, HandsThree, HandsJob, streamOf, FitCallSays, SpeedCallSays, AlignCallSays, MaskCallSays, BandCallSays, TrajectoryCallSays, PlaceCallSays, ExcerptCallSays, JobCallSays, LinkBeginCallSays, LinkPartCallSays, LinkEndCallSays}
@@ -68,6 +70,23 @@ module _ (ss : States) (out work o₁ w₁ o₂ w₂ : List ℕ) (changes r s x 
       let t = align-says-one ss nstate ends out work o₁ o₂ w₁ w₂ (f .answer) (g .answer) (f .says) (g .says) in
       let h = hands-two (aligned (f .answer)) (aligned (g .answer)) written changes r s x₀ x y₀ y (ap aligned (t .0)) (f .gives) (g .gives) in
       (h .0, t .1, t .2, h .1, h .2)
+
+pub runs-call-one : (v masked : ℕ) (threshold : Float) (windows : ℕ) (records : List Float) (ds runs : List ℕ) (count r s : ℕ) (o₁ o₂ : List ℕ) (x y : ℕ)
+    → RunsCallSays v masked threshold windows records ds runs count r o₁ x → RunsCallSays v masked threshold windows records ds runs count s o₂ y → (r ≡ s) × (o₁ ≡ o₂) × (x ≡ y)
+runs-call-one v masked threshold windows records ds runs count r s o₁ o₂ x y f g =
+    let t = runs-one v _ threshold windows records ds runs (f .answer) (g .answer) o₁ o₂ (f .says) (g .says) in
+    let h = hands-one (filled (f .answer)) (filled (g .answer)) count r s x y (ap filled (t .0)) (f .gives) (g .gives) in
+    (h .0, t .1, h .1)
+
+pub run-call-one : (v masked : ℕ) (threshold none : Float) (gvOn : ℕ) (weight : Float) (widths : List ℕ) (coefs records : List Float) (ds : List ℕ) (gv : List Float) (switches : List ℕ) (run : ℕ)
+    (out work : List Float) (marks : List ℕ) (frames r s : ℕ) (o₁ w₁ : List Float) (m₁ : List ℕ) (x : ℕ) (o₂ w₂ : List Float) (m₂ : List ℕ) (y : ℕ)
+    → RunCallSays v masked threshold none gvOn weight widths coefs records ds gv switches run out work marks frames r o₁ w₁ m₁ x
+    → RunCallSays v masked threshold none gvOn weight widths coefs records ds gv switches run out work marks frames s o₂ w₂ m₂ y
+    → (r ≡ s) × (o₁ ≡ o₂) × (w₁ ≡ w₂) × (m₁ ≡ m₂) × (x ≡ y)
+run-call-one v masked threshold none gvOn weight widths coefs records ds gv switches run out work marks frames r s o₁ w₁ m₁ x o₂ w₂ m₂ y f g =
+    let t = run-one (streamOf v masked threshold none gvOn weight) widths coefs records ds gv switches run out work marks (f .answer) (g .answer) o₁ w₁ m₁ o₂ w₂ m₂ (f .says) (g .says) in
+    let h = hands-one (filled (f .answer)) (filled (g .answer)) frames r s x y (ap filled (t .0)) (f .gives) (g .gives) in
+    (h .0, t .1, t .2, t .3, h .1)
 
 pub place-call-one : (frame component v place r s x y : ℕ) → PlaceCallSays frame component v place r x → PlaceCallSays frame component v place s y → (r ≡ s) × (x ≡ y)
 place-call-one frame component v place r s x y f g =

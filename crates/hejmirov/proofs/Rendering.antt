@@ -1,29 +1,40 @@
 -- After an alignment that is accepted the trajectory of the same states is never refused for its durations.
-use mathlib.Core.Path.{_≡_, sym, ap, _∙_}
+use mathlib.Core.Path.{_≡_, refl, sym, ap, _∙_}
+use mathlib.Core.Bool.{cond}
 use mathlib.Core.List.{List}
-use Prim.Native.Nat.{ℕ, _*_, _≤_}
+use Prim.Native.Nat.{ℕ, zero, suc, _*_, _≤_}
 use lib.ListN.{length, take}
 use lib.Seq.{take-at}
 use lib.Ieee.{Float}
 use borrow.Author.Tests.{le-ltb, eq-eqb}
-use Rattle.lists.specs.Sizes.{mostStates, mostFrames}
+use Rattle.lists.specs.Sizes.{mostStates, mostFrames, outside}
 use Rattle.lists.specs.Totals.{total}
+use Rattle.lists.specs.Refusals.{orElse}
 use Rattle.steps.specs.Steps.{States, size}
 use Rattle.duration.specs.Promise.{aligned}
 use Rattle.duration.specs.Align.{groups}
 use Rattle.duration.specs.Fitting.{AcceptedAlong}
 use Rattle.duration.proofs.Aligning.{align-theorem}
+use Rattle.model.specs.Windows.{widthsFit, allFinite}
 use Rattle.mlpg_adjust.specs.Trajectory.{stateSize}
-use Rattle.mlpg_adjust.specs.Promise.{lengthsOf, disagree, createRefusal}
+use Rattle.mlpg_adjust.specs.Promise.{lengthsOf, disagree, short, streamRefusal, createRefusal}
 use Rattle.mlpg_adjust.specs.declared.Stream.{Stream}
 use Rattle.hejmirov.specs.Promise.{handed, streamOf, AlignCallSays, TrajectoryCallSays}
 use Rattle.hejmirov.specs.Rendering.{refusalBeside, Ready, Blameless}
 
+-- numbers that are asked for one after the other, however they are grouped
+regrouped : (i j k l m n : ℕ) → orElse (orElse i (orElse j (orElse k (orElse l m)))) n ≡ orElse i (orElse j (orElse k (orElse l (orElse m n))))
+regrouped (suc i) j k l m n = refl
+regrouped zero (suc j) k l m n = refl
+regrouped zero zero (suc k) l m n = refl
+regrouped zero zero zero (suc l) m n = refl
+regrouped zero zero zero zero m n = refl
+
 -- durations within the sizes refuse nothing
 beside : (s : Stream) (widths : List ℕ) (coefs records gv : List Float) (switches : List ℕ) (out work : List Float) (marks ds : List ℕ) → length ds ≤ mostStates → total ds ≤ mostFrames
     → createRefusal s widths coefs ds (lengthsOf records gv switches out work marks) ≡ refusalBeside s widths coefs records gv switches out work marks (length ds) (total ds)
-unfolding createRefusal refusalBeside
-beside s widths coefs records gv switches out work marks ds h k = rw (le-ltb mostStates (length ds) h, le-ltb mostFrames (total ds) k)
+unfolding createRefusal streamRefusal refusalBeside
+beside s widths coefs records gv switches out work marks ds h k = rw (le-ltb mostStates (length ds) h, le-ltb mostFrames (total ds) k) (regrouped (cond (widthsFit widths) 0 1) (cond (allFinite coefs) 0 2) (cond (outside (s .v)) 3 0) (cond (disagree s widths (length coefs) (length ds) (lengthsOf records gv switches out work marks)) 4 0) 0 (cond (short (s .v) (total ds) (lengthsOf records gv switches out work marks)) 6 0))
 
 ready : (s : Stream) (widths : List ℕ) (coefs records gv : List Float) (switches : List ℕ) (out work : List Float) (marks : List ℕ) (n frames : ℕ)
     → Ready s widths coefs records gv switches out work marks n frames → refusalBeside s widths coefs records gv switches out work marks n frames ≡ 0

@@ -2,5 +2,6 @@
 pub mod Promise
 pub mod Settings
 pub mod Words
+pub mod Runs
 pub mod Rendering
 pub mod Old

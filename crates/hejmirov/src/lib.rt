@@ -13,7 +13,8 @@ ghost use Rattle.job.specs.Damage.{oldNumber};
 ghost use Rattle.job.specs.Promise.{answered};
 ghost use Rattle.hejmirov.specs.Settings.{HandsSettings, SettingsClearCallSays, SettingsSetCallSays, SettingsGetCallSays, SettingsRemoveCallSays, SettingsCountCallSays, SettingsReadCallSays, SettingsWriteCallSays};
 ghost use Rattle.hejmirov.specs.Words.{WordsSpansCallSays, WordsMillisecondsCallSays, WordsAtCallSays, WordsExcerptCallSays, WordsWriteCallSays, WordsReadCallSays};
-ghost use Rattle.hejmirov.specs.Promise.{HandsOne, HandsTwo, HandsJob, varianceOf, FitCallSays, SpeedCallSays, AlignCallSays, MaskCallSays, BandCallSays, TrajectoryCallSays, PlaceCallSays, ExcerptCallSays, JobCallSays, LinkBeginCallSays, LinkPartCallSays, LinkEndCallSays};
+ghost use Rattle.hejmirov.specs.Runs.{RunsCallSays, RunCallSays};
+ghost use Rattle.hejmirov.specs.Promise.{HandsOne, HandsTwo, HandsJob, varianceOf, streamOf, FitCallSays, SpeedCallSays, AlignCallSays, MaskCallSays, BandCallSays, TrajectoryCallSays, PlaceCallSays, ExcerptCallSays, JobCallSays, LinkBeginCallSays, LinkPartCallSays, LinkEndCallSays};
 use duration::Aligned;
 use duration::Fitted;
 use job::Answered;
@@ -136,15 +137,16 @@ pub extern "C" fn hejmirov_mask(
         left,
         right,
     );
-    hand_out_mask(answer, frames)
+    hand_out_filled(answer, frames)
 }
 
-fn hand_out_mask(answer: Filled, frames: &mut u32) -> u32
-    ensures { λ r. ⌜ HandsOne (filled answer) (now (frames .entry)) r (now (frames .exit)) ⌝ }
+// The number of a call that fills lists; how many it has told of goes through the pointer.
+fn hand_out_filled(answer: Filled, count: &mut u32) -> u32
+    ensures { λ r. ⌜ HandsOne (filled answer) (now (count .entry)) r (now (count .exit)) ⌝ }
 {
     match answer {
-        Filled::Done(count) => {
-            *frames = count;
+        Filled::Done(told) => {
+            *count = told;
             0
         }
         Filled::Refused(number) => number as u32,
@@ -192,13 +194,7 @@ pub extern "C" fn hejmirov_trajectory(
         (now (out .entry)) (now (work .entry)) (now (marks .entry)) (now («clamped_high» .entry)) (now («clamped_low» .entry))
         r (now (out .exit)) (now (work .exit)) (now (marks .exit)) (now («clamped_high» .exit)) (now («clamped_low» .exit)) ⌝ }
 {
-    let stream = Stream {
-        v,
-        masked: masked != 0,
-        threshold,
-        fill,
-        gv: variance_of(gv_on, gv_weight),
-    };
+    let stream = stream_of(v, masked, threshold, fill, gv_on, gv_weight);
     let answer = mlpg_adjust::create(
         stream,
         widths,
@@ -214,6 +210,65 @@ pub extern "C" fn hejmirov_trajectory(
     hand_out_created(answer, clamped_high, clamped_low)
 }
 
+// How many voiced runs a stream has, and the first frame and the frames of each.
+#[no_mangle]
+pub extern "C" fn hejmirov_runs(
+    v: u32,
+    masked: u32,
+    threshold: f64,
+    windows: usize,
+    records: &[f64],
+    durations: &[u32],
+    runs: &mut [u32],
+    count: &mut u32,
+) -> u32
+    ensures { λ r. ⌜ RunsCallSays v masked threshold windows (now (records .entry)) (now (durations .entry)) (now (runs .entry)) (now (count .entry)) r (now (runs .exit)) (now (count .exit)) ⌝ }
+{
+    let answer = runs::runs(v, masked != 0, threshold, windows, records, durations, runs);
+    hand_out_filled(answer, count)
+}
+
+// The trajectory of one voiced run alone.
+#[no_mangle]
+pub extern "C" fn hejmirov_run(
+    v: u32,
+    masked: u32,
+    threshold: f64,
+    fill: f64,
+    gv_on: u32,
+    gv_weight: f64,
+    widths: &[u32],
+    coefficients: &[f64],
+    records: &[f64],
+    durations: &[u32],
+    gv: &[f64],
+    switches: &[u8],
+    run: u32,
+    out: &mut [f64],
+    work: &mut [f64],
+    marks: &mut [u32],
+    frames: &mut u32,
+) -> u32
+    ensures { λ r. ⌜ RunCallSays v masked threshold fill «gv_on» «gv_weight» (now (widths .entry)) (now (coefficients .entry)) (now (records .entry)) (now (durations .entry)) (now (gv .entry)) (now (switches .entry)) run
+        (now (out .entry)) (now (work .entry)) (now (marks .entry)) (now (frames .entry)) r (now (out .exit)) (now (work .exit)) (now (marks .exit)) (now (frames .exit)) ⌝ }
+{
+    let stream = stream_of(v, masked, threshold, fill, gv_on, gv_weight);
+    let answer = runs::create_run(
+        stream,
+        widths,
+        coefficients,
+        records,
+        durations,
+        gv,
+        switches,
+        run,
+        out,
+        work,
+        marks,
+    );
+    hand_out_filled(answer, frames)
+}
+
 fn hand_out_created(answer: Created, high: &mut u32, low: &mut u32) -> u32
     ensures { λ r. ⌜ HandsTwo (created answer) (now (high .entry)) (now (low .entry)) r (now (high .exit)) (now (low .exit)) ⌝ }
 {
@@ -227,6 +282,19 @@ fn hand_out_created(answer: Created, high: &mut u32, low: &mut u32) -> u32
             0
         }
         Created::Refused(number) => number as u32,
+    }
+}
+
+// The stream that the first six numbers of a call say.
+fn stream_of(v: u32, masked: u32, threshold: f64, fill: f64, gv_on: u32, gv_weight: f64) -> Stream
+    ensures { λ r. ⌜ r ≡ streamOf v masked threshold fill «gv_on» «gv_weight» ⌝ }
+{
+    Stream {
+        v,
+        masked: masked != 0,
+        threshold,
+        fill,
+        gv: variance_of(gv_on, gv_weight),
     }
 }
 

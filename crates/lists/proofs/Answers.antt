@@ -1,9 +1,9 @@
 -- Laws of answers, and of lent lists at exit.
 use mathlib.Core.Path.{_≡_, refl, sym, ap, _∙_}
 use mathlib.Core.List.{List, [], _∷_, _++_}
-use Prim.Native.Nat.{ℕ, zero, suc, _≤_}
+use Prim.Native.Nat.{ℕ, zero, suc, _<_, _≤_}
 use native.Mathlib.Omega.{arith}
-use lib.ListN.{length, take, drop, length-append, length-drop, take-append-drop}
+use lib.ListN.{length, take, drop, getD, length-append, length-drop, take-append-drop, List·getD-append}
 use Rattle.lists.specs.Answers.{Answer, accepting, refusing, given, answerOf, written}
 
 -- equal numbers, values and places
@@ -42,6 +42,10 @@ in-front q n new w old z e l = rw (z, e, l)
 -- the same of a list by its front and what lies behind it
 pub front-written : {A : Type 0} (q n : ℕ) (new l l′ : List A) → q ≡ 0 → length new ≡ n → take n l′ ≡ new → drop n l′ ≡ drop n l → l′ ≡ written q new l
 front-written q n new l l′ z e f d = sym (take-append-drop n l′) ∙ rw (d) (in-front q n new (take n l′) l z f e)
+
+-- what is read there
+pub written-at : {A : Type 0} (q n : ℕ) (new l l′ : List A) (p : ℕ) (z : A) → l′ ≡ written q new l → q ≡ 0 → length new ≡ n → p < n → getD l′ p z ≡ getD new p z
+written-at q n new l l′ p z e k o h = rw (e, k) (List·getD-append new (drop (length new) l) z p (omega arith))
 
 -- a list that a call was lent is as long as it was, where there was room
 pub written-long : {A : Type 0} (q : ℕ) (new old : List A) → length new ≤ length old → length (written q new old) ≡ length old

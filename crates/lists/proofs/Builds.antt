@@ -1,16 +1,20 @@
 -- Laws of lists by a rule.
 use mathlib.Core.Path.{_≡_, refl, sym, ap, _∙_}
-use mathlib.Core.List.{List, [], _∷_, _++_, map, map-append}
+use mathlib.Core.List.{List, [], _∷_, _++_, append-assoc, append-nil, map, map-append}
 use mathlib.Core.Logic.{⊎-elim}
-use Prim.Native.Nat.{ℕ, zero, suc, _+_, _-_, _<_, _≤_}
+use Prim.Native.Nat.{ℕ, zero, suc, _+_, _-_, _*_, _/_, _%_, _<_, _≤_}
+use native.Mathlib.Nat.{add-zero, mod-eq-of-lt, div-eq-of-lt, mul-add-mod-self-right, mul-add-div-right}
 use native.Mathlib.Numerals.{add-one}
 use native.Mathlib.Omega.{arith}
 use lib.ListN.{length, getD, drop, length-append, length-drop, List·getD-append}
 use lib.Seq.{ext-getD, getD-at, getD-append-add, getD-drop}
 use Rattle.lists.specs.Build.{build, foldFrom}
+use Rattle.lists.specs.Parts.{part}
 use Rattle.lists.specs.Totals.{total}
 use Rattle.lists.proofs.Fills.{build-length}
 use Rattle.lists.proofs.Numbers.{le-or-lt}
+use Rattle.lists.proofs.Parts.{part-is}
+use Rattle.lists.proofs.Rows.{row-in}
 use Rattle.lists.proofs.Sums.{total-append}
 
 module _ {A : Type 0} (f : ℕ → A) where
@@ -49,6 +53,34 @@ module _ {A : Type 0} where
   unfolding build
   build-first f zero = refl
   build-first f (suc n) = ap (λ (l : List A). l ++ (f (suc n) ∷ [])) (build-first f n)
+
+  -- a part
+  pub part-build : (f : ℕ → A) (a m n : ℕ) → a + m ≤ n → part a m (build f n) ≡ build (λ i. f (a + i)) m
+  part-build f a m n h =
+      part-is a m (f 0) (build f n) (build (λ i. f (a + i)) m) (rw build-length h) (build-length (λ i. f (a + i)) m)
+      (λ u b. build-at f n (a + u) (f 0) (omega arith) ∙ sym (build-at (λ i. f (a + i)) m u (f 0) b))
+
+  -- items that lie row after row, v a row
+  pub laid-at : (f : ℕ → ℕ → A) (v n t c : ℕ) (z : A) → t < n → c < v → getD (build (λ p. f (p % v) (p / v)) (n * v)) (t * v + c) z ≡ f c t
+  laid-at f v n t c z h l =
+      let m : (t * v + c) % v ≡ c = mul-add-mod-self-right t v c ∙ mod-eq-of-lt l in
+      let d : (t * v + c) / v ≡ t = mul-add-div-right (omega arith) t c ∙ ap (λ (q : ℕ). t + q) (div-eq-of-lt l) ∙ add-zero t in
+      build-at (λ p. f (p % v) (p / v)) (n * v) (t * v + c) z (row-in v t n c h l) ∙ rw (m, d)
+
+-- lists that grow at their end keep what they have
+module _ {A : Type 0} (L X : ℕ → List A) (next : (n : ℕ) → L (n + 1) ≡ L n ++ X n) where
+  grown : (t d : ℕ) → (x : List A) × (L (t + d) ≡ L t ++ x)
+  grown t zero = ([], rw (add-zero, append-nil))
+  grown t (suc d) =
+      let (x, q) = grown t d in
+      let p : t + suc d ≡ t + d + 1 = omega arith in
+      (x ++ X (t + d), rw (p, next, q, append-assoc))
+
+  pub grown-at : (t n i : ℕ) (z : A) → t ≤ n → i < length (L t) → getD (L n) i z ≡ getD (L t) i z
+  grown-at t n i z h l =
+      let (x, q) = grown t (n - t) in
+      let p : n ≡ t + (n - t) = omega arith in
+      ap (λ (m : ℕ). getD (L m) i z) p ∙ ap (λ (y : List A). getD y i z) q ∙ List·getD-append (L t) x z i l
 
 -- one number more
 pub total-built : (f : ℕ → ℕ) (n : ℕ) → total (build f (n + 1)) ≡ total (build f n) + f n

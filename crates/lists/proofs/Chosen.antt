@@ -1,17 +1,20 @@
--- Laws of what is read from a list, and of items that are chosen from one, place after place.
-use mathlib.Core.Path.{_≡_, refl, ap, _∙_}
+-- Laws of what is read from a list, and of items that are chosen from one, place after place, and filled back.
+use mathlib.Core.Path.{_≡_, refl, sym, ap, _∙_}
 use mathlib.Core.Bool.{Bool, true, false, cond}
-use mathlib.Core.List.{List, [], _∷_, _++_, map}
-use Prim.Native.Nat.{ℕ, zero, suc, _+_, _<_}
+use mathlib.Core.List.{List, [], _∷_, _++_, append-nil, map}
+use mathlib.Core.Logic.{⊎-elim}
+use Prim.Native.Nat.{ℕ, zero, suc, _+_, _-_, _<_, _≤_}
 use native.Mathlib.Nat.{add-zero}
 use native.Mathlib.Numerals.{add-one}
 use native.Mathlib.Omega.{arith}
 use lib.Dec.{eqb}
-use lib.ListN.{length, take, getD, replicate}
+use lib.ListN.{length, take, getD, replicate, List·getD-append}
+use lib.Seq.{getD-append-add}
 use Rattle.lists.specs.Build.{build}
-use Rattle.lists.specs.Frames.{select, count}
+use Rattle.lists.specs.Frames.{select, fill, count}
 use Rattle.lists.specs.Firsts.{firstAt}
 use Rattle.lists.proofs.Counts.{count-append}
+use Rattle.lists.proofs.Numbers.{le-or-lt}
 
 module _ {A : Type 0} where
   -- within a list it doesn't matter what is read behind its end
@@ -19,6 +22,23 @@ module _ {A : Type 0} where
   at-any [] i y z h = absurd (omega arith)
   at-any (x ∷ l) zero y z h = refl
   at-any (x ∷ l) (suc i) y z h = at-any l i y z (omega arith)
+
+  -- an item of n that others follow, and one of those others
+  pub at-first : (us vs : List A) (n f : ℕ) (z : A) → length us ≡ n → f < n → getD (us ++ vs) f z ≡ getD us f z
+  at-first us vs n f z e h = List·getD-append us vs z f (omega arith)
+
+  pub at-second : (us vs : List A) (n f : ℕ) (z : A) → length us ≡ n → getD (us ++ vs) (n + f) z ≡ getD vs f z
+  at-second us vs n f z e = rw (← e) (getD-append-add us vs f z)
+
+  -- what holds of each of them holds of all
+  pub of-both : (P : ℕ → A → Type 0) (a b : List A) (n k : ℕ) (z : A) → length a ≡ n → ((u : ℕ) → u < n → P u (getD a u z)) → ((u : ℕ) → u < k → P (n + u) (getD b u z)) → (u : ℕ) → u < n + k → P u (getD (a ++ b) u z)
+  of-both P a b n k z e f g u h = ⊎-elim
+      (λ (l : n ≤ u).
+      let q : n + (u - n) ≡ u = omega arith in
+      let d : getD (a ++ b) u z ≡ getD b (u - n) z = ap (λ (i : ℕ). getD (a ++ b) i z) (sym q) ∙ at-second a b n (u - n) z e in
+      rw d (rw q at (g (u - n) (omega arith))))
+      (λ (l : u < n). rw (at-first a b n u z e l) (f u l))
+      (le-or-lt n u)
 
   pub select-append : (bs cs : List Bool) (xs ys : List A) → length xs ≡ length bs → select (bs ++ cs) (xs ++ ys) ≡ select bs xs ++ select cs ys
   unfolding select
@@ -56,12 +76,30 @@ module _ {A : Type 0} where
   select-front [] (y ∷ ys) (suc k) e = select-front [] ys k (omega arith)
   select-front (x ∷ xs) ys k e = ap (λ (l : List A). x ∷ l) (select-front xs ys k e)
 
+  pub select-all : (n : ℕ) (xs : List A) → length xs ≡ n → select (replicate n true) xs ≡ xs
+  select-all n xs e = rw (← e) (rw (append-nil (replicate (length xs) true), append-nil xs) at (select-front xs [] 0 refl))
+
+  -- places that are all chosen are filled back in order
+  pub fill-on : (none : A) (d : ℕ) (xs : List A) → d ≤ length xs → fill none (replicate d true) xs ≡ take d xs
+  unfolding fill
+  fill-on none zero xs h = refl
+  fill-on none (suc d) [] h = absurd (omega arith)
+  fill-on none (suc d) (x ∷ xs) h = ap (λ (l : List A). x ∷ l) (fill-on none d xs (omega arith))
+
+-- what f makes of the items that are chosen, and of those that are filled back
 pub select-map : {A B : Type 0} (f : A → B) (bs : List Bool) (xs : List A) → map f (select bs xs) ≡ select bs (map f xs)
 unfolding select
 select-map f [] xs = refl
 select-map f (b ∷ bs) [] = refl
 select-map {B = B} f (true ∷ bs) (x ∷ xs) = ap (λ (l : List B). f x ∷ l) (select-map f bs xs)
 select-map f (false ∷ bs) (x ∷ xs) = select-map f bs xs
+
+pub map-fill : {A B : Type 0} (f : A → B) (none : A) (bs : List Bool) (xs : List A) → map f (fill none bs xs) ≡ fill (f none) bs (map f xs)
+unfolding fill
+map-fill f none [] xs = refl
+map-fill f none (false ∷ bs) xs = ap (_∷_ (f none)) (map-fill f none bs xs)
+map-fill f none (true ∷ bs) [] = ap (_∷_ (f none)) (map-fill f none bs [])
+map-fill f none (true ∷ bs) (x ∷ xs) = ap (_∷_ (f x)) (map-fill f none bs xs)
 
 -- where a number first stands among those that are chosen, if its first place is
 pub select-first : (v : ℕ) (bs : List Bool) (xs : List ℕ) → length xs ≡ length bs → firstAt v xs < length xs → getD bs (firstAt v xs) false ≡ true → firstAt v (select bs xs) ≡ count (take (firstAt v xs) bs)

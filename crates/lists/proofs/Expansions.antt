@@ -6,10 +6,12 @@ use native.Mathlib.Nat.{add-sub-cancel-left, le-of-eq}
 use native.Mathlib.Numerals.{add-one}
 use native.Mathlib.Omega.{arith}
 use borrow.Rule.Slice.PartMut.{midOf, putMid, mid-len, same-len-mid}
-use lib.ListN.{length, take, drop, getD, replicate, length-append, length-replicate, drop-of-length-le}
-use lib.Seq.{sets, length-take-le, take-at, drop-cons}
+use lib.ListN.{length, take, drop, getD, replicate, length-append, length-drop, length-replicate, getD-replicate, drop-of-length-le}
+use lib.Seq.{sets, length-take-le, take-at, take-append-add, drop-cons, drop-append-add}
 use Rattle.lists.specs.Totals.{total}
 use Rattle.lists.specs.Frames.{expand}
+use Rattle.lists.specs.Parts.{part}
+use Rattle.lists.proofs.Chosen.{of-both}
 use Rattle.lists.proofs.Fills.{finished}
 use Rattle.lists.proofs.Stores.{filled}
 use Rattle.lists.proofs.Sums.{total-next, total-none}
@@ -84,3 +86,36 @@ unfolding expand total
 expand-length [] xs e = refl
 expand-length (d ∷ ds) [] e = absurd (omega arith)
 expand-length (d ∷ ds) (x ∷ xs) e = simp (length-append, length-replicate) (omega (arith, expand-length ds xs (omega arith)))
+
+module _ {A : Type 0} where
+  -- items behind d that are alike
+  pub drop-run : (d k : ℕ) (x : A) (rest : List A) → drop (d + k) (replicate d x ++ rest) ≡ drop k rest
+  drop-run d k x rest = ap (λ (n : ℕ). drop (n + k) (replicate d x ++ rest)) (sym (length-replicate d x)) ∙ drop-append-add (replicate d x) rest k
+
+  -- the frames of the states from one on, of the first, and of some
+  pub expand-drop : (ds : List ℕ) (xs : List A) (s : ℕ) → length xs ≡ length ds → drop (total (take s ds)) (expand ds xs) ≡ expand (drop s ds) (drop s xs)
+  unfolding expand total
+  expand-drop ds xs zero e = refl
+  expand-drop [] [] (suc s) e = refl
+  expand-drop [] (x ∷ xs) (suc s) e = absurd (omega arith)
+  expand-drop (d ∷ ds) [] (suc s) e = absurd (omega arith)
+  expand-drop (d ∷ ds) (x ∷ xs) (suc s) e = drop-run d (total (take s ds)) x (expand ds xs) ∙ expand-drop ds xs s (omega arith)
+
+  expand-front : (m : ℕ) (ds : List ℕ) (xs : List A) → length xs ≡ length ds → expand (take m ds) (take m xs) ≡ take (total (take m ds)) (expand ds xs)
+  unfolding expand total
+  expand-front zero ds xs e = refl
+  expand-front (suc m) [] xs e = refl
+  expand-front (suc m) (d ∷ ds) [] e = absurd (omega arith)
+  expand-front (suc m) (d ∷ ds) (x ∷ xs) e =
+      ap (λ (l : List A). replicate d x ++ l) (expand-front m ds xs (omega arith)) ∙ sym (rw length-replicate at (take-append-add (replicate d x) (expand ds xs) (total (take m ds))))
+
+  pub expand-part : (a m : ℕ) (ds : List ℕ) (xs : List A) → length xs ≡ length ds → expand (part a m ds) (part a m xs) ≡ part (total (take a ds)) (total (part a m ds)) (expand ds xs)
+  expand-part a m ds xs e = expand-front m (drop a ds) (drop a xs) (simp length-drop (omega arith)) ∙ ap (take (total (part a m ds))) (sym (expand-drop ds xs a e))
+
+  -- what holds of each state's item holds of each frame's
+  pub expand-each : (P : A → Type 0) (ds : List ℕ) (xs : List A) (z : A) → length xs ≡ length ds → ((i : ℕ) → i < length ds → P (getD xs i z)) → (j : ℕ) → j < total ds → P (getD (expand ds xs) j z)
+  unfolding expand total
+  expand-each P [] xs z e h j l = absurd (omega arith)
+  expand-each P (d ∷ ds) [] z e h j l = absurd (omega arith)
+  expand-each P (d ∷ ds) (x ∷ xs) z e h j l =
+      of-both (λ u y. P y) (replicate d x) (expand ds xs) d (total ds) z (length-replicate d x) (λ u b. rw (getD-replicate d u x z b) (h 0 (omega arith))) (expand-each P ds xs z (omega arith) (λ i b. h (suc i) (omega arith))) j l

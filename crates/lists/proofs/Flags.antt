@@ -1,6 +1,6 @@
 -- Laws of yes and no as numbers.
 use mathlib.Core.Path.{_≡_, refl, sym, ap}
-use mathlib.Core.Bool.{Bool, true, false, _&&_, _||_, true≢false}
+use mathlib.Core.Bool.{Bool, true, false, cond, _&&_, _||_, true≢false}
 use mathlib.Core.List.{List, [], _∷_, map}
 use Prim.Native.Nat.{ℕ, zero, suc}
 use Rattle.lists.specs.Flags.{flag, isOn}
@@ -13,6 +13,11 @@ both false b e = absurd (true≢false (sym e))
 pub neither : (a b : Bool) → a || b ≡ false → (a ≡ false) × (b ≡ false)
 neither true b e = absurd (true≢false e)
 neither false b e = (refl, e)
+
+-- what two have, the one that a test chooses has
+pub either : {A : Type 0} (P : A → Type 0) (b : Bool) (x y : A) → P x → P y → P (cond b x y)
+either P true x y p q = p
+either P false x y p q = q
 
 pub on-true : (y : ℕ) → (y ≡ 0 → ⊥) → isOn y ≡ true
 on-true zero h = absurd (h refl)

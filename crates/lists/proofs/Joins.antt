@@ -70,6 +70,10 @@ module _ {A : Type 0} where
         (λ (g : t < n). rows-part n t (r n ++ rest) g (λ i l. each i (omega arith)))
         (le-or-lt n t))
 
+    -- with nothing behind them
+    pub rows-own : (n t : ℕ) → t < n → ((i : ℕ) → i < n → length (r i) ≡ w) → part (t * w) w (rows r n) ≡ r t
+    rows-own n t h each = ap (part (t * w) w) (sym (append-nil (rows r n))) ∙ rows-part n t [] h each
+
   -- a list is its first n parts of w items and what lies behind them
   pub rows-cut : (w n : ℕ) (l : List A) → rows (λ t. part (t * w) w l) n ++ drop (n * w) l ≡ l
   unfolding rows

@@ -15,6 +15,11 @@ pub none-then : (t : Bool) (k : ℕ) → cond t 0 (suc k) ≡ 0 → t ≡ true
 none-then true k e = refl
 none-then false k e = absurd (omega arith)
 
+-- and one that refuses where it holds has failed
+pub then-none : (t : Bool) (k : ℕ) → cond t (suc k) 0 ≡ 0 → t ≡ false
+then-none true k e = absurd (omega arith)
+then-none false k e = refl
+
 -- neither is above m
 pub or-below : (k l m : ℕ) → k ≤ m → l ≤ m → orElse k l ≤ m
 or-below zero l m h g = g

@@ -42,6 +42,10 @@ use Rattle.mlpg_adjust.proofs.Columns.{columned-next}
 pub gv-off : {A : Type 0} (s : GlobalVariance) (f : Float → A) (x : A) → s ≡ Off → x ≡ withGv s f x
 gv-off s f x e = rw e
 
+pub without-gv : {A : Type 0} (s : GlobalVariance) (f : Float → A) (x : A) → gvOn s ≡ false → withGv s f x ≡ x
+without-gv Off f x e = refl
+without-gv (On weight) f x e = absurd (let z : _≡_ {A = ℕ} 0 1 = cc in omega arith)
+
 pub gv-on : {A : Type 0} (s : GlobalVariance) (weight : Float) (f : Float → A) (x : A) → s ≡ On weight → f weight ≡ withGv s f x
 gv-on s weight f x e = rw e
 

@@ -19,10 +19,10 @@ use Rattle.lists.proofs.Regions.{stored-behind, stored-whole}
 use Rattle.lists.proofs.Expansions.{expand-length}
 use Rattle.model.specs.Windows.{bandWidth}
 use Rattle.region.specs.declared.Layout.{Layout}
-use Rattle.voicing.specs.Mask.{weightsOf, maskIn}
+use Rattle.voicing.specs.Mask.{maskIn}
 use Rattle.voicing.specs.Space.{marks, switches, MarkSays, SwitchesSay}
 use Rattle.voicing.specs.declared.Voicing.{Voicing}
-use Rattle.voicing.proofs.Theory.{mask-length, weights-length}
+use Rattle.voicing.proofs.Theory.{stream-length}
 use Rattle.voicing.proofs.Masks.{mask-voiced, stream-flagged}
 use Rattle.mlpg_adjust.specs.Trajectory.{stateSize, gvOn, withGv, numbersOf}
 use Rattle.mlpg_adjust.specs.Inner.Groups.{Shaped, Marked, Ready, voicedIn, planOf, columnOf, Columned}
@@ -35,7 +35,7 @@ use Rattle.mlpg_adjust.proofs.Columns.{rendered}
 
 -- a mask has as many frames as the durations say
 pub mask-long : (s : Stream) (widths : List ℕ) (records : List Float) (ds : List ℕ) → length (voicedIn s widths records ds) ≡ total ds
-mask-long s widths records ds = mask-length (s .threshold) (weightsOf (stateSize s widths) records (length ds)) ds (weights-length (stateSize s widths) records (length ds))
+mask-long s widths records ds = stream-length (stateSize s widths) records (s .threshold) ds
 
 -- ---- the flags
 

@@ -14,6 +14,7 @@ use Rattle.lists.specs.Sizes.{outside}
 use Rattle.lists.specs.Totals.{total}
 use Rattle.lists.specs.Refusals.{orElse}
 use Rattle.lists.proofs.Flags.{neither}
+use Rattle.lists.proofs.Refusals.{or-first, or-none}
 use Rattle.lists.proofs.Sums.{total-whole}
 use Rattle.lists.proofs.Stores.{filled}
 use Rattle.lists.proofs.Fills.{build-length}
@@ -22,7 +23,7 @@ use Rattle.model.proofs.Windows.{fit-few}
 use Rattle.mlpg_adjust.specs.Trajectory.{recordSize, gvOn, stateSize, trajectory, numbersOf}
 use Rattle.lists.specs.Answers.{written}
 use Rattle.mlpg_adjust.specs.Clamps.{clampedHigh, clampedLow}
-use Rattle.mlpg_adjust.specs.Promise.{lengthsOf, outOfRange, gvDisagrees, disagree, short, createRefusal, zeroFloats, zeroMarks, CreateSays}
+use Rattle.mlpg_adjust.specs.Promise.{lengthsOf, outOfRange, gvDisagrees, disagree, short, streamRefusal, createRefusal, zeroFloats, zeroMarks, CreateSays}
 use Rattle.mlpg_adjust.specs.Inner.Groups.{Shaped, GvFits, Room}
 use Rattle.mlpg_adjust.specs.declared.Stream.{Stream}
 use Rattle.mlpg_adjust.specs.declared.refusing.Lengths.{Lengths}
@@ -88,26 +89,26 @@ has-room v frames n h =
 
 module _ (s : Stream) (ws : List ℕ) (cs : List Float) (ds : List ℕ) (lengths : Lengths) where
   abbrev refusal : ℕ
-  refusal = createRefusal s ws cs ds lengths
+  refusal = streamRefusal s ws cs ds lengths
 
   module _ (f : Bool) (ef : f ≡ widthsFit ws) where
     pub refused-1 : not f ≡ true → _≡_ {A = ℕ} 1 refusal
-    unfolding createRefusal
+    unfolding streamRefusal
     refused-1 h = rw (← ef, not-true f h)
 
     module _ (nf : not f ≡ false) (g : Bool) (eg : g ≡ allFinite cs) where
       pub refused-2 : not g ≡ true → _≡_ {A = ℕ} 2 refusal
-      unfolding createRefusal
+      unfolding streamRefusal
       refused-2 h = rw (← ef, not-false f nf, ← eg, not-true g h)
 
       module _ (ng : not g ≡ false) (t : Bool) (et : t ≡ outOfRange (s .v) (length ds)) where
         pub refused-3 : t ≡ true → _≡_ {A = ℕ} 3 refusal
-        unfolding createRefusal
+        unfolding streamRefusal
         refused-3 h = rw (← ef, not-false f nf, ← eg, not-false g ng, ← et, h)
 
         module _ (nt : t ≡ false) (d : Bool) (ed : d ≡ disagree s ws (length cs) (length ds) lengths) where
           pub refused-4 : d ≡ true → _≡_ {A = ℕ} 4 refusal
-          unfolding createRefusal
+          unfolding streamRefusal
           refused-4 h = rw (← ef, not-false f nf, ← eg, not-false g ng, ← et, nt, ← ed, h)
 
           module _ (nd : d ≡ false) (n : ℕ) (en : n ≡ total (take (2 ^ 32) ds)) where
@@ -115,17 +116,12 @@ module _ (s : Stream) (ws : List ℕ) (cs : List Float) (ds : List ℕ) (lengths
             counted = frames-are ds n en (in-range (s .v) (length ds) (sym et ∙ nt) .few)
 
             pub refused-5 : 65536 < n → _≡_ {A = ℕ} 5 refusal
-            unfolding createRefusal
+            unfolding streamRefusal
             refused-5 h = rw (← ef, not-false f nf, ← eg, not-false g ng, ← et, nt, ← ed, nd, ← counted, lt-ltb 65536 n h)
 
-            module _ (few : n ≤ 65536) (x : Bool) (ex : x ≡ short (s .v) n lengths) where
-              pub refused-6 : x ≡ true → _≡_ {A = ℕ} 6 refusal
-              unfolding createRefusal
-              refused-6 h = rw (← ef, not-false f nf, ← eg, not-false g ng, ← et, nt, ← ed, nd, ← counted, le-ltb 65536 n few, ← ex, h)
-
-              pub refused-none : x ≡ false → _≡_ {A = ℕ} 0 refusal
-              unfolding createRefusal
-              refused-none h = rw (← ef, not-false f nf, ← eg, not-false g ng, ← et, nt, ← ed, nd, ← counted, le-ltb 65536 n few, ← ex, h)
+            pub refused-none : n ≤ 65536 → _≡_ {A = ℕ} 0 refusal
+            unfolding streamRefusal
+            refused-none h = rw (← ef, not-false f nf, ← eg, not-false g ng, ← et, nt, ← ed, nd, ← counted, le-ltb 65536 n h)
 
 -- ---- an accepted call
 
@@ -152,26 +148,24 @@ agree s ws cs states n h =
       varied = record { targets = λ e. omega (arith, eqb-true (n .gv) (2 * s .v) (u e .0)); switched = λ e. eqb-true (n .switches) states (u e .1) };
     }
 
-six-tests : (f g t d n x : Bool) → _≡_ {A = ℕ} (orElse (cond f 0 1) (orElse (cond g 0 2) (orElse (cond t 3 0) (orElse (cond d 4 0) (orElse (cond n 5 0) (cond x 6 0)))))) 0
-    → (f ≡ true) × (g ≡ true) × (t ≡ false) × (d ≡ false) × (n ≡ false) × (x ≡ false)
-six-tests false g t d n x h = absurd (omega arith)
-six-tests true false t d n x h = absurd (omega arith)
-six-tests true true true d n x h = absurd (omega arith)
-six-tests true true false true n x h = absurd (omega arith)
-six-tests true true false false true x h = absurd (omega arith)
-six-tests true true false false false true h = absurd (omega arith)
-six-tests true true false false false false h = (refl, refl, refl, refl, refl, refl)
+five-tests : (f g t d n : Bool) → _≡_ {A = ℕ} (orElse (cond f 0 1) (orElse (cond g 0 2) (orElse (cond t 3 0) (orElse (cond d 4 0) (cond n 5 0))))) 0
+    → (f ≡ true) × (g ≡ true) × (t ≡ false) × (d ≡ false) × (n ≡ false)
+five-tests false g t d n h = absurd (omega arith)
+five-tests true false t d n h = absurd (omega arith)
+five-tests true true true d n h = absurd (omega arith)
+five-tests true true false true n h = absurd (omega arith)
+five-tests true true false false true h = absurd (omega arith)
+five-tests true true false false false h = (refl, refl, refl, refl, refl)
 
--- what createRefusal ≡ 0 leaves: lists of an accepted shape, and room for what is written
-module _ (s : Stream) (ws : List ℕ) (cs rs : List Float) (ds : List ℕ) (gv : List Float) (switches : List ℕ) (out work : List Float) (marks : List ℕ)
-    (z : createRefusal s ws cs ds (lengthsOf rs gv switches out work marks) ≡ 0) where
-  abbrev n : Lengths
-  n = lengthsOf rs gv switches out work marks
+six-test : (x : Bool) → _≡_ {A = ℕ} (cond x 6 0) 0 → x ≡ false
+six-test true h = absurd (omega arith)
+six-test false h = refl
 
-  passed : (widthsFit ws ≡ true) × (allFinite cs ≡ true) × (outOfRange (s .v) (length ds) ≡ false) × (disagree s ws (length cs) (length ds) n ≡ false)
-      × (ltb 65536 (total ds) ≡ false) × (short (s .v) (total ds) n ≡ false)
-  unfolding createRefusal
-  passed = six-tests (widthsFit ws) (allFinite cs) (outOfRange (s .v) (length ds)) (disagree s ws (length cs) (length ds) n) (ltb 65536 (total ds)) (short (s .v) (total ds) n) z
+-- what streamRefusal ≡ 0 leaves: lists of an accepted shape
+module _ (s : Stream) (ws : List ℕ) (cs : List Float) (ds : List ℕ) (n : Lengths) (z : streamRefusal s ws cs ds n ≡ 0) where
+  passed : (widthsFit ws ≡ true) × (allFinite cs ≡ true) × (outOfRange (s .v) (length ds) ≡ false) × (disagree s ws (length cs) (length ds) n ≡ false) × (ltb 65536 (total ds) ≡ false)
+  unfolding streamRefusal
+  passed = five-tests (widthsFit ws) (allFinite cs) (outOfRange (s .v) (length ds)) (disagree s ws (length cs) (length ds) n) (ltb 65536 (total ds)) z
 
   agreed : Agree s ws (length cs) (length ds) n
   agreed = agree s ws (length cs) (length ds) n (passed .3)
@@ -180,8 +174,11 @@ module _ (s : Stream) (ws : List ℕ) (cs rs : List Float) (ds : List ℕ) (gv :
   unfolding windowRefusal
   windows = rw (passed .0, passed .1, eq-eqb (length cs) (total ws) (agreed .whole))
 
-  pub accepted-shape : Shaped s ws cs rs ds
-  accepted-shape =
+  pub passed-finite : allFinite cs ≡ true
+  passed-finite = passed .1
+
+  pub passed-shape : (rs : List Float) → length rs ≡ n .records → Shaped s ws cs rs ds
+  passed-shape rs e =
       let r = in-range (s .v) (length ds) (passed .2) in
       record {
         some-v = r .some-v;
@@ -190,16 +187,46 @@ module _ (s : Stream) (ws : List ℕ) (cs rs : List Float) (ds : List ℕ) (gv :
         most-windows = fit-few ws (passed .0);
         most-width = band-narrow ws cs windows;
         whole = agreed .whole;
-        recorded = agreed .recorded;
+        recorded = e ∙ agreed .recorded;
         few = r .few;
         frames = ltb-false 65536 (total ds) (passed .4);
       }
 
+  pub passed-gv : GvFits s (length ds) (n .gv) (n .switches)
+  passed-gv = agreed .varied
+
+-- 6 comes after them
+module _ (s : Stream) (ws : List ℕ) (cs : List Float) (ds : List ℕ) (lengths : Lengths) (k : ℕ) (e : k ≡ streamRefusal s ws cs ds lengths) where
+  pub refused-before : (k ≡ 0 → ⊥) → k ≡ createRefusal s ws cs ds lengths
+  unfolding createRefusal
+  refused-before h = rw (← e) (sym (or-first k (cond (short (s .v) (total ds) lengths) 6 0) h))
+
+  module _ (z : k ≡ 0) where
+    pub range-passed : InRange (s .v) (length ds) × (total ds ≤ 65536)
+    range-passed = let p = passed s ws cs ds lengths (sym e ∙ z) in (in-range (s .v) (length ds) (p .2), ltb-false 65536 (total ds) (p .4))
+
+    pub refused-6 : (n : ℕ) → n ≡ total ds → (x : Bool) → x ≡ short (s .v) n lengths → _≡_ {A = ℕ} (cond x 6 0) (createRefusal s ws cs ds lengths)
+    unfolding createRefusal
+    refused-6 n c x ex = rw (← e, z, ← c, ← ex)
+
+-- what createRefusal ≡ 0 leaves: that, and room for what is written
+module _ (s : Stream) (ws : List ℕ) (cs rs : List Float) (ds : List ℕ) (gv : List Float) (switches : List ℕ) (out work : List Float) (marks : List ℕ)
+    (z : createRefusal s ws cs ds (lengthsOf rs gv switches out work marks) ≡ 0) where
+  abbrev n : Lengths
+  n = lengthsOf rs gv switches out work marks
+
+  six : (streamRefusal s ws cs ds n ≡ 0) × _≡_ {A = ℕ} (cond (short (s .v) (total ds) n) 6 0) 0
+  unfolding createRefusal
+  six = or-none (streamRefusal s ws cs ds n) (cond (short (s .v) (total ds) n) 6 0) z
+
+  pub accepted-shape : Shaped s ws cs rs ds
+  accepted-shape = passed-shape s ws cs ds n (six .0) rs refl
+
   pub accepted-gv : GvFits s (length ds) (length gv) (length switches)
-  accepted-gv = agreed .varied
+  accepted-gv = passed-gv s ws cs ds n (six .0)
 
   pub accepted-room : Room (s .v) (total ds) n
-  accepted-room = has-room (s .v) (total ds) n (passed .5)
+  accepted-room = has-room (s .v) (total ds) n (six-test (short (s .v) (total ds) n) (six .1))
 
 -- ---- what is written
 

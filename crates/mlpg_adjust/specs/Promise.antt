@@ -68,16 +68,20 @@ disagree s widths coefs states n = not (eqb coefs (total widths)) || not (eqb (n
 abbrev pub short : ℕ → ℕ → Lengths → Bool
 short v frames n = ltb (n .out) (frames * v) || ltb (n .work) (frames * floatsAFrame) || ltb (n .marks) (frames * marksAFrame)
 
--- RULES, Refusals: the smallest of 1 to 6 that applies, and 0 for none
-unfoldable pub createRefusal : Stream → List ℕ → List Float → List ℕ → Lengths → ℕ
+-- RULES, Refusals: the smallest of 1 to 5 that applies, and 0 for none
+unfoldable pub streamRefusal : Stream → List ℕ → List Float → List ℕ → Lengths → ℕ
 unfolding widthsFit allFinite disagree total
-createRefusal s widths coefs ds n =
+streamRefusal s widths coefs ds n =
     orElse (cond (widthsFit widths) 0 1)
     (orElse (cond (allFinite coefs) 0 2)
     (orElse (cond (outOfRange (s .v) (length ds)) 3 0)
     (orElse (cond (disagree s widths (length coefs) (length ds) n) 4 0)
-    (orElse (cond (ltb mostFrames (total ds)) 5 0)
-    (cond (short (s .v) (total ds) n) 6 0)))))
+    (cond (ltb mostFrames (total ds)) 5 0))))
+
+-- and then 6
+unfoldable pub createRefusal : Stream → List ℕ → List Float → List ℕ → Lengths → ℕ
+unfolding streamRefusal total
+createRefusal s widths coefs ds n = orElse (streamRefusal s widths coefs ds n) (cond (short (s .v) (total ds) n) 6 0)
 
 -- `create`: the number, how many pairs are clamped, the trajectory, and the work space zeroed, its floats (`space`) and its whole numbers (`counts`)
 pub record CreateSays (s : Stream) (widths : List ℕ) (coefs records : List Float) (ds : List ℕ) (gv : List Float) (switches : List ℕ) (out work : List Float) (marks : List ℕ)

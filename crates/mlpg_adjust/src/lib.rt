@@ -1,11 +1,12 @@
 // Maximum likelihood parameter generation: the records of a stream become its trajectory.
 ghost use mathlib.Core.Path.{_≡_};
+ghost use mathlib.Core.List.{[]};
 ghost use Prim.Native.Nat.{_≤_};
 ghost use lib.ListN.{length};
 ghost use Rattle.lists.specs.Totals.{total};
 ghost use Rattle.lists.specs.Answers.{written};
 ghost use Rattle.mlpg_adjust.specs.Trajectory.{recordSize, numbersOf};
-ghost use Rattle.mlpg_adjust.specs.Promise.{createdNumber, lengthsOf, zeroFloats, zeroMarks, CreateSays};
+ghost use Rattle.mlpg_adjust.specs.Promise.{createdNumber, lengthsOf, streamRefusal, zeroFloats, zeroMarks, CreateSays};
 ghost use Rattle.mlpg_adjust.specs.Inner.Groups.{Shaped, GvFits, Room};
 
 mod counting;
@@ -60,6 +61,29 @@ impl Created {
             Created::Refused(number) => number,
         }
     }
+}
+
+// Why a stream's inputs are refused, whatever output and work space are lent: the smallest of 1 to 5 that applies, 0 for none.
+pub fn refusal_of_stream(
+    stream: Stream,
+    widths: &[u32],
+    coefficients: &[f64],
+    records: &[f64],
+    durations: &[u32],
+    gv: &[f64],
+    switches: &[u8],
+) -> u8
+    ensures { λ r. ⌜ r ≡ streamRefusal stream (now (widths .entry)) (now (coefficients .entry)) (now (durations .entry)) (lengthsOf (now (records .entry)) (now (gv .entry)) (now (switches .entry)) [] [] []) ⌝ }
+{
+    let n = Lengths {
+        records: records.len(),
+        gv: gv.len(),
+        switches: switches.len(),
+        out: 0,
+        work: 0,
+        marks: 0,
+    };
+    refusing::stream_refusal(stream, widths, coefficients, durations, n)
 }
 
 // `MlpgAdjust::create`: the trajectory of a stream, and how many pairs are clamped. With GV off its two lists are no input.

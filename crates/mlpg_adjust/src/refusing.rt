@@ -2,7 +2,7 @@
 ghost use mathlib.Core.Path.{_≡_};
 ghost use Prim.Native.Nat.{_≤_};
 ghost use lib.ListN.{length};
-ghost use Rattle.mlpg_adjust.specs.Promise.{outOfRange, gvDisagrees, disagree, short, createRefusal};
+ghost use Rattle.mlpg_adjust.specs.Promise.{outOfRange, gvDisagrees, disagree, short, streamRefusal, createRefusal};
 use super::GlobalVariance;
 use super::Stream;
 
@@ -78,15 +78,15 @@ fn is_short(v: u32, frames: usize, n: Lengths) -> bool
     n.marks < frames * 4
 }
 
-// The smallest of 1 to 6 that applies, 0 for none.
-pub(crate) fn refusal(
+// The smallest of 1 to 5 that applies, 0 for none.
+pub(crate) fn stream_refusal(
     stream: Stream,
     widths: &[u32],
     coefficients: &[f64],
     durations: &[u32],
     n: Lengths,
 ) -> u8
-    ensures { λ r. ⌜ r ≡ createRefusal stream (now (widths .entry)) (now (coefficients .entry)) (now (durations .entry)) n ⌝ }
+    ensures { λ r. ⌜ r ≡ streamRefusal stream (now (widths .entry)) (now (coefficients .entry)) (now (durations .entry)) n ⌝ }
 {
     if !model::voice::window::widths_fit(widths) {
         return 1;
@@ -101,11 +101,28 @@ pub(crate) fn refusal(
     if lists_disagree(stream, widths, coefficients.len(), states, n) {
         return 4;
     }
-    let frames = lists::total_u32(durations);
-    if 65_536 < frames {
-        return 5;
+    if lists::total_u32(durations) <= 65_536 {
+        return 0;
     }
-    if is_short(stream.v, frames as usize, n) {
+    5
+}
+
+// And then 6.
+pub(crate) fn refusal(
+    stream: Stream,
+    widths: &[u32],
+    coefficients: &[f64],
+    durations: &[u32],
+    n: Lengths,
+) -> u8
+    ensures { λ r. ⌜ r ≡ createRefusal stream (now (widths .entry)) (now (coefficients .entry)) (now (durations .entry)) n ⌝ }
+{
+    let refused = stream_refusal(stream, widths, coefficients, durations, n);
+    if refused != 0 {
+        return refused;
+    }
+    let frames = lists::total_u32(durations) as usize;
+    if is_short(stream.v, frames, n) {
         return 6;
     }
     0

@@ -2,18 +2,24 @@
 use mathlib.Core.Path.{_≡_, refl, sym, ap, _∙_}
 use mathlib.Core.List.{List, [], _∷_}
 use mathlib.Core.Bool.{Bool, true, false, not, _&&_, true≢false}
+use mathlib.Core.Logic.{⊎-elim}
 use Prim.Native.Nat.{ℕ, zero, suc, _+_, _*_, _/_, _^_, _<_, _≤_, min, max}
 use native.Mathlib.Numerals.{add-one}
 use native.Mathlib.Omega.{arith}
 use borrow.Author.Tests.{le-leb, lt-leb, leb-true, eq-eqb, ne-eqb, not-true, not-false}
-use lib.Dec.{leb}
+use lib.Dec.{T, leb}
 use lib.ListN.{length, take, drop, getD, drop-of-length-le, length-take, List·getD-eq-default}
-use lib.Seq.{drop-cons, getD-take}
+use lib.Seq.{drop-cons, getD-take, getD-drop}
 use lib.Ieee.{Float, nan, inf, fin, lt}
+use lib.Ieee.Scale as scale
 use Rattle.lists.specs.Build.{foldFrom}
+use Rattle.lists.specs.Parts.{part}
 use Rattle.lists.specs.Totals.{total}
+use Rattle.lists.proofs.Numbers.{le-or-lt}
 use Rattle.lists.proofs.Parts.{take-min, take-both}
 use Rattle.lists.proofs.Sums.{total-whole}
+use Rattle.floats.specs.Numbers.{nought}
+use Rattle.floats.proofs.Signs.{zero-finite, nought-zero}
 use Rattle.model.specs.Windows.{between, allOf, finite, widthsFit, allFinite, windowRefusal, longest, bandWidth, widthOf, windowStart}
 
 -- ---- a loop that tests each item: what the items from i on say is what all say
@@ -88,6 +94,24 @@ and-first false b h = h
 pub and-second : (a b : Bool) → a && b ≡ true → b ≡ true
 and-second true b h = h
 and-second false b h = absurd (true≢false (sym h))
+
+-- where all numbers are finite, so is each, and each of a part
+pub finite-at : (xs : List Float) (i : ℕ) → allFinite xs ≡ true → T (scale.finite (getD xs i nought))
+unfolding allFinite allOf
+finite-at [] i h = zero-finite nought nought-zero
+finite-at (x ∷ xs) zero h = is x (and-first (finite x) (allFinite xs) h)
+  where
+    is : (x : Float) → finite x ≡ true → T (scale.finite x)
+    is nan e = true≢false (sym e)
+    is (inf s) e = true≢false (sym e)
+    is (fin s m e) h = tt
+finite-at (x ∷ xs) (suc i) h = finite-at xs i (and-second (finite x) (allFinite xs) h)
+
+pub finite-part : (xs : List Float) (a w j : ℕ) → allFinite xs ≡ true → T (scale.finite (getD (part a w xs) j nought))
+finite-part xs a w j h = ⊎-elim
+    (λ (l : w ≤ j). rw (List·getD-eq-default (part a w xs) nought {n = j} (simp length-take (omega arith))) (zero-finite nought nought-zero))
+    (λ (l : j < w). rw (getD-take w (drop a xs) j nought l, getD-drop a xs j nought) (finite-at xs (a + j) h))
+    (le-or-lt w j)
 
 -- a set that fits has 1 to 4 windows
 module _ (ws : List ℕ) (f : widthsFit ws ≡ true) where

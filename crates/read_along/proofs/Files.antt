@@ -17,7 +17,7 @@ use Rattle.lists.proofs.Bytes.{bytes-length, little-at}
 use Rattle.lists.proofs.Spelled.{part-spelled, part-below}
 use Rattle.lists.proofs.Fronts.{starts-is, is-starts}
 use Rattle.lists.proofs.Builds.{build-is}
-use Rattle.lists.proofs.Joins.{part-part, part-joined, part-behind, rows-part, rows-cut, rows-same, flatten-rows, flatten-build}
+use Rattle.lists.proofs.Joins.{part-part, part-joined, part-behind, rows-own, rows-cut, rows-same, flatten-rows, flatten-build}
 use Rattle.read_along.specs.Words.{Span, span}
 use Rattle.read_along.specs.Format.{mark, version, versionOf, numberAt, countOf, headBytes, spanBytes, spanAt, spansIn, touching, formed, bytesOfSpan, bytesOfSpans, bytesOfHeading, bytesOfFile}
 use Rattle.read_along.specs.Laws.{at, Touch, Writable, TimingFile}
@@ -97,9 +97,9 @@ module _ (ss : List Span) where
   span-part i h =
       let row : ℕ → List ℕ = λ j. bytesOfSpan (at ss j) in
       part-behind (bytesOfHeading (length ss)) (bytesOfSpans ss) headBytes (headBytes + spanBytes * i) (spanBytes * i) spanBytes (heading-long (length ss)) refl
-      ∙ ap (part (spanBytes * i) spanBytes) (flatten-rows bytesOfSpan (span 0 0) ss ∙ sym (append-nil (rows row (length ss))))
-      ∙ ap (λ (o : ℕ). part o spanBytes (rows row (length ss) ++ [])) (mul-comm spanBytes i)
-      ∙ rows-part row spanBytes (length ss) i [] h (λ j g. span-long (at ss j))
+      ∙ ap (part (spanBytes * i) spanBytes) (flatten-rows bytesOfSpan (span 0 0) ss)
+      ∙ ap (λ (o : ℕ). part o spanBytes (rows row (length ss))) (mul-comm spanBytes i)
+      ∙ rows-own row spanBytes (length ss) i h (λ j g. span-long (at ss j))
 
   module _ (k : Writable ss) where
     count-back : countOf file ≡ length ss

@@ -19,7 +19,7 @@ use Rattle.lists.proofs.Spelled.{part-spelled, part-below, word-below}
 use Rattle.lists.proofs.Fronts.{starts-is, is-starts}
 use Rattle.lists.proofs.Builds.{build-is, build-at}
 use Rattle.lists.proofs.Fills.{build-length}
-use Rattle.lists.proofs.Joins.{part-part, part-joined, part-last, part-behind, rows-part, rows-cut, rows-same, flatten-rows}
+use Rattle.lists.proofs.Joins.{part-part, part-joined, part-last, part-behind, rows-own, rows-cut, rows-same, flatten-rows}
 use Rattle.settings.specs.declared.Settings.{Settings}
 use Rattle.settings.specs.Store.{Entry, heldIn}
 use Rattle.settings.specs.Format.{mark, versionOf, isKnown, countOf, headBytes, entryBytes, half, entryFrom, entryAt, entriesOf, formatRefusal, voicesOf, readRefusal, bytesOfEntry, bytesOfEntries, bytesOfHeading, bytesOfFile}
@@ -107,9 +107,9 @@ module _ (version : ℕ) (es : List Entry) (k : Writable version es) where
   unfolding bytesOfFile bytesOfEntries
   entry-part i h =
       part-behind (bytesOfHeading version (length es)) (bytesOfEntries version es) headBytes (headBytes + w * i) (w * i) w (heading-long version (length es)) refl
-      ∙ ap (λ (l : List ℕ). part (w * i) w l) (flatten-rows (bytesOfEntry version) nothing es ∙ sym (append-nil (rows row (length es))))
-      ∙ ap (λ (o : ℕ). part o w (rows row (length es) ++ [])) (mul-comm w i)
-      ∙ rows-part row w (length es) i [] h (λ j g. entry-long version (getD es j nothing))
+      ∙ ap (λ (l : List ℕ). part (w * i) w l) (flatten-rows (bytesOfEntry version) nothing es)
+      ∙ ap (λ (o : ℕ). part o w (rows row (length es))) (mul-comm w i)
+      ∙ rows-own row w (length es) i h (λ j g. entry-long version (getD es j nothing))
 
   -- it says these records
   pub written-back : entriesOf file ≡ es

@@ -13,7 +13,7 @@ use Rattle.lists.proofs.Fills.{build-length}
 use Rattle.lists.proofs.Rows.{row-in}
 use Rattle.region.specs.Rows.{elem, row}
 use Rattle.lists.specs.Parts.{part}
-use Rattle.solve.specs.Solve.{reach, reduced, factorAt, factor, forwardTerm, forwardAt, forward, backwardAt, backward}
+use Rattle.solve.specs.Solve.{reach, reduced, factorAt, factor, forwardTerm, forwardAt, forward, backwardAt, backward, solution}
 use Rattle.solve.proofs.Orders.{less-same}
 use Rattle.region.proofs.Readings.{part-elem, read-under}
 use Rattle.lists.proofs.Regions.{stored-behind, stored-rule}
@@ -107,6 +107,11 @@ pub backward-length : (w : ℕ) (F : List Float) (t : ℕ) (g : List Float) → 
 unfolding backward
 backward-length w F t [] = refl
 backward-length w F t (x ∷ g) = ap suc (backward-length w F (suc t) g)
+
+-- there are as many values as numbers on the right side
+pub solution-length : (w : ℕ) (A r : List Float) → length (solution w A r) ≡ length r
+unfolding solution
+solution-length w A r = let F = factor w A (length r) in backward-length w F 0 (forward w F r (length r)) ∙ forward-length w F r (length r)
 
 pub backward-next : (w : ℕ) (F d g : List Float) (t : ℕ) → t < length d → g ≡ take (t + 1) d ++ backward w F (t + 1) (drop (t + 1) d)
     → set g t (backwardAt w F (elem g t) (drop (t + 1) g) t) ≡ take t d ++ backward w F t (drop t d)

@@ -20,25 +20,21 @@ use Rattle.region.proofs.Laying.{laid}
 use Rattle.solve.specs.Solve.{factor, forward, solution}
 use Rattle.solve.specs.Promise.{solvedIn, SolveSays}
 use Rattle.solve.specs.Inner.Standing.{stoodIn, backedIn, Forth, Back}
-use Rattle.solve.proofs.Factors.{factor-length, forward-length, backward-length}
+use Rattle.solve.proofs.Factors.{factor-length, solution-length}
 
 -- ---- one region
 
 module _ (g : Layout) where
   -- the lists of a region keep their lengths
   pub solved-sized : (r : Region) → Sized g r → Sized g (solvedIn g r)
-  unfolding solution
-  solved-sized r k =
-      let n : ℕ = length (r .side) in
-      let f : List Float = factor (g .w) (r .matrix) n in
-      record {
-        means = k .means;
-        ivars = k .ivars;
-        matrix = k .matrix;
-        side = k .side;
-        factors = factor-length (g .w) (r .matrix) (g .n);
-        values = backward-length (g .w) f 0 (forward (g .w) f (r .side) n) ∙ forward-length (g .w) f (r .side) n ∙ k .side;
-      }
+  solved-sized r k = record {
+    means = k .means;
+    ivars = k .ivars;
+    matrix = k .matrix;
+    side = k .side;
+    factors = factor-length (g .w) (r .matrix) (g .n);
+    values = solution-length (g .w) (r .matrix) (r .side) ∙ k .side;
+  }
 
   -- all rows are done, and then all values are put backward
   pub solved : (r : Region) → Sized g r → backedIn (g .w) 0 (stoodIn (g .w) (g .n) r) ≡ solvedIn g r

@@ -11,6 +11,7 @@ use lib.ListN.{length, take, drop, getD, set, replicate, length-set, length-drop
 use lib.Seq.{drop-cons, drop-drop, drop-nil, set-comm}
 use Rattle.lists.specs.Totals.{total}
 use Rattle.lists.specs.Frames.{fill, count}
+use Rattle.lists.proofs.Chosen.{fill-on}
 use Rattle.lists.proofs.Counts.{count-all, count-none}
 use Rattle.lists.proofs.Rows.{row-fits}
 use Rattle.voicing.specs.Mask.{maskIn}
@@ -130,12 +131,6 @@ module _ {A : Type 0} where
   unfolding fill
   fill-off none zero xs = refl
   fill-off none (suc d) xs = ap (λ (l : List A). none ∷ l) (fill-off none d xs)
-
-  fill-on : (none : A) (d : ℕ) (xs : List A) → d ≤ length xs → fill none (replicate d true) xs ≡ take d xs
-  unfolding fill
-  fill-on none zero xs h = refl
-  fill-on none (suc d) [] h = absurd (omega arith)
-  fill-on none (suc d) (x ∷ xs) h = ap (λ (l : List A). x ∷ l) (fill-on none d xs (omega arith))
 
   pub fill-length : (none : A) (bs : List Bool) (xs : List A) → length (fill none bs xs) ≡ length bs
   unfolding fill

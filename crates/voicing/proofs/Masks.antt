@@ -1,5 +1,5 @@
 -- A mask by flags: what it has to do with states and their frames, and with the mask whose flags they are.
-use mathlib.Core.Path.{_≡_, refl, sym, ap, _∙_}
+use mathlib.Core.Path.{_≡_, refl, ap, _∙_}
 use mathlib.Core.Bool.{Bool, true, false}
 use mathlib.Core.List.{List, [], _∷_, _++_, append-assoc, map}
 use Prim.Native.Nat.{ℕ, zero, suc, _+_, _<_, _≤_}
@@ -8,13 +8,13 @@ use native.Mathlib.Numerals.{add-one}
 use native.Mathlib.Omega.{arith}
 use borrow.Author.Tests.{ne-eqb}
 use lib.ListN.{length, take, drop, getD, replicate, length-append, length-map, length-replicate, take-append-drop, drop-of-length-le}
-use lib.Seq.{drop-append-add, drop-at, drop-cons, drop-drop, getD-drop, take-all}
+use lib.Seq.{drop-at, drop-cons, drop-drop, getD-drop, take-all}
 use lib.Ieee.{Float}
 use Rattle.lists.specs.Totals.{total}
 use Rattle.lists.specs.Flags.{flag, isOn}
 use Rattle.lists.specs.Frames.{expand, count}
 use Rattle.lists.proofs.Counts.{count-most}
-use Rattle.lists.proofs.Expansions.{map-replicate}
+use Rattle.lists.proofs.Expansions.{map-replicate, drop-run}
 use Rattle.lists.proofs.Flags.{flag-back, on-true}
 use Rattle.lists.proofs.Sums.{total-append, total-more}
 use Rattle.model.specs.Weight.{voicedAt}
@@ -42,10 +42,6 @@ module _ {A : Type 0} where
   -- of some items those from place f on are x, d times, and then the others
   abbrev pub Run : List A → ℕ → ℕ → A → Type 0
   Run xs f d x = drop f xs ≡ replicate d x ++ drop (f + d) xs
-
-  -- items behind d that are alike
-  pub drop-run : (d k : ℕ) (x : A) (rest : List A) → drop (d + k) (replicate d x ++ rest) ≡ drop k rest
-  drop-run d k x rest = ap (λ (n : ℕ). drop (n + k) (replicate d x ++ rest)) (sym (length-replicate d x)) ∙ drop-append-add (replicate d x) rest k
 
 -- ---- a mask by flags
 

@@ -9,11 +9,12 @@ use native.Mathlib.Omega.{arith}
 use borrow.Author.Tests.{le-ltb, lt-ltb}
 use borrow.Rule.Slice.PartMut.{midOf, putMid}
 use lib.ListN.{length, take, drop, getD, replicate, length-drop, length-replicate, getD-replicate, List·getD-append}
-use lib.Seq.{sets, length-take-le, length-sets, drop-length, drop-drop, getD-take, getD-drop}
+use lib.Seq.{sets, length-take-le, length-sets, drop-length, drop-drop, take-nil, getD-take, getD-drop}
 use lib.Dec.{ltb}
 use lib.Ieee.{Float, nan}
 use Rattle.lists.specs.Totals.{total}
 use Rattle.lists.specs.Build.{build}
+use Rattle.lists.specs.Parts.{part}
 use Rattle.lists.proofs.Builds.{build-is}
 use Rattle.lists.proofs.Expansions.{part-length}
 use Rattle.lists.proofs.Fills.{build-length}
@@ -34,10 +35,10 @@ use Rattle.voicing.proofs.Masks.{frame-next, frame-fits, Run, goes-some
 -- ---- the ends of a state's frames
 
 module _ (before after j r : ℕ) (v : Float) where
-  shut-first : j < before → shut before after j r v ≡ nought
+  pub shut-first : j < before → shut before after j r v ≡ nought
   shut-first h = rw (lt-ltb j before h)
 
-  shut-last : r < after → shut before after j r v ≡ nought
+  pub shut-last : r < after → shut before after j r v ≡ nought
   shut-last h = ⊎-elim (λ (g : before ≤ j). rw (le-ltb j before g, lt-ltb r after h)) shut-first (le-or-lt before j)
 
   shut-none : before ≤ j → after ≤ r → shut before after j r v ≡ v
@@ -108,11 +109,20 @@ pair-put l a w place ivars e x y h g o q =
 
 -- ---- the distances in a run
 
-lefts-at : (l d j : ℕ) (rest : List Bool) → j < d → getD (lefts l (replicate d true ++ rest)) j 0 ≡ l + j
-unfolding lefts
-lefts-at l zero j rest h = absurd (omega arith)
-lefts-at l (suc d) zero rest h = omega arith
-lefts-at l (suc d) (suc j) rest h = lefts-at (suc l) d j rest (omega arith) ∙ omega arith
+-- those of the frames that are voiced from here on without a gap go by ones
+pub lefts-ahead : (l : ℕ) (bs : List Bool) (u : ℕ) → u < ahead bs → getD (lefts l bs) u 0 ≡ l + u
+unfolding ahead lefts
+lefts-ahead l [] u h = absurd (omega arith)
+lefts-ahead l (false ∷ bs) u h = absurd (omega arith)
+lefts-ahead l (true ∷ bs) zero h = omega arith
+lefts-ahead l (true ∷ bs) (suc u) h = lefts-ahead (suc l) bs u (omega arith) ∙ omega arith
+
+pub rights-ahead : (bs : List Bool) (u : ℕ) → u < ahead bs → getD (rights bs) u 0 + (u + 1) ≡ ahead bs
+unfolding ahead rights
+rights-ahead [] u h = absurd (omega arith)
+rights-ahead (false ∷ bs) u h = absurd (omega arith)
+rights-ahead (true ∷ bs) zero h = omega arith
+rights-ahead (true ∷ bs) (suc u) h = omega (arith, rights-ahead bs u (omega arith))
 
 lefts-on : (l d : ℕ) (rest : List Bool) → drop d (lefts l (replicate d true ++ rest)) ≡ lefts (l + d) rest
 unfolding lefts
@@ -135,11 +145,16 @@ unfolding ahead
 ahead-off zero rest h = absurd (omega arith)
 ahead-off (suc d) rest h = refl
 
-rights-at : (d j : ℕ) (rest : List Bool) → j < d → getD (rights (replicate d true ++ rest)) j 0 ≡ ahead rest + (d - 1 - j)
-unfolding rights
-rights-at zero j rest h = absurd (omega arith)
-rights-at (suc d) zero rest h = ahead-on d rest ∙ omega arith
-rights-at (suc d) (suc j) rest h = rights-at d j rest (omega arith) ∙ omega arith
+-- so do those of d voiced frames
+module _ (d j : ℕ) (rest : List Bool) (h : j < d) where
+  in-ahead : j < ahead (replicate d true ++ rest)
+  in-ahead = omega (arith, ahead-on d rest)
+
+  pub lefts-at : (l : ℕ) → getD (lefts l (replicate d true ++ rest)) j 0 ≡ l + j
+  lefts-at l = lefts-ahead l (replicate d true ++ rest) j in-ahead
+
+  pub rights-at : getD (rights (replicate d true ++ rest)) j 0 ≡ ahead rest + (d - 1 - j)
+  rights-at = omega (arith, rights-ahead (replicate d true ++ rest) j in-ahead, ahead-on d rest)
 
 rights-drop : (f : ℕ) (bs : List Bool) → drop f (rights bs) ≡ rights (drop f bs)
 unfolding rights
@@ -220,7 +235,7 @@ shut-length before after (l ∷ ls) [] vs a b = absurd (omega arith)
 shut-length before after (l ∷ ls) (r ∷ rs) [] a b = absurd (omega arith)
 shut-length before after (l ∷ ls) (r ∷ rs) (v ∷ vs) a b = ap suc (shut-length before after ls rs vs (omega arith) (omega arith))
 
-shut-at : (before after : ℕ) (ls rs : List ℕ) (vs : List Float) (j : ℕ) → j < length ls → length rs ≡ length ls → length vs ≡ length ls
+pub shut-at : (before after : ℕ) (ls rs : List ℕ) (vs : List Float) (j : ℕ) → j < length ls → length rs ≡ length ls → length vs ≡ length ls
     → elem (shutAll before after ls rs vs) j ≡ shut before after (getD ls j 0) (getD rs j 0) (elem vs j)
 unfolding shutAll
 shut-at before after [] rs vs j h a b = absurd (omega arith)
@@ -228,6 +243,25 @@ shut-at before after (l ∷ ls) [] vs j h a b = absurd (omega arith)
 shut-at before after (l ∷ ls) (r ∷ rs) [] j h a b = absurd (omega arith)
 shut-at before after (l ∷ ls) (r ∷ rs) (v ∷ vs) zero h a b = refl
 shut-at before after (l ∷ ls) (r ∷ rs) (v ∷ vs) (suc j) h a b = shut-at before after ls rs vs j (omega arith) (omega arith) (omega arith)
+
+-- those of some frames
+module _ (before after : ℕ) where
+  shut-front : (n : ℕ) (ls rs : List ℕ) (vs : List Float) → shutAll before after (take n ls) (take n rs) (take n vs) ≡ take n (shutAll before after ls rs vs)
+  unfolding shutAll
+  shut-front zero ls rs vs = refl
+  shut-front (suc n) [] rs vs = refl
+  shut-front (suc n) (l ∷ ls) [] vs = refl
+  shut-front (suc n) (l ∷ ls) (r ∷ rs) [] = refl
+  shut-front (suc n) (l ∷ ls) (r ∷ rs) (v ∷ vs) = ap (λ (x : List Float). shut before after l r v ∷ x) (shut-front n ls rs vs)
+
+  pub shut-part : (o n : ℕ) (ls rs : List ℕ) (vs : List Float) → length rs ≡ length ls → length vs ≡ length ls
+      → shutAll before after (part o n ls) (part o n rs) (part o n vs) ≡ part o n (shutAll before after ls rs vs)
+  unfolding shutAll
+  shut-part zero n ls rs vs a b = shut-front n ls rs vs
+  shut-part (suc o) n [] rs vs a b = rw (take-nil {A = ℕ} n, take-nil {A = Float} n)
+  shut-part (suc o) n (l ∷ ls) [] vs a b = absurd (omega arith)
+  shut-part (suc o) n (l ∷ ls) (r ∷ rs) [] a b = absurd (omega arith)
+  shut-part (suc o) n (l ∷ ls) (r ∷ rs) (v ∷ vs) a b = shut-part o n ls rs vs (omega arith) (omega arith)
 
 -- a distance of l more against a reach
 nearer : (l j reach : ℕ) → ltb (l + j) reach ≡ ltb j (reach - l)
@@ -248,7 +282,7 @@ ends-state before after l r f d x bs xs m fits k items begun ended =
     let a : length rs ≡ length ls = rights-length bs ∙ sym (lefts-length 0 bs) in
     let b : length xs ≡ length ls = m ∙ sym (lefts-length 0 bs) in
     let n : length shutBy ≡ length bs = shut-length before after ls rs xs a b ∙ lefts-length 0 bs in
-    let left : (j : ℕ) → j < d → getD ls (f + j) 0 ≡ l + j = λ j h. sym (getD-drop f ls j 0) ∙ rw (begun, k) (lefts-at l d j (drop (f + d) bs) h) in
+    let left : (j : ℕ) → j < d → getD ls (f + j) 0 ≡ l + j = λ j h. sym (getD-drop f ls j 0) ∙ rw (begun, k) (lefts-at d j (drop (f + d) bs) h l) in
     let right : (j : ℕ) → j < d → getD rs (f + j) 0 ≡ r + (d - 1 - j) = λ j h. sym (getD-drop f rs j 0) ∙ rw (rights-drop, k, ended) (rights-at d j (drop (f + d) bs) h) in
     let item : (j : ℕ) → j < d → elem xs (f + j) ≡ x = λ j h. sym (getD-drop f xs j nan) ∙ rw items (List·getD-append (replicate d x) (drop (f + d) xs) nan j (rw length-replicate h) ∙ getD-replicate d j x nan h) in
     sym (build-is (λ j. shut (before - l) (after - r) j (d - 1 - j) x) d (take d (drop f shutBy)) nan (length-take-le d (drop f shutBy) (rw length-drop (omega (arith, n))))

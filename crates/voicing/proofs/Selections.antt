@@ -3,27 +3,17 @@ use mathlib.Core.Path.{_≡_, refl, sym, ap, _∙_}
 use mathlib.Core.Bool.{Bool, true, false}
 use mathlib.Core.List.{List, [], _∷_, _++_}
 use Prim.Native.Nat.{ℕ, zero, suc, _+_, _<_, _≤_}
-use native.Mathlib.Numerals.{add-one}
 use native.Mathlib.Omega.{arith}
 use lib.ListN.{length, take, drop, getD, replicate, length-drop, length-replicate}
 use lib.Seq.{drop-drop, take-at}
-use Rattle.lists.specs.Totals.{total}
 use Rattle.lists.specs.Frames.{expand, select, count}
 use Rattle.lists.proofs.Counts.{count-all, count-none}
-use Rattle.lists.proofs.Expansions.{expand-next}
+use Rattle.lists.proofs.Expansions.{expand-next, expand-drop}
 use Rattle.voicing.specs.Inner.Fits.{frame}
-use Rattle.voicing.proofs.Masks.{frame-next, drop-run, Run}
+use Rattle.voicing.proofs.Masks.{frame-next, Run}
 
 module _ {A : Type 0} where
   -- ---- a state's frames all have its item
-
-  expand-drop : (ds : List ℕ) (xs : List A) (s : ℕ) → length xs ≡ length ds → drop (frame ds s) (expand ds xs) ≡ expand (drop s ds) (drop s xs)
-  unfolding expand total
-  expand-drop ds xs zero e = refl
-  expand-drop [] [] (suc s) e = refl
-  expand-drop [] (x ∷ xs) (suc s) e = absurd (omega arith)
-  expand-drop (d ∷ ds) [] (suc s) e = absurd (omega arith)
-  expand-drop (d ∷ ds) (x ∷ xs) (suc s) e = drop-run d (frame ds s) x (expand ds xs) ∙ expand-drop ds xs s (omega arith)
 
   pub expand-run : (ds : List ℕ) (xs : List A) (s f d : ℕ) (x z : A) → length xs ≡ length ds → s < length ds → f ≡ frame ds s → d ≡ getD ds s 0 → x ≡ getD xs s z → Run (expand ds xs) f d x
   expand-run ds xs s f d x z e t o q r =

@@ -15,7 +15,7 @@ use Rattle.model.specs.Weight.{voicedAt}
 use Rattle.model.specs.Record.{fromLinear}
 use Rattle.lists.specs.Frames.{expand}
 use Rattle.lists.specs.Flags.{flag, isOn}
-use Rattle.voicing.specs.Mask.{maskOf, weightAt, weightsOf}
+use Rattle.voicing.specs.Mask.{maskOf, weightAt, weightsOf, streamMask}
 use Rattle.voicing.specs.Boundaries.{lefts, rights}
 use Rattle.lists.proofs.Builds.{build-at}
 use Rattle.lists.proofs.Expansions.{map-expand, expand-length}
@@ -68,6 +68,9 @@ module _ (threshold : Float) (ws : List Weight) where
 pub mask-length : (threshold : Float) (ws : List Weight) (ds : List ℕ) → length ws ≡ length ds → length (maskOf threshold ws ds) ≡ total ds
 unfolding maskOf
 mask-length threshold ws ds e = expand-length ds (map (voicedAt threshold) ws) (simp length-map e)
+
+pub stream-length : (size : ℕ) (records : List Float) (threshold : Float) (ds : List ℕ) → length (streamMask size records threshold ds) ≡ total ds
+stream-length size records threshold ds = mask-length threshold (weightsOf size records (length ds)) ds (weights-length size records (length ds))
 
 pub lefts-length : (l : ℕ) (bs : List Bool) → length (lefts l bs) ≡ length bs
 unfolding lefts

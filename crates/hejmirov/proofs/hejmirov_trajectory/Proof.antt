@@ -6,7 +6,7 @@ use Rattle.hejmirov.proofs.hejmirov_trajectory.Tie as tie
 returns : tie.Need-returns
 returns c =
     let k = c .before .before .before .before .before .before .before .before .before in
-    record { answer = k .create .result; says = rw (← (k .before .before .before .before .variance-of .ensures)) (k .create .ensures); gives = c .hand-out-created .ensures }
+    record { answer = k .create .result; says = rw (← (k .before .before .before .before .stream-of .ensures)) (k .create .ensures); gives = c .hand-out-created .ensures }
 
 pub hejmirov-trajectory-spec : {M : Type 1} → statement M
 hejmirov-trajectory-spec =

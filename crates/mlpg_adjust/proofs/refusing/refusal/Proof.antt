@@ -1,56 +1,40 @@
 -- `mlpg_adjust::refusing::refusal` meets its contract.
-use mathlib.Core.Path.{sym, _∙_}
-use borrow.Author.Tests.{not-false}
+use mathlib.Core.Path.{_≡_}
+use mathlib.Core.Bool.{cond}
+use Prim.Native.Nat.{ℕ, _≤_}
 use lib.ListN.{length}
-use Rattle.model.proofs.Windows.{fit-few}
-use Rattle.mlpg_adjust.proofs.Ways.{in-range, refused-1, refused-2, refused-3, refused-4, refused-5, refused-6, refused-none}
 use borrow.Author.Needs.{needs}
+use Rattle.lists.specs.Totals.{total}
+use Rattle.mlpg_adjust.specs.Promise.{createRefusal}
+use Rattle.mlpg_adjust.proofs.Ways.{InRange, frames-are, refused-before, range-passed, refused-6}
 use Rattle.mlpg_adjust.proofs.refusing.refusal.Statement.{statement}
 use Rattle.mlpg_adjust.proofs.refusing.refusal.Tie as tie
 
 returns : tie.Need-returns
-returns c = refused-1 _ _ _ _ _ _ (c .before .widths-fit .ensures) (c .if1 .taken)
+returns c = refused-before _ _ _ _ _ _ (c .before .stream-refusal .ensures) (c .if1 .taken)
 
-returns-2 : tie.Need-returns-2
-returns-2 c = refused-2 _ _ _ _ _ _ (c .before .before .before .widths-fit .ensures) (c .before .before .if1 .left) _ (c .before .all-finite .ensures) (c .if2 .taken)
+-- the range of what is not refused with 1 to 5, and its frames
+module _ (c : tie.After-total-u32) where
+  abbrev entry : tie.Start
+  entry = c .before .before .before .before .before .before
 
-returns-3 : tie.Need-returns-3
-returns-3 c = refused-3 _ _ _ _ _ _ (c .before .before .before .before .before .widths-fit .ensures) (c .before .before .before .before .if1 .left) _ (c .before .before .before .all-finite .ensures) (c .before .before .if2 .left) _ (c .before .is-out-of-range .ensures) (c .if3 .taken)
+  range : let a = entry .args in InRange (a .stream .v) (length (a .durations .now)) × (total (a .durations .now) ≤ 65536)
+  range = range-passed _ _ _ _ _ _ (c .before .before .stream-refusal .ensures) (c .before .if1 .left)
 
-lists-disagree-requires : tie.Need-lists-disagree-requires
-lists-disagree-requires c κs =
-    let r = in-range _ _ (sym (c .before .is-out-of-range .ensures) ∙ c .if3 .left) in
-    (r .most-v, fit-few _ (sym (c .before .before .before .before .before .widths-fit .ensures) ∙ not-false _ (c .before .before .before .before .if1 .left)), r .few)
-
-returns-4 : tie.Need-returns-4
-returns-4 c = refused-4 _ _ _ _ _ _ (c .before .before .before .before .before .before .before .widths-fit .ensures) (c .before .before .before .before .before .before .if1 .left) _ (c .before .before .before .before .before .all-finite .ensures) (c .before .before .before .before .if2 .left) _ (c .before .before .before .is-out-of-range .ensures) (c .before .before .if3 .left) _ (c .before .lists-disagree .ensures) (c .if4 .taken)
-
-returns-5 : tie.Need-returns-5
-returns-5 c = refused-5 _ _ _ _ _ _ (c .before .before .before .before .before .before .before .before .before .widths-fit .ensures) (c .before .before .before .before .before .before .before .before .if1 .left) _ (c .before .before .before .before .before .before .before .all-finite .ensures) (c .before .before .before .before .before .before .if2 .left) _ (c .before .before .before .before .before .is-out-of-range .ensures) (c .before .before .before .before .if3 .left) _ (c .before .before .before .lists-disagree .ensures) (c .before .before .if4 .left) _ (c .before .total-u32 .ensures) (c .if5 .taken)
+  count : c .total-u32 .result ≡ total (entry .args .durations .now)
+  count = frames-are _ _ (c .total-u32 .ensures) (range .0 .few)
 
 is-short-requires : tie.Need-is-short-requires
-is-short-requires c κs = let u = c .before .before .before .before in let a = u .before .before .before .before .before .before .before .before .before .args in (in-range (a .stream .v) (length (a .durations .now)) (sym (u .before .is-out-of-range .ensures) ∙ u .if3 .left) .most-v, c .if5 .left)
+is-short-requires c κs = (range c .0 .most-v, rw (count c) (range c .1))
 
-returns-6 : tie.Need-returns-6
-returns-6 c = let u = c .before .before .before .before .before .before in refused-6 _ _ _ _ _ _ (u .before .before .before .before .before .widths-fit .ensures) (u .before .before .before .before .if1 .left) _ (u .before .before .before .all-finite .ensures) (u .before .before .if2 .left) _ (u .before .is-out-of-range .ensures) (u .if3 .left) _ (c .before .before .before .before .before .lists-disagree .ensures) (c .before .before .before .before .if4 .left) _ (c .before .before .before .total-u32 .ensures) (c .before .before .if5 .left) _ (c .before .is-short .ensures) (c .if6 .taken)
+six : (c : tie.After-is-short) → let a = entry (c .before) .args in _≡_ {A = ℕ} (cond (c .is-short .result) 6 0) (createRefusal (a .stream) (a .widths .now) (a .coefficients .now) (a .durations .now) (a .n))
+six c = let t = c .before in refused-6 _ _ _ _ _ _ (t .before .before .stream-refusal .ensures) (t .before .if1 .left) _ (count t) _ (c .is-short .ensures)
 
-returns-7 : tie.Need-returns-7
-returns-7 c = let u = c .before .before .before .before .before .before in refused-none _ _ _ _ _ _ (u .before .before .before .before .before .widths-fit .ensures) (u .before .before .before .before .if1 .left) _ (u .before .before .before .all-finite .ensures) (u .before .before .if2 .left) _ (u .before .is-out-of-range .ensures) (u .if3 .left) _ (c .before .before .before .before .before .lists-disagree .ensures) (c .before .before .before .before .if4 .left) _ (c .before .before .before .total-u32 .ensures) (c .before .before .if5 .left) _ (c .before .is-short .ensures) (c .if6 .left)
+returns-2 : tie.Need-returns-2
+returns-2 c = rw (c .if2 .taken) at (six (c .before))
+
+returns-3 : tie.Need-returns-3
+returns-3 c = rw (c .if2 .left) at (six (c .before))
 
 pub refusal-spec : {M : Type 1} → statement M
-refusal-spec =
-    tie.close
-    (tie.spec
-    (λ c κs. search needs)
-    returns
-    (λ c κs. search needs)
-    returns-2
-    (λ c κs. search needs)
-    returns-3
-    lists-disagree-requires
-    returns-4
-    (λ c κs. search needs)
-    returns-5
-    is-short-requires
-    returns-6
-    returns-7)
+refusal-spec = tie.close (tie.spec (λ c κs. search needs) returns (λ c κs. search needs) is-short-requires returns-2 returns-3)
