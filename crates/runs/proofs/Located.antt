@@ -24,7 +24,7 @@ use Rattle.mlpg_adjust.proofs.Marks.{mask-long}
 use Rattle.runs.specs.declared.finding.Found.{Found}
 use Rattle.runs.specs.Runs.{runsOf, runAt}
 use Rattle.runs.specs.Promise.{hasRoom}
-use Rattle.runs.specs.Inner.Finding.{Recorded, FoundAt, runOf, staysRefusal, Renders}
+use Rattle.runs.specs.Inner.Finding.{Recorded, FoundAt, runOf, staysRefusal, foundRefusal, Renders}
 use Rattle.runs.proofs.Masks.{run-lies}
 use Rattle.runs.proofs.Findings.{found-frames, found-there, found-run}
 
@@ -55,11 +55,17 @@ module _ (s : Stream) (widths : List ℕ) (coefs records : List Float) (ds : Lis
       pub run-there : ltb run (length (runsOf mask)) ≡ not (eqb n 0)
       run-there = rw (← ek) (found-there ds mask f k placed (a .1) (a .2)) ∙ ap (λ (m : ℕ). not (eqb m 0)) (its (sym en))
 
-      module _ (out work : List Float) (marks : List ℕ) (room : _≡_ {A = ℕ} (cond (hasRoom (s .v) n (length out) (length work) (length marks)) 0 6) 0) (stays : staysRefusal (s .gv) n widths ≡ 0) where
+      module _ (out work : List Float) (marks : List ℕ) (accepted : foundRefusal s widths n (length out) (length work) (length marks) ≡ 0) where
+        abbrev fit : Bool
+        fit = hasRoom (s .v) n (length out) (length work) (length marks)
+
+        in-turn : _≡_ {A = ℕ} (cond fit 0 6) 0 × (staysRefusal (s .gv) n widths ≡ 0)
+        in-turn = or-none (cond fit 0 6) (staysRefusal (s .gv) n widths) accepted
+
         -- what 20 and 21 leave
         left : (gvOn (s .gv) ≡ false) × (eqb n 0 ≡ false)
         left =
-            let (b, u) = or-none (cond (gvOn (s .gv)) 20 0) _ stays in
+            let (b, u) = or-none (cond (gvOn (s .gv)) 20 0) _ (in-turn .1) in
             let (d, _) = or-none (cond (eqb n 0) 21 0) _ u in
             (then-none (gvOn (s .gv)) 19 b, then-none (eqb n 0) 20 d)
 
@@ -69,7 +75,7 @@ module _ (s : Stream) (widths : List ℕ) (coefs records : List Float) (ds : Lis
         -- what 6 leaves
         fits : (n * s .v ≤ length out) × (n * 48 ≤ length work) × (n * 4 ≤ length marks)
         fits =
-            let (x, d) = both (leb (n * s .v) (length out) && leb (n * 48) (length work)) (leb (n * 4) (length marks)) (none-then (hasRoom (s .v) n (length out) (length work) (length marks)) 5 room) in
+            let (x, d) = both (leb (n * s .v) (length out) && leb (n * 48) (length work)) (leb (n * 4) (length marks)) (none-then fit 5 (in-turn .0)) in
             let (a, b) = both (leb (n * s .v) (length out)) (leb (n * 48) (length work)) x in
             (leb-true (n * s .v) (length out) a, leb-true (n * 48) (length work) b, leb-true (n * 4) (length marks) d)
 

@@ -1,5 +1,5 @@
 -- The ways out of the refusals of runs, and of the calls.
-use mathlib.Core.Path.{_≡_, refl, sym, _∙_}
+use mathlib.Core.Path.{_≡_, refl, sym, ap, _∙_}
 use mathlib.Core.Bool.{Bool, true, false, cond, not, _||_}
 use mathlib.Core.List.{List, [], _∷_, _++_}
 use Prim.Native.Nat.{ℕ, _*_, _^_, _<_, _≤_}
@@ -28,7 +28,7 @@ use Rattle.runs.specs.declared.Run.{Run}
 use Rattle.runs.specs.Runs.{runsOf, runAt, pairsOf}
 use Rattle.runs.specs.Alone.{runNumbers}
 use Rattle.runs.specs.Promise.{recordsRefusal, runsIn, runsRefusal, RunsSay, hasRoom, runRefusal, RunSays}
-use Rattle.runs.specs.Inner.Finding.{Recorded, staysRefusal}
+use Rattle.runs.specs.Inner.Finding.{Recorded, foundRefusal}
 
 -- ---- `runs`
 
@@ -143,26 +143,22 @@ module _ (s : Stream) (widths : List ℕ) (coefs records : List Float) (ds : Lis
 
   -- of a run of n frames, which is there where it has some
   module _ (none : inputs ≡ 0) (n : ℕ) (en : runAt mask run .frames ≡ n) where
-    pub room-refused : (k : ℕ) → k ≡ cond (hasRoom (s .v) n (length out) (length work) (length marks)) 0 6 → (k ≡ 0 → ⊥) → Says (Refused k) out work marks
-    unfolding runRefusal
-    room-refused k e h = still k (rw (none, en, ← e) (sym (or-first k _ h))) h
-
-    module _ (room : _≡_ {A = ℕ} (cond (hasRoom (s .v) n (length out) (length work) (length marks)) 0 6) 0) (there : ltb run (length (runsOf mask)) ≡ not (eqb n 0)) where
-      stays : refusal ≡ staysRefusal (s .gv) n widths
+    module _ (there : ltb run (length (runsOf mask)) ≡ not (eqb n 0)) where
+      found-refusal : refusal ≡ foundRefusal s widths n (length out) (length work) (length marks)
       unfolding runRefusal
-      stays = rw (none, en, room, there) (swapped (gvOn (s .gv)) (eqb n 0) (cond (ltb 1 (widthOf widths 0)) 22 0))
+      found-refusal = rw (none, en, there) (ap (orElse (cond (hasRoom (s .v) n (length out) (length work) (length marks)) 0 6)) (swapped (gvOn (s .gv)) (eqb n 0) (cond (ltb 1 (widthOf widths 0)) 22 0)))
         where
           swapped : (a b : Bool) (k : ℕ) → orElse (cond a 20 0) (orElse (cond (not b) 0 21) k) ≡ orElse (cond a 20 0) (orElse (cond b 21 0) k)
           swapped true b k = refl
           swapped false true k = refl
           swapped false false k = refl
 
-      pub run-refused : (k : ℕ) → k ≡ staysRefusal (s .gv) n widths → (k ≡ 0 → ⊥) → Says (Refused k) out work marks
-      run-refused k e h = still k (e ∙ sym stays) h
+      pub run-refused : (k : ℕ) → k ≡ foundRefusal s widths n (length out) (length work) (length marks) → (k ≡ 0 → ⊥) → Says (Refused k) out work marks
+      run-refused k e h = still k (e ∙ sym found-refusal) h
 
-      pub run-done : staysRefusal (s .gv) n widths ≡ 0 → (r : Run) → runAt mask run ≡ r → (out′ work′ : List Float) (marks′ : List ℕ)
+      pub run-done : foundRefusal s widths n (length out) (length work) (length marks) ≡ 0 → (r : Run) → runAt mask run ≡ r → (out′ work′ : List Float) (marks′ : List ℕ)
           → out′ ≡ written 0 (runNumbers s widths coefs records ds r) out → work′ ≡ written 0 (zeroFloats (r .frames)) work → marks′ ≡ written 0 (zeroMarks (r .frames)) marks
           → Says (Done n) out′ work′ marks′
       run-done z r e out′ work′ marks′ a b d =
-          let q : refusal ≡ 0 = stays ∙ z in
+          let q : refusal ≡ 0 = found-refusal ∙ z in
           record { answer = rw (q, en); numbers = rw (q, e) a; space = rw (q, e) b; counts = rw (q, e) d }

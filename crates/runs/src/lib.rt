@@ -73,22 +73,7 @@ pub fn create_run(
     if refused != 0 {
         return Filled::Refused(refused);
     }
-    let u = Voicing {
-        size: refusing::record_size(stream.v, widths.len(), stream.masked),
-        threshold: stream.threshold,
-    };
-    let found = finding::run_at(records, u, durations, lists::wide(run));
-    let frames = found.frames();
-    let room = refusing::room_refusal(stream.v, frames, out.len(), work.len(), marks.len());
-    if room != 0 {
-        return Filled::Refused(room);
-    }
-    let variance = stream.gv;
-    let stays = refusing::refusal_of_run(variance, frames, widths);
-    if stays != 0 {
-        return Filled::Refused(stays);
-    }
-    rendering::render(
+    rendering::answer(
         stream,
         widths,
         coefficients,
@@ -96,10 +81,9 @@ pub fn create_run(
         durations,
         gv,
         switches,
-        found,
+        run,
         out,
         work,
         marks,
-    );
-    Filled::Done(frames as u32)
+    )
 }

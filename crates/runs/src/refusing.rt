@@ -5,8 +5,9 @@ ghost use Prim.Native.Nat.{_<_, _≤_};
 ghost use lib.ListN.{length};
 ghost use Rattle.mlpg_adjust.specs.Trajectory.{recordSize};
 ghost use Rattle.runs.specs.Promise.{recordsRefusal, hasRoom};
-ghost use Rattle.runs.specs.Inner.Finding.{staysRefusal};
+ghost use Rattle.runs.specs.Inner.Finding.{staysRefusal, foundRefusal};
 use mlpg_adjust::GlobalVariance;
+use mlpg_adjust::Stream;
 
 // How many numbers a state's record has: its pairs and, if masked, one weight.
 pub(crate) fn record_size(v: u32, windows: usize, masked: bool) -> usize
@@ -47,7 +48,7 @@ pub(crate) fn refusal_of_records(
 }
 
 // 6 where the output or the work space is too short for so many frames, 0 where it is not.
-pub(crate) fn room_refusal(v: u32, frames: usize, out: usize, work: usize, marks: usize) -> u8
+fn room_refusal(v: u32, frames: usize, out: usize, work: usize, marks: usize) -> u8
     ensures { λ r. ⌜ r ≡ cond (hasRoom v frames out work marks) 0 6 ⌝ }
 {
     let numbers = lists::has_room(frames, lists::wide(v), out);
@@ -60,7 +61,7 @@ pub(crate) fn room_refusal(v: u32, frames: usize, out: usize, work: usize, marks
 }
 
 // 20 where global variance is on, 21 for a run of no frames, which is not there, 22 where the first window is longer than one; 0 for none.
-pub(crate) fn refusal_of_run(gv: GlobalVariance, frames: usize, widths: &[u32]) -> u8
+fn refusal_of_run(gv: GlobalVariance, frames: usize, widths: &[u32]) -> u8
     requires { ⌜ 0 < length (now widths) ⌝ }
     ensures { λ r. ⌜ r ≡ staysRefusal gv frames (now (widths .entry)) ⌝ }
 {
@@ -74,4 +75,24 @@ pub(crate) fn refusal_of_run(gv: GlobalVariance, frames: usize, widths: &[u32]) 
         return 22;
     }
     0
+}
+
+// The smallest of 6, 20, 21 and 22 that applies to a run of so many frames, 0 for none.
+pub(crate) fn run_refusal(
+    stream: Stream,
+    widths: &[u32],
+    frames: usize,
+    out: usize,
+    work: usize,
+    marks: usize,
+) -> u8
+    requires { ⌜ 0 < length (now widths) ⌝ }
+    ensures { λ r. ⌜ r ≡ foundRefusal stream (now (widths .entry)) frames out work marks ⌝ }
+{
+    let room = room_refusal(stream.v, frames, out, work, marks);
+    if room != 0 {
+        return room;
+    }
+    let variance = stream.gv;
+    refusal_of_run(variance, frames, widths)
 }

@@ -21,6 +21,7 @@ use Rattle.runs.specs.declared.Run.{Run}
 use Rattle.runs.specs.declared.finding.Place.{Place}
 use Rattle.runs.specs.declared.finding.Found.{Found}
 use Rattle.runs.specs.Runs.{runsFrom, runsOf}
+use Rattle.runs.specs.Promise.{hasRoom}
 
 -- there is a record a state, and no more frames than allowed
 pub record Recorded (u : Voicing) (records : ℕ) (ds : List ℕ) : Type 0 where
@@ -70,6 +71,10 @@ pub record FoundAt (ds : List ℕ) (mask : List Bool) (f : Found) : Type 0 where
 -- 20, 21 and 22, of a run of so many frames
 abbrev pub staysRefusal : GlobalVariance → ℕ → List ℕ → ℕ
 staysRefusal gv frames widths = orElse (cond (gvOn gv) 20 0) (orElse (cond (eqb frames 0) 21 0) (cond (ltb 1 (widthOf widths 0)) 22 0))
+
+-- and 6 before them
+abbrev pub foundRefusal : Stream → List ℕ → ℕ → ℕ → ℕ → ℕ → ℕ
+foundRefusal s widths frames out work marks = orElse (cond (hasRoom (s .v) frames out work marks) 0 6) (staysRefusal (s .gv) frames widths)
 
 -- nothing is refused of the run
 pub record Renders (s : Stream) (widths : List ℕ) (coefs records : List Float) (ds : List ℕ) (f : Found) (out work : List Float) (marks : List ℕ) : Type 0 where
