@@ -81,7 +81,7 @@ fill-group-spec =
     (λ c. omega (arith, places c, (entry c).requires.0.most-v, (entry c).well_formed, (turn c).loop.invariant.long))
     (λ c. omega (arith, frames c, (entry c).requires.0.framed.frames))
     (λ c. search rules)
-    (λ c. omega (arith, values c.before c.if1.true, c.before.before.before.before.before.places.type-inv))
+    (λ c. omega (arith, values c.before c.if1.true, c.before.before.before.before.before.places.type_inv))
     put-lanes-requires
     (λ c. omega (arith, few c.before.before.before.before.before c.before.before.before.before.if1.true, (entry c.before.before.before.before.before).pre.0.framed.frames))
     (λ c. search rules)
