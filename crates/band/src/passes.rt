@@ -15,7 +15,7 @@ use region::Layout;
 const BLOCK: usize = 256;
 
 // Rows `from` to `to` of a band of n rows, which has w numbers a row from place `rows` on, and its right side from place `right` on.
-#[derive(Drop)]
+#[derive(Clone, Copy)]
 struct Block {
     rows: usize,
     right: usize,

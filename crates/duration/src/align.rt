@@ -8,13 +8,13 @@ ghost use Rattle.duration.specs.Inner.Asked.{InPlace, Lies, closed, grown, Close
 use crate::Fitted;
 
 // A label's end: a time in frames, or open.
-#[derive(Drop)]
+#[derive(Clone, Copy)]
 pub(crate) enum End {
     At(f64),
     Open,
 }
 
-#[derive(Drop)]
+#[derive(Clone, Copy)]
 pub(crate) struct Label {
     pub(crate) first: usize,
     pub(crate) end: End,
@@ -38,7 +38,7 @@ impl Label {
 }
 
 // A group's unit changes and frames, or its refusal.
-#[derive(Drop)]
+#[derive(Clone, Copy)]
 pub(crate) enum Closed {
     Grown(u32, u32),
     Refused(u8),

@@ -11,7 +11,7 @@ mod fit;
 mod speed;
 
 // The unit changes of a fit, or the number of why there is none.
-#[derive(Drop)]
+#[derive(Clone, Copy)]
 pub enum Fitted {
     Done(u32),
     Refused(u8),
@@ -30,7 +30,7 @@ impl Fitted {
 }
 
 // How many durations an alignment gave and its unit changes, or the number of why there is none.
-#[derive(Drop)]
+#[derive(Clone, Copy)]
 pub enum Aligned {
     Done(u32, u32),
     Refused(u8),
@@ -89,7 +89,7 @@ fn refusal_of_labels(
 }
 
 // The sum of the shortest durations, or that they can't be taken: one is 0, or they come to more than 65,536 frames.
-#[derive(Drop)]
+#[derive(Clone, Copy)]
 enum Low {
     Frames(u32),
     Refused,

@@ -6,7 +6,7 @@ ghost use Rattle.files.specs.Words.{is_text};
 use libc::STDERR_FILENO;
 
 // How many bytes were read, unless a read failed.
-#[derive(Drop)]
+#[derive(Clone, Copy)]
 pub enum Input {
     Bytes(usize),
     Failed,

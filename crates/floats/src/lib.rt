@@ -113,7 +113,7 @@ fn nearest_root(d: u64) -> u64
 }
 
 // A positive finite float as digits * 2 ^ scale / 2 ^ 1126, with 53 digits.
-#[derive(Drop)]
+#[derive(Clone, Copy)]
 struct Scaled {
     digits: u64,
     scale: u64,

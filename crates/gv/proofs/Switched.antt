@@ -15,7 +15,7 @@ use Rattle.lists.proofs.Flags.{on_true}
 use Rattle.lists.proofs.Counts.{count_most}
 use Rattle.region.specs.Rows.{elem}
 use Rattle.gv.specs.Gv.{sum_from_first}
-use Rattle.gv.specs.Inner.Turns.{first_on_lem, joined, Sampled}
+use Rattle.gv.specs.Inner.Turns.{first_on, joined, Sampled}
 use Rattle.gv.specs.declared.MlpgGlobalVariance.{MlpgGlobalVariance}
 
 pub switch_off : (on : List ℕ) (t : ℕ) → get_or on t 0 ≡ 0 → false ≡ get_or (map is_on on) t false
@@ -24,8 +24,8 @@ switch_off on t e = sym (get_or-map is_on on t 0 ∙ rw e)
 pub switch_on : (on : List ℕ) (t : ℕ) → (get_or on t 0 ≡ 0 → ⊥) → true ≡ get_or (map is_on on) t false
 switch_on on t e = sym (get_or-map is_on on t 0 ∙ on_true (get_or on t 0) e)
 
-first-inside : (bs : List Bool) → 0 < count bs → first_on_lem bs < length bs
-unfolding count first_on_lem
+first-inside : (bs : List Bool) → 0 < count bs → first_on bs < length bs
+unfolding count first_on
 first-inside [] h = absurd (omega arith)
 first-inside (true ∷ bs) h = omega arith
 first-inside (false ∷ bs) h = omega (arith, first-inside bs h)
@@ -55,21 +55,21 @@ module _ (on : List ℕ) where
   unfolding count
   count-end t h = rw (none t h)
 
-  pub first_on_lem : (t : ℕ) → t < length on → get_or bools t false ≡ true → first_on_lem (drop t bools) ≡ 0
-  unfolding first_on_lem
+  pub first_on_lem : (t : ℕ) → t < length on → get_or bools t false ≡ true → first_on (drop t bools) ≡ 0
+  unfolding first_on
   first_on_lem t h e = rw (next t h, e)
 
-  pub first_off : (t : ℕ) → t < length on → get_or bools t false ≡ false → first_on_lem (drop t bools) ≡ first_on_lem (drop (t + 1) bools) + 1
-  unfolding first_on_lem
+  pub first_off : (t : ℕ) → t < length on → get_or bools t false ≡ false → first_on (drop t bools) ≡ first_on (drop (t + 1) bools) + 1
+  unfolding first_on
   first_off t h e = rw (next t h, e) (omega arith)
 
-  pub first-end : (t : ℕ) → length on ≤ t → first_on_lem (drop t bools) ≡ 0
-  unfolding first_on_lem
+  pub first-end : (t : ℕ) → length on ≤ t → first_on (drop t bools) ≡ 0
+  unfolding first_on
   first-end t h = rw (none t h)
 
   -- ---- what is known where some frame is switched
 
-  pub sampled : (g : MlpgGlobalVariance) (values : ℕ) → Sampled g bools values → (length on ≡ values) × (g.first ≡ first_on_lem bools) × (g.first < length on) × (g.switched ≤ g.length)
+  pub sampled : (g : MlpgGlobalVariance) (values : ℕ) → Sampled g bools values → (length on ≡ values) × (g.first ≡ first_on bools) × (g.first < length on) × (g.switched ≤ g.length)
   sampled g values k =
       let c = k.counted in (
         sym bools-length ∙ c.frames ∙ sym k.all,
@@ -81,9 +81,9 @@ module _ (on : List ℕ) where
 -- ---- a sum of f over the switched values: so far, and with those from t on it is the whole
 
 -- the switched values are the first of them and those after it
-select-first : (bs : List Bool) (par : List Float) → length bs ≡ length par → first_on_lem bs < length bs
-    → select bs par ≡ elem par (first_on_lem bs) ∷ select (drop (suc (first_on_lem bs)) bs) (drop (suc (first_on_lem bs)) par)
-unfolding first_on_lem select
+select-first : (bs : List Bool) (par : List Float) → length bs ≡ length par → first_on bs < length bs
+    → select bs par ≡ elem par (first_on bs) ∷ select (drop (suc (first_on bs)) bs) (drop (suc (first_on bs)) par)
+unfolding first_on select
 select-first [] par e h = absurd (omega arith)
 select-first (true ∷ bs) [] e h = absurd (omega arith)
 select-first (false ∷ bs) [] e h = absurd (omega arith)
@@ -98,10 +98,10 @@ pub record Summing (f : Float → Float) (on : List ℕ) (par : List Float) (t :
   pub rest : sum_from f on par t sum ≡ sum_from_first f (select (map is_on on) par)
 
 module _ (f : Float → Float) (on : List ℕ) (par : List Float) (e : length on ≡ length par) where
-  pub summing_first : (k : ℕ) (sum : Float) → k ≡ first_on_lem (map is_on on) → k < length on → sum ≡ f (elem par k) → Summing f on par (k + 1) sum
+  pub summing_first : (k : ℕ) (sum : Float) → k ≡ first_on (map is_on on) → k < length on → sum ≡ f (elem par k) → Summing f on par (k + 1) sum
   unfolding sum_from_first
   summing_first k sum o h q =
-      let b : first_on_lem (map is_on on) < length (map is_on on) = omega (arith, bools-length on) in
+      let b : first_on (map is_on on) < length (map is_on on) = omega (arith, bools-length on) in
       record { within = omega arith; rest = rw (q, select-first (map is_on on) par (bools-length on ∙ e) b, ← o, add-one) }
 
   module _ (t : ℕ) (sum : Float) (k : Summing f on par t sum) where

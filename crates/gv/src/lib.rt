@@ -24,14 +24,14 @@ mod reads;
 mod steps;
 mod switches;
 
-#[derive(Drop)]
+#[derive(Clone, Copy)]
 struct Moments {
     mean: f64,
     vari: f64,
 }
 
 // The sizes of a component's equations, and what there is to know of the switches.
-#[derive(Drop)]
+#[derive(Clone, Copy)]
 struct MlpgGlobalVariance {
     windows: usize,
     length: usize,

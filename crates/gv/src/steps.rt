@@ -8,7 +8,7 @@ use super::MlpgGlobalVariance;
 use super::objective::{W1, W2};
 
 // What a step is the same in for every frame.
-#[derive(Drop)]
+#[derive(Clone, Copy)]
 pub(crate) struct Pull {
     pub(crate) weight: f64,
     pub(crate) dv: f64,
@@ -33,7 +33,7 @@ pub(crate) fn next_at(s: Pull, diagonal: f64, b: bool, g: f64, m: f64, x: f64) -
 }
 
 // The size of the step, and the objective before it: NaN where there is none, which changes no size.
-#[derive(Drop)]
+#[derive(Clone, Copy)]
 pub(crate) struct Descent {
     pub(crate) step: f64,
     pub(crate) prev: f64,

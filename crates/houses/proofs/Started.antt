@@ -27,7 +27,7 @@ use Rattle.model.specs.Windows.{all_of, finite, widths_fit, all_finite, window_r
 use Rattle.model.proofs.Windows.{all-part, all_built}
 use Rattle.houses.specs.Slots.{Table, slot_at, trimmed, widths_in, coefficients_in, is_empty, first_own, free_of}
 use Rattle.houses.specs.Changes.{padded, holding, cleared, row_length, row_of, taps_of, started, SameSets}
-use Rattle.houses.specs.Promise.{table_refusal, row_fits_lem, StartSays}
+use Rattle.houses.specs.Promise.{table_refusal, row_fits, StartSays}
 use Rattle.houses.specs.Calls.{Asked, Told, Makes, Call, Run, own_calls, asked_in, Alike}
 use Rattle.houses.proofs.Whose.{may-within}
 use Rattle.houses.proofs.Putting.{padded-length}
@@ -120,7 +120,7 @@ module _ {t t' : Table} (common : ℕ) (ws : List ℕ) (cs : List Float) (a : St
 
     -- its row without the zeros at its end is a set's widths
     row_fits_lem : (length row ≤ most_windows) × (widths_fit (trimmed row) ≡ true)
-    row_fits_lem = (omega (arith, accepted.narrow, length-take size (drop (i * size) ws)), all_built row_fits_lem (row_of size ws) common i accepted.fit h)
+    row_fits_lem = (omega (arith, accepted.narrow, length-take size (drop (i * size) ws)), all_built row_fits (row_of size ws) common i accepted.fit h)
 
     -- it has as many coefficients as these sum to
     taps-length : length taps ≡ total row

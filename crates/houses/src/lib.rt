@@ -15,7 +15,7 @@ pub const WIDTHS: usize = 48;
 pub const COEFFICIENTS: usize = 720;
 
 // Where a set's coefficients stand in the table and how many they are, or the number of why that is not said.
-#[derive(Drop)]
+#[derive(Clone, Copy)]
 pub enum Used {
     At(u64, u64),
     Refused(u8),

@@ -22,7 +22,7 @@ use Rattle.lists.proofs.Numbers.{le-or-lt}
 use Rattle.lists.proofs.Spelled.{part-spelled, part-below, some_below}
 use Rattle.floats.proofs.Patterns.{bits_back, bits_only}
 use Rattle.job.specs.declared.finding.Found.TheVariants.{Sound}
-use Rattle.job.specs.Format.{float_at, number_at, floats_at_lem, mark, version_of, count_of, state_bytes, IsJob, numbers_behind, shortest_at, job_of}
+use Rattle.job.specs.Format.{float_at, number_at, floats_at, mark, version_of, count_of, state_bytes, IsJob, numbers_behind, shortest_at, job_of}
 use Rattle.job.specs.Damage.{damage_of}
 use Rattle.job.specs.Written.{bytes_of_float, bytes_of_state, bytes_of_states, bytes_of_heading, bytes_of_job, Writable, OneNan, Plain}
 use Rattle.job.proofs.Damages.{sound-job}
@@ -113,8 +113,8 @@ module _ (bytes : List ℕ) (j : IsJob bytes) (p : Plain bytes) where
         ∙ ap (λ (k : ℕ). drop k bytes) b)
         ∙ float_before (15 + step * i) (omega arith) (p.means i h)
 
-  states_are : bytes_of_states version (floats_at_lem bytes 15 step n) (floats_at_lem bytes 23 step n) (shortest_at version bytes n) ++ drop (15 + step * n) bytes ≡ drop 15 bytes
-  unfolding floats_at_lem
+  states_are : bytes_of_states version (floats_at bytes 15 step n) (floats_at bytes 23 step n) (shortest_at version bytes n) ++ drop (15 + step * n) bytes ≡ drop 15 bytes
+  unfolding floats_at
   states_are =
       let z : 15 + step * 0 ≡ 15 = rw (mul-zero step) in
       rw (shortest-is version bytes n) (states-before version (λ (i : ℕ). float_at bytes (15 + step * i)) (λ (i : ℕ). float_at bytes (23 + step * i)) (short_of version bytes) (λ (i : ℕ). drop (15 + step * i) bytes) n state-before)
@@ -141,7 +141,7 @@ module _ (bytes : List ℕ) (j : IsJob bytes) (p : Plain bytes) where
   job-rewritten : bytes_of_job version (job_of bytes) ≡ bytes
   unfolding bytes_of_job
   job-rewritten =
-      let q : List ℕ = bytes_of_states version (floats_at_lem bytes 15 step n) (floats_at_lem bytes 23 step n) (shortest_at version bytes n) in
+      let q : List ℕ = bytes_of_states version (floats_at bytes 15 step n) (floats_at bytes 23 step n) (shortest_at version bytes n) in
       ap (λ (k : ℕ). bytes_of_heading version k (float_at bytes 7) ++ q) (floats-long bytes 15 step n)
       ∙ ap (λ (l : List ℕ). bytes_of_heading version n (float_at bytes 7) ++ l) (sym (append-nil q) ∙ ap (λ (l : List ℕ). q ++ l) (sym none_left) ∙ states_are)
       ∙ heading-before
@@ -152,14 +152,14 @@ rewritten bytes e p = job-rewritten bytes (sound-job bytes e) p
 
 -- ---- and only such a file
 
-floats_at_lem : (bytes : List ℕ) (at step n i : ℕ) → i < n → get_or (floats_at_lem bytes at step n) i nan ≡ float_at bytes (at + step * i)
-unfolding floats_at_lem
+floats_at_lem : (bytes : List ℕ) (at step n i : ℕ) → i < n → get_or (floats_at bytes at step n) i nan ≡ float_at bytes (at + step * i)
+unfolding floats_at
 floats_at_lem bytes at step n i h = build-at (λ (k : ℕ). float_at bytes (at + step * k)) n i nan h
 
-floats-fit : (bytes : List ℕ) (at step n : ℕ) → Held (floats_at_lem bytes at step n)
+floats-fit : (bytes : List ℕ) (at step n : ℕ) → Held (floats_at bytes at step n)
 unfolding fits
 floats-fit bytes at step n i = ⊎_elim
-    (λ (g : n ≤ i). let l : length (floats_at_lem bytes at step n) ≤ i = omega (arith, floats-long bytes at step n) in rw (get_or-eq_default (floats_at_lem bytes at step n) nan l) tt)
+    (λ (g : n ≤ i). let l : length (floats_at bytes at step n) ≤ i = omega (arith, floats-long bytes at step n) in rw (get_or-eq_default (floats_at bytes at step n) nan l) tt)
     (λ (g : i < n). rw (floats_at_lem bytes at step n i g) (of_bits-fits binary64 (pattern_at bytes (at + step * i))))
     (le-or-lt n i)
 

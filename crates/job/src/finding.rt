@@ -7,7 +7,7 @@ ghost use Rattle.job.specs.Damage.{else_found, found_to, mark_found, word_found,
 use crate::Damage;
 
 // What is found wrong with a file, and the place of a byte.
-#[derive(Drop)]
+#[derive(Clone, Copy)]
 pub enum Found {
     Sound,
     Wrong(Damage, u64),

@@ -16,7 +16,7 @@ pub mod link;
 pub const MOST_STATES: usize = 1024;
 
 // What is wrong with a job file.
-#[derive(Drop)]
+#[derive(Clone, Copy)]
 pub enum Damage {
     Mark,
     Version,
@@ -39,7 +39,7 @@ impl Damage {
 }
 
 // A damaged job has the place of a byte.
-#[derive(Drop)]
+#[derive(Clone, Copy)]
 pub enum Answered {
     Done {
         states: u32,

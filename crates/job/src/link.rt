@@ -15,7 +15,7 @@ pub const BYTES: usize = 20_504;
 const FULL: u64 = 20_497;
 
 // Whether a link took what it was given, or the number of why not.
-#[derive(Drop)]
+#[derive(Clone, Copy)]
 pub enum Linked {
     Taken,
     Refused(u8),

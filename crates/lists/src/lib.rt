@@ -9,7 +9,7 @@ ghost use Rattle.lists.specs.Bytes.{little, bytes_of, alike, starts_with};
 ghost use Rattle.lists.specs.Firsts.{first_at, instead, replaced};
 
 // How many frames lists were filled for, or the number of why none was.
-#[derive(Drop)]
+#[derive(Clone, Copy)]
 pub enum Filled {
     Done(u32),
     Refused(u8),
@@ -28,7 +28,7 @@ impl Filled {
 }
 
 // Whether a call has changed what it is lent, or the number of why not.
-#[derive(Drop)]
+#[derive(Clone, Copy)]
 pub enum Changed {
     Done,
     Refused(u8),
@@ -47,7 +47,7 @@ impl Changed {
 }
 
 // How many there are, or the number of why that is not said.
-#[derive(Drop)]
+#[derive(Clone, Copy)]
 pub enum Counted {
     Number(u32),
     Refused(u8),

@@ -12,7 +12,7 @@ use Rattle.model.specs.Clamps.{clamped_in}
 use Rattle.lists.specs.Frames.{count}
 use Rattle.voicing.specs.Mask.{mask_of, weights_of}
 use Rattle.mlpg_adjust.specs.Trajectory.{record_size, matrix, side}
-use Rattle.mlpg_adjust.specs.Clamps.{clamped_over, clamped_high_lem, clamped_low_lem}
+use Rattle.mlpg_adjust.specs.Clamps.{clamped_over, clamped_high, clamped_low}
 use Rattle.mlpg_adjust.specs.Promise.{created, created_of}
 use Rattle.mlpg_adjust.specs.declared.Stream.{Stream}
 use Rattle.mlpg_adjust.specs.declared.GlobalVariance.TheVariants.{Off}
@@ -58,10 +58,10 @@ abbrev clamped_records : List Float
 clamped_records = state_of (f 0) one one large one ++ (state_of large large large large (f 0) ++ (state_of nan small small one one ++ state_of (f 0) (f 0) (f 0) (f 0) one))
 
 abbrev high : ℕ
-high = clamped_high_lem clamped_stream (1 ∷ 3 ∷ []) clamped_records (2 ∷ 3 ∷ 1 ∷ 0 ∷ [])
+high = clamped_high clamped_stream (1 ∷ 3 ∷ []) clamped_records (2 ∷ 3 ∷ 1 ∷ 0 ∷ [])
 
 abbrev low : ℕ
-low = clamped_low_lem clamped_stream (1 ∷ 3 ∷ []) clamped_records (2 ∷ 3 ∷ 1 ∷ 0 ∷ [])
+low = clamped_low clamped_stream (1 ∷ 3 ∷ []) clamped_records (2 ∷ 3 ∷ 1 ∷ 0 ∷ [])
 
 -- 1e20 in two frames of the second window
 pub clamped_high_lem : high ≡ 2

@@ -13,7 +13,7 @@ use super::{GlobalVariance, Stream};
 use region::{Group, Layout};
 
 // What is the same for every component: the stream, the layout of a region, how many numbers a record has, and how many frames there are.
-#[derive(Drop)]
+#[derive(Clone, Copy)]
 pub(crate) struct Plan {
     pub(crate) stream: Stream,
     pub(crate) layout: Layout,

@@ -14,14 +14,14 @@ mod render;
 use refusing::Lengths;
 
 // Global variance: off, or on with the weight of its means.
-#[derive(Drop)]
+#[derive(Clone, Copy)]
 pub enum GlobalVariance {
     Off,
     On(f64),
 }
 
 // A stream: how many components it has, how its frames are voiced, and what the unvoiced ones get.
-#[derive(Drop)]
+#[derive(Clone, Copy)]
 pub struct Stream {
     pub v: u32,
     pub masked: bool,
@@ -45,7 +45,7 @@ impl Stream {
 }
 
 // Whether the trajectory is written, and how many pairs of its voiced frames were clamped high and low, or the number of why not.
-#[derive(Drop)]
+#[derive(Clone, Copy)]
 pub enum Created {
     Done { high: u32, low: u32 },
     Refused(u8),

@@ -5,7 +5,7 @@ ghost use Rattle.mlpg_adjust.specs.Promise.{out_of_range, gv_disagrees, disagree
 use super::{GlobalVariance, Stream};
 
 // The lengths of lists that are not looked into.
-#[derive(Drop)]
+#[derive(Clone, Copy)]
 pub(crate) struct Lengths {
     pub(crate) records: usize,
     pub(crate) gv: usize,

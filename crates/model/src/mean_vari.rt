@@ -5,11 +5,11 @@ ghost use Rattle.floats.specs.Numbers.{nought};
 ghost use Rattle.model.specs.Pair.{pair, inverse_by, clamp_of, inverted, with0, weighted_by, plus, sum_of};
 ghost use Rattle.model.specs.Clamps.{is_high, is_low};
 
-#[derive(Drop)]
+#[derive(Clone, Copy)]
 pub struct MeanVari(pub f64, pub f64);
 
 // Whether the inverse of a variance is clamped: high where its size is above 1e19, low where it is below 1e-19. NaN is neither.
-#[derive(Drop)]
+#[derive(Clone, Copy)]
 pub enum Clamp {
     High,
     Low,
@@ -64,7 +64,7 @@ impl Clamp {
 }
 
 // A pair with its inverse variance, and whether that was clamped.
-#[derive(Drop)]
+#[derive(Clone, Copy)]
 pub struct Inverted {
     pub pair: MeanVari,
     pub clamp: Clamp,

@@ -14,7 +14,7 @@ const HEAD: usize = 9;
 const SPAN: usize = 8;
 
 // How many bytes were written, or the number of why none.
-#[derive(Drop)]
+#[derive(Clone, Copy)]
 pub enum Written {
     Bytes(u64),
     Refused(u8),

@@ -15,21 +15,21 @@ const MOST_LABEL_STATES: u32 = 16;
 const MILLISECONDS_A_FRAME: u32 = 5;
 
 // How many words there are or which one was found, or the number of why none.
-#[derive(Drop)]
+#[derive(Clone, Copy)]
 pub enum Counted {
     Number(u32),
     Refused(u8),
 }
 
 // The place of an excerpt's first number in the trajectory and how many numbers it has, or why there is none.
-#[derive(Drop)]
+#[derive(Clone, Copy)]
 pub enum Part {
     Numbers(u64, u64),
     Refused(u8),
 }
 
 // Where a word begins: how many states and how many frames come before it.
-#[derive(Drop)]
+#[derive(Clone, Copy)]
 struct Start {
     state: usize,
     frame: u32,

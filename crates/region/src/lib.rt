@@ -1,10 +1,11 @@
 // One component's region of the work space: where its means, inverse variances, rows, right side, factors and values lie, one after the other. The regions of
 // several components lie one after the other too.
+#![tactic(auto)]
 ghost use Rattle.std.specs.Prelude.{◌≡◌, ◌*◌, leb};
 ghost use Rattle.region.specs.Region.{floats_of, size_of, places_of};
 
 // What a region's places follow from: so many windows, so many frames, and rows so wide. No such numbers are too large for a place.
-#[derive(Drop)]
+#[derive(Clone, Copy)]
 pub struct Layout {
     pub windows: u8,
     pub n: u32,
@@ -12,7 +13,7 @@ pub struct Layout {
 }
 
 // Where the parts of a region begin; the means are at 0. It has `size` floats.
-#[derive(Drop)]
+#[derive(Clone, Copy)]
 pub struct Places {
     pub ivars: usize,
     pub rows: usize,
@@ -23,7 +24,7 @@ pub struct Places {
 }
 
 // Of v components those from `first` on, so many.
-#[derive(Drop)]
+#[derive(Clone, Copy)]
 pub struct Group {
     pub v: usize,
     pub first: usize,

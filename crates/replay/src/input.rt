@@ -3,7 +3,7 @@ ghost use Rattle.std.specs.Prelude.{length};
 ghost use Rattle.replay.specs.Input.{Within, Front};
 
 // What standard input had for some bytes.
-#[derive(Drop)]
+#[derive(Clone, Copy)]
 pub enum Came {
     Whole,
     Cut,
@@ -11,21 +11,21 @@ pub enum Came {
 }
 
 // A number of 32 bits, if it came whole.
-#[derive(Drop)]
+#[derive(Clone, Copy)]
 enum Number {
     Of(u32),
     Cut,
 }
 
 // A float, if it came whole.
-#[derive(Drop)]
+#[derive(Clone, Copy)]
 enum Float {
     Of(f64),
     Cut,
 }
 
 // How long a list is, if it came whole and there is room for it.
-#[derive(Drop)]
+#[derive(Clone, Copy)]
 pub enum Listed {
     Of(usize),
     Cut,

@@ -18,7 +18,7 @@ pub const WORK: u32 = 0x5a5a_5a5a;
 pub const OUT_F64: f64 = -1e6;
 
 // How many cases were replayed, how many of them differ, the number of the first that does, from 1 (0 while none does), and whether the input ended.
-#[derive(Drop)]
+#[derive(Clone, Copy)]
 pub struct Tally {
     pub seen: u64,
     pub differ: u64,

@@ -5,7 +5,7 @@
 use replay::{Came, Tally};
 
 // The answer's 64 bits for a vector's kind, or that there is no such kind.
-#[derive(Drop)]
+#[derive(Clone, Copy)]
 enum Answer {
     Bits(u64),
     Unknown,

@@ -4,7 +4,7 @@ use duration::Fitted;
 use replay::{OUT, WORK};
 
 // What the float behind the pairs is.
-#[derive(Drop)]
+#[derive(Clone, Copy)]
 pub enum Wanted {
     Length,
     Speed,

@@ -2,7 +2,7 @@
 use crate::case;
 use model::mean_vari::{Clamp, Inverted, MeanVari};
 
-#[derive(Drop)]
+#[derive(Clone, Copy)]
 enum Answer {
     Pair(Inverted),
     Unknown,

@@ -10,14 +10,14 @@ use model::voice::model::msd;
 use voicing::Voicing;
 
 // Where a walk along the states stands: at a state, and at its first frame.
-#[derive(Drop)]
+#[derive(Clone, Copy)]
 pub(crate) struct Place {
     pub(crate) state: usize,
     pub(crate) frame: usize,
 }
 
 // A run by the places where it begins and ends, which are one where there is none; and how many runs lie before it.
-#[derive(Drop)]
+#[derive(Clone, Copy)]
 pub(crate) struct Found {
     pub(crate) number: usize,
     pub(crate) begin: Place,

@@ -11,7 +11,7 @@ mod refusing;
 mod rendering;
 
 // A run of voiced frames: its first one, and how many it has.
-#[derive(Drop)]
+#[derive(Clone, Copy)]
 pub struct Run {
     pub first: usize,
     pub frames: usize,

@@ -22,7 +22,7 @@ const MOST_VOICE: u32 = 65_535;
 const FREE: u32 = 0xffff_ffff;
 
 // A voice's settings: the bits of three floats.
-#[derive(Drop)]
+#[derive(Clone, Copy)]
 pub struct Settings {
     pub speed: u64,
     pub weight: u64,
@@ -30,7 +30,7 @@ pub struct Settings {
 }
 
 // A voice's settings, or the number of why there are none.
-#[derive(Drop)]
+#[derive(Clone, Copy)]
 pub enum Got {
     Held(Settings),
     Refused(u8),

@@ -47,10 +47,10 @@ module _ (t : Bor (List Float)) (ds : List ℕ) (v state : ℕ) (r : Span) (says
     none : {A : Type 0} (y z : A) → given (excerpt_refusal (length t.now) ds v state) y z ≡ z
     none y z = given-none _ y z (refused-is k _ _ _ (sym (ap spanned e) ∙ says)).1
 
-    pub empty-says : (q : Bor (List Float)) → q.now ≡ [] → q.ref_ptr ≡ t.ptr → ExcerptSays t ds v state q
+    pub empty-says : (q : Bor (List Float)) → q.now ≡ [] → q.ref_ptr ≡ t.ref_ptr → ExcerptSays t ds v state q
     empty-says q n p =
-        let z : t.ptr.1 ≡ t.ptr.1 + 0 * 8 = omega arith in
+        let z : t.ref_ptr.1 ≡ t.ref_ptr.1 + 0 * 8 = omega arith in
         record {
           numbers = n ∙ sym (none (excerpt_of t.now ds v state) []);
-          itself = p ∙ ap (λ (o : ℕ). (t.ptr.0, o)) (z ∙ ap (λ (o : ℕ). t.ptr.1 + o * 8) (sym (none (excerpt_start ds v state) 0)));
+          itself = p ∙ ap (λ (o : ℕ). (t.ref_ptr.0, o)) (z ∙ ap (λ (o : ℕ). t.ref_ptr.1 + o * 8) (sym (none (excerpt_start ds v state) 0)));
         }

@@ -1,4 +1,5 @@
 // Where a trajectory's numbers stand in the spool, and the part of a trajectory that one state has.
+#![tactic(auto)]
 ghost use Rattle.std.specs.Prelude.{◌≡◌, ◌*◌, ◌^◌, ◌≤◌, ◌<◌, length};
 ghost use Rattle.spool.specs.Place.{number_of};
 ghost use Rattle.lists.specs.Sizes.{outside};
@@ -7,14 +8,14 @@ ghost use Rattle.spool.specs.Promise.{PlaceSays, SpanSays, ExcerptSays};
 ghost use Rattle.spool.specs.Inner.Sums.{Summed};
 
 // A byte place in the spool, or why there is none.
-#[derive(Drop)]
+#[derive(Clone, Copy)]
 pub enum Placed {
     At(u64),
     Refused(u8),
 }
 
 // The place of an excerpt's first number in the trajectory and how many numbers it has, or why there is none.
-#[derive(Drop)]
+#[derive(Clone, Copy)]
 pub enum Span {
     Numbers(u64, u64),
     Refused(u8),

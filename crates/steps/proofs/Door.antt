@@ -12,7 +12,7 @@ use Rattle.lists.specs.Totals.{total}
 use Rattle.steps.specs.declared.Settled.{Settled}
 use Rattle.steps.specs.declared.Settled.TheVariants.{Done, Over}
 use Rattle.steps.specs.Steps.{States, size, least, Outcome, settle}
-use Rattle.steps.specs.Promise.{fit_together, in_reach_lem, opens, too_long, SettleSays}
+use Rattle.steps.specs.Promise.{fit_together, in_reach, opens, too_long, SettleSays}
 use Rattle.steps.specs.Inner.Asked.{Ready, Aim}
 
 pub record Together (n v l d : ℕ) : Type 0 where
@@ -43,7 +43,7 @@ lists-fit n v l d b e h = together n v l d (sym e ∙ not-false b h)
 fit-together : (n v l d : ℕ) → Together n v l d → fit_together n v l d ≡ true
 fit-together n v l d o = rw (lt-ltb 0 n o.some, le-leb n most_states o.few, eq-eqb v n o.varis, eq-eqb l n o.shortest, eq-eqb d n o.work)
 
-in_reach_lem : (sum t : ℕ) → in_reach_lem sum t ≡ true → (sum < t) × (t ≤ most_frames)
+in_reach_lem : (sum t : ℕ) → in_reach sum t ≡ true → (sum < t) × (t ≤ most_frames)
 in_reach_lem sum t e = let r = (and-eq-true_iff _ _).0 e in (ltb-true sum t r.0, leb-true t most_frames r.1)
 
 -- it stands open for lists that agree, and a target that is not too low and not too high
@@ -64,14 +64,14 @@ module _ (rho : Float) (t : ℕ) (ss : States) (ds : List ℕ) where
 
   module _ (b : Bool) (e : b ≡ fit_together (size ss) (length ss.varis) (length ss.shortest) (length ds)) where
     pub settles_none : not b ≡ true → SettleSays rho t ss ds (Done 0) ds
-    settles_none h = shut (ap (λ (c : Bool). c && in_reach_lem (least ss) t) (sym e ∙ not-true b h))
+    settles_none h = shut (ap (λ (c : Bool). c && in_reach (least ss) t) (sym e ∙ not-true b h))
 
     -- the lists fit together, and their totals are taken
     module _ (h : not b ≡ false) where
       fit : Together (size ss) (length ss.varis) (length ss.shortest) (length ds)
       fit = lists-fit _ _ _ _ b e h
 
-      module _ (low sum : ℕ) (p : low ≡ least ss) (q : sum ≡ total ds) (c : Bool) (r : c ≡ in_reach_lem low t) where
+      module _ (low sum : ℕ) (p : low ≡ least ss) (q : sum ≡ total ds) (c : Bool) (r : c ≡ in_reach low t) where
         pub settles_low : not c ≡ true → SettleSays rho t ss ds (Done 0) ds
         settles_low g = shut (rw (sym e ∙ not-false b h, ← p, ← r, not-true c g))
 

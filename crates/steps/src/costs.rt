@@ -7,7 +7,7 @@ ghost use Rattle.steps.specs.Steps.{state, cost_of, key_of};
 ghost use Rattle.steps.specs.Inner.Scores.{rank, score, sooner_of};
 
 // A state's place, and its key.
-#[derive(Drop)]
+#[derive(Clone, Copy)]
 pub(crate) struct Entry {
     pub(crate) place: usize,
     pub(crate) key: u64,

@@ -1,4 +1,5 @@
 // The step rule: one frame at a time, to the state of least cost, until the states' total is the target.
+#![tactic(auto)]
 ghost use Rattle.std.specs.Prelude.{◌≡◌, ◌≤◌, ◌<◌, length};
 ghost use Rattle.lists.specs.Sizes.{most_frames, most_states};
 ghost use Rattle.lists.specs.Totals.{total, gap};
@@ -12,7 +13,7 @@ mod scan;
 mod tree;
 
 // How many steps were taken, or that there were more than 65,536 frames to start from.
-#[derive(Drop)]
+#[derive(Clone, Copy)]
 pub enum Settled {
     Done(u32),
     Over,
@@ -111,7 +112,7 @@ fn in_reach(sum: u64, target: u32) -> bool
 }
 
 // The totals of two lists of as many numbers, in one pass.
-#[derive(Drop)]
+#[derive(Clone, Copy)]
 struct Totals {
     shortest: u64,
     work: u64,

@@ -19,7 +19,7 @@ use Rattle.lists.proofs.Flags.{flag-back, on_true}
 use Rattle.lists.proofs.Sums.{total-append, total-more}
 use Rattle.model.specs.Weight.{voiced_at}
 use Rattle.voicing.specs.Mask.{mask_of, weights_of, stream_mask, mask_in}
-use Rattle.voicing.specs.Inner.Fits.{frame, goes_on_lem}
+use Rattle.voicing.specs.Inner.Fits.{frame, goes_on}
 use Rattle.voicing.proofs.Theory.{weights-length}
 
 -- ---- a state's frames
@@ -61,26 +61,26 @@ mask-drop [] flags (suc s) = refl
 mask-drop (d ∷ ds) flags (suc s) = drop-run d (frame ds s) (is_on (get_or flags 0 0)) (mask_in ds (drop d flags)) ∙ mask-drop ds (drop d flags) s ∙ rw drop-drop
 
 -- a state's flag at all of its frames
-goes_on_lem : (d x : ℕ) (b : Bool) → b ≡ goes_on_lem (x ∷ []) 0 d → replicate d b ≡ replicate d (is_on x)
+goes_on_lem : (d x : ℕ) (b : Bool) → b ≡ goes_on (x ∷ []) 0 d → replicate d b ≡ replicate d (is_on x)
 goes_on_lem zero x b e = refl
 goes_on_lem (suc d) x b e = rw (e, ne_eqb (suc d) 0 (λ z. omega arith))
 
 -- no frames break no run; frames whose flag is 0 do, and others don't
-pub goes_none : (flags : List ℕ) (f d : ℕ) → d ≡ 0 → true ≡ goes_on_lem flags f d
+pub goes_none : (flags : List ℕ) (f d : ℕ) → d ≡ 0 → true ≡ goes_on flags f d
 goes_none flags f d h = rw h
 
-pub goes_off : (flags : List ℕ) (f d : ℕ) → (d ≡ 0 → ⊥) → get_or flags f 0 ≡ 0 → false ≡ goes_on_lem flags f d
+pub goes_off : (flags : List ℕ) (f d : ℕ) → (d ≡ 0 → ⊥) → get_or flags f 0 ≡ 0 → false ≡ goes_on flags f d
 goes_off flags f d h e = rw (ne_eqb d 0 h, e)
 
-pub goes_true : (flags : List ℕ) (f d : ℕ) → (d ≡ 0 → ⊥) → (get_or flags f 0 ≡ 0 → ⊥) → true ≡ goes_on_lem flags f d
+pub goes_true : (flags : List ℕ) (f d : ℕ) → (d ≡ 0 → ⊥) → (get_or flags f 0 ≡ 0 → ⊥) → true ≡ goes_on flags f d
 goes_true flags f d h e = rw (ne_eqb d 0 h, on_true (get_or flags f 0) e)
 
-pub goes_some : (flags : List ℕ) (f d : ℕ) → false ≡ goes_on_lem flags f d → 0 < d
+pub goes_some : (flags : List ℕ) (f d : ℕ) → false ≡ goes_on flags f d → 0 < d
 goes_some flags f zero e = absurd (let z : ◌≡◌ {A = ℕ} 0 1 = cc in omega arith)
 goes_some flags f (suc d) e = omega arith
 
 module _ (ds flags : List ℕ) (s f : ℕ) (e : f ≡ frame ds s) where
-  pub mask-run : (d : ℕ) (b : Bool) → s < length ds → d ≡ get_or ds s 0 → b ≡ goes_on_lem flags f d → Run (mask_in ds flags) f d b
+  pub mask-run : (d : ℕ) (b : Bool) → s < length ds → d ≡ get_or ds s 0 → b ≡ goes_on flags f d → Run (mask_in ds flags) f d b
   unfolding mask_in
   mask-run d b h o g =
       let k : f + d ≡ frame ds (suc s) = omega (arith, rw add-one at (frame-next ds s h)) in

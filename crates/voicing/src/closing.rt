@@ -18,7 +18,7 @@ use model::voice::window::{left_width, right_width};
 use region::{Group, Layout};
 
 // How near to a run's begin and end the boundaries of a window reach.
-#[derive(Drop)]
+#[derive(Clone, Copy)]
 struct Reach {
     before: usize,
     after: usize,
@@ -50,7 +50,7 @@ fn overreach(reach: usize, distance: usize) -> usize
 }
 
 // d frames, of which the first `before` and the last `after` are near the ends of their run.
-#[derive(Drop)]
+#[derive(Clone, Copy)]
 struct Ends {
     d: usize,
     before: usize,
@@ -88,7 +88,7 @@ fn put_pair(pair: MeanVari, e: Ends, at: usize, ivars: usize, region: &mut [f64]
 
 // What the pairs of all states have in common: components side by side, some of v; a variance stands `half` numbers behind its mean in a record; a region
 // of `size` floats has n means a window and, from `ivars` on, as many inverse variances.
-#[derive(Drop)]
+#[derive(Clone, Copy)]
 struct Plan {
     v: usize,
     lanes: usize,
@@ -120,7 +120,7 @@ fn close_window(records: &[f64], p: Plan, mean: usize, at: usize, e: Ends, work:
 }
 
 // The frames of a voiced state: d of them, at place k of the closed-up ones; the first stands `left` frames behind the begin of their run, the last `right` before its end.
-#[derive(Drop)]
+#[derive(Clone, Copy)]
 struct Span {
     d: usize,
     k: usize,

@@ -14,7 +14,7 @@ mod flags;
 pub mod mask;
 
 // How states are voiced: by the weights of their records, of `size` numbers each.
-#[derive(Drop)]
+#[derive(Clone, Copy)]
 pub struct Voicing {
     pub size: usize,
     pub threshold: f64,

@@ -9,7 +9,7 @@ ghost use Rattle.model.specs.Promise.{MulSays, MulAddSays};
 use crate::mean_vari::{Clamp, MeanVari};
 
 // A voicing weight.
-#[derive(Drop)]
+#[derive(Clone, Copy)]
 pub enum Weight {
     Given(f64),
     Absent,
@@ -34,14 +34,14 @@ impl Weight {
 }
 
 // A pair that was asked for by its number.
-#[derive(Drop)]
+#[derive(Clone, Copy)]
 pub enum Found {
     At(MeanVari),
     Missing,
 }
 
 // How a call that writes a record ends: 6 is the number of the second.
-#[derive(Drop)]
+#[derive(Clone, Copy)]
 pub enum Mixed {
     Done,
     TooShort,
@@ -77,7 +77,7 @@ pub fn msd(lin: &[f64]) -> Weight
 }
 
 // How many variances are clamped high, and how many low.
-#[derive(Drop)]
+#[derive(Clone, Copy)]
 pub struct Clamps {
     pub high: usize,
     pub low: usize,
