@@ -1,0 +1,16 @@
+use native.Mathlib.Omega.{arith}
+use borrow.Author.Rules.{rules}
+use Prim.Native.Nat.{◌-◌, ◌≤◌}
+use mathlib.Core.Path.{◌≡◌, refl, ◌∙◌}
+use mathlib.Core.List.{◌++◌}
+use lib.ListN.{length, take, drop, length-set}
+use lib.Ieee.{nan}
+use Rattle.model.specs.Mixing.{more_by, over_shorter}
+use Rattle.model.proofs.Adding.{shorter_next, shorter_done}
+use Rattle.model.proofs.voice.model.add_scaled.Given as goal
+
+abbrev pub invariant-loop-i : goal.invariant-loop-i
+invariant-loop-i l = (l.i ≤ l.end) × (take l.i l.lhs ++ over_shorter (more_by l.weight) (drop l.i l.lhs) (drop l.i l.rhs) ≡ over_shorter (more_by l.weight) l.initial.lhs l.rhs) × (length l.lhs ≡ length l.initial.lhs)
+
+abbrev pub decreases-loop-i : goal.decreases-loop-i
+decreases-loop-i l = l.end - l.i

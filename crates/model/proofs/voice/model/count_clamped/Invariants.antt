@@ -1,0 +1,13 @@
+use Prim.Native.Nat.{◌-◌}
+use native.Mathlib.Omega.{arith}
+use borrow.Author.Rules.{rules}
+use lib.ListN.{length}
+use Rattle.model.specs.Clamps.{is_high, is_low}
+use Rattle.model.proofs.Clamps.{Counted, counted_next, counted-few, counted-all}
+use Rattle.model.proofs.voice.model.count_clamped.Given as goal
+
+abbrev pub invariant-loop-i : goal.invariant-loop-i
+invariant-loop-i l = Counted is_high l.varis l.i l.high × Counted is_low l.varis l.i l.low
+
+abbrev pub decreases-loop-i : goal.decreases-loop-i
+decreases-loop-i l = length l.varis - l.i

@@ -1,0 +1,17 @@
+use borrow.Author.Rules.{rules}
+use native.Mathlib.Omega.{arith}
+use Prim.Native.Nat.{◌-◌, min}
+use mathlib.Core.Path.{◌≡◌, sym, ◌∙◌}
+use mathlib.Core.List.{map}
+use lib.ListN.{length, length-map, get_or-map}
+use lib.Ieee.{nan}
+use Rattle.lists.proofs.Stores.{Storing, storing, storing-next, storing-done}
+use Rattle.model.proofs.Scaling.{times}
+use Rattle.model.proofs.Promises.{mul-refused, mul-done}
+use Rattle.model.proofs.voice.model.mul.Given as goal
+
+abbrev pub invariant-loop-i : goal.invariant-loop-i
+invariant-loop-i l = Storing (map (times l.weight) l.lin) l.initial.out l.out (length l.lin) l.i
+
+abbrev pub decreases-loop-i : goal.decreases-loop-i
+decreases-loop-i l = length l.lin - l.i

@@ -1,0 +1,13 @@
+use native.Mathlib.Omega.{arith}
+use Rattle.lists.proofs.Sums.{get_or-le-total}
+use borrow.Author.Rules.{rules}
+use Rattle.steps.specs.Inner.Scores.{key_at}
+use Rattle.steps.proofs.scan.entry_of.Goals as goal
+
+pub key_of-requires : goal.key_of-requires
+key_of-requires c =
+    omega (arith, get_or-le-total c.args.work.now c.args.p, c.requires.ready.small)
+
+pub returns : goal.returns
+unfolding key_at
+returns c = rw c.key_of.ensures

@@ -1,0 +1,14 @@
+use mathlib.Core.Path.{refl, ◌∙◌}
+use native.Mathlib.Omega.{arith}
+use borrow.Author.Rules.{rules}
+use Rattle.lists.specs.Totals.{gap}
+use Rattle.steps.specs.Steps.{states}
+use Rattle.steps.proofs.Stepping.{going-room, going-may, going-few, going_less}
+use Rattle.steps.proofs.Playing.{packed-ready, Tended, tended, tended-next, tended-done}
+use Rattle.steps.proofs.tree.settle.Given as goal
+
+abbrev pub invariant-loop-now_at : goal.invariant-loop-now_at
+invariant-loop-now_at l = Tended l.rho (states l.means l.varis l.shortest) l.target l.initial.work l.up l.work l.now_at l.changes
+
+abbrev pub decreases-loop-now_at : goal.decreases-loop-now_at
+decreases-loop-now_at l = gap l.now_at l.target
