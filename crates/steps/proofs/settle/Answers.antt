@@ -29,39 +29,34 @@ module _ (c : Else-not-in_reach) where
   taken = record { before = c.before.before.before; type_inv = search rules }
 
   abbrev entry : Start
-  entry = taken.before.before.before.before.before.before.before.before
+  entry = c.before.before.before.before.before.before.before.before.before.before
 
   abbrev all : States
-  all = states entry.args.means.now entry.args.varis.now entry.args.shortest.now
+  all = states c.args.means.now c.args.varis.now c.args.shortest.now
 
 pub returns-then-totals-gt65536 : goal.returns-then-totals-gt65536
 returns-then-totals-gt65536 c =
-    let t = taken (goal.at.returns-then-totals-gt65536 c).Else-not-in_reach in
-    settles_over _ _ _ _ _ t.fit_together.ensures t.if-not-fit_together.left _ _ t.totals-of.ensures.0 t.totals-of.ensures.1 _ c.in_reach.ensures (ap not c.if-not-in_reach.false) c.if-totals-gt65536.true
+    settles_over _ _ _ _ _ c.fit_together.ensures (ap not c.if-not-fit_together.false) _ _ c.totals_of-totals.ensures.0 c.totals_of-totals.ensures.1 _ c.in_reach.ensures (ap not c.if-not-in_reach.false) c.if-totals-gt65536.true
 
 -- with a total that is not too large
 module _ (c : Else-totals-gt65536) where
   abbrev reached : Else-not-in_reach
   reached = record { before = c.before.before.before; type_inv = search rules }
 
-  is-ready : Ready (all reached) (entry reached).args.work.now
+  is-ready : Ready (all reached) c.args.work.now
   is-ready =
-      let t = taken reached in
-      let a = (entry reached).args in
-      ready a.rho a.target (all reached) a.work.now _ t.fit_together.ensures t.if-not-fit_together.left _ _ t.totals-of.ensures.0 t.totals-of.ensures.1 _ reached.in_reach.ensures reached.if-not-in_reach.left c.if-totals-gt65536.false
+      let a = c.args in
+      ready a.rho a.target (all reached) a.work.now _ c.fit_together.ensures (ap not c.if-not-fit_together.false) _ _ c.totals_of-totals.ensures.0 c.totals_of-totals.ensures.1 _ c.in_reach.ensures (ap not c.if-not-in_reach.false) c.if-totals-gt65536.false
 
-  is-aimed : Aim (all reached) (entry reached).args.work.now (taken reached).totals_of-totals.result.work (entry reached).args.target
+  is-aimed : Aim (all reached) c.args.work.now c.totals_of-totals.result.work c.args.target
   is-aimed =
-      let t = taken reached in
-      let a = (entry reached).args in
-      aimed a.rho a.target (all reached) a.work.now _ t.fit_together.ensures t.if-not-fit_together.left _ _ t.totals-of.ensures.0 t.totals-of.ensures.1 _ reached.in_reach.ensures reached.if-not-in_reach.left c.if-totals-gt65536.false
+      let a = c.args in
+      aimed a.rho a.target (all reached) a.work.now _ c.fit_together.ensures (ap not c.if-not-fit_together.false) _ _ c.totals_of-totals.ensures.0 c.totals_of-totals.ensures.1 _ c.in_reach.ensures (ap not c.if-not-in_reach.false) c.if-totals-gt65536.false
 
 pub settle_from-requires : goal.settle_from-requires
 settle_from-requires c = (is-ready (goal.at.settle_from-requires c).Else-totals-gt65536, is-aimed (goal.at.settle_from-requires c).Else-totals-gt65536)
 
 pub returns : goal.returns
 returns c =
-    let r = reached (goal.at.returns c).Else-totals-gt65536 in
-    let t = taken r in
-    let a = (entry r).args in
-    settles_all a.rho a.target (all r) a.work.now _ t.fit_together.ensures t.if-not-fit_together.left _ _ t.totals-of.ensures.0 t.totals-of.ensures.1 _ r.in_reach.ensures r.if2.left c.if-totals-gt65536.false _ _ c.settle_from.ensures
+    let a = c.args in
+    settles_all a.rho a.target (all (goal.at.returns c).Else-not-in_reach) a.work.now _ c.fit_together.ensures (ap not c.if-not-fit_together.false) _ _ c.totals_of-totals.ensures.0 c.totals_of-totals.ensures.1 _ c.in_reach.ensures (ap not c.if-not-in_reach.false) c.if-totals-gt65536.false _ _ c.settle_from.ensures

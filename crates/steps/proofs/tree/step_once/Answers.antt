@@ -7,16 +7,16 @@ abbrev entry : After-place_at-p → Start
 entry c = c.before.before.before.before.before.before
 
 pub duration_at-requires : goal.duration_at-requires
-duration_at-requires c = let p = c.before in root-place _ _ _ _ (entry (goal.at.duration_at-requires c).After-place_at-p).requires.ready (entry (goal.at.duration_at-requires c).After-place_at-p).requires.room_for (entry (goal.at.duration_at-requires c).After-place_at-p).requires.standing _ c.place_at-p.ensures
+duration_at-requires c = let p = c.before in root-place _ _ _ _ c.requires.ready c.requires.room_for c.requires.standing _ c.place_at-p.ensures
 
 pub moved_one-d-requires : goal.moved_one-d-requires
-moved_one-d-requires c = let p = c.before.before in root_moves _ _ _ _ (entry (goal.at.moved_one-d-requires c).After-place_at-p).requires.ready (entry (goal.at.moved_one-d-requires c).After-place_at-p).requires.room_for (entry (goal.at.moved_one-d-requires c).After-place_at-p).requires.standing _ c.place_at-p.ensures _ c.duration_at.ensures
+moved_one-d-requires c = let p = c.before.before in root_moves _ _ _ _ c.requires.ready c.requires.room_for c.requires.standing _ c.place_at-p.ensures _ c.duration_at.ensures
 
 pub put_duration-requires : goal.put_duration-requires
 put_duration-requires c =
     let d = c.before.before in
     let p = d.before.before in
-    (root-place _ _ _ _ (entry (goal.at.put_duration-requires c).After-place_at-p).requires.ready (entry (goal.at.put_duration-requires c).After-place_at-p).requires.room_for (entry (goal.at.put_duration-requires c).After-place_at-p).requires.standing _ c.place_at-p.ensures, root-small _ _ _ _ (entry (goal.at.put_duration-requires c).After-place_at-p).requires.ready (entry (goal.at.put_duration-requires c).After-place_at-p).requires.room_for (entry (goal.at.put_duration-requires c).After-place_at-p).requires.standing _ c.place_at-p.ensures _ c.duration_at.ensures _ c.moved_one-d.ensures)
+    (root-place _ _ _ _ c.requires.ready c.requires.room_for c.requires.standing _ c.place_at-p.ensures, root-small _ _ _ _ c.requires.ready c.requires.room_for c.requires.standing _ c.place_at-p.ensures _ c.duration_at.ensures _ c.moved_one-d.ensures)
 
 -- where the state's duration has been put
 module _ (c : After-put_duration) where
@@ -24,15 +24,13 @@ module _ (c : After-put_duration) where
   moved = record { before = c.before.before.before; type_inv = search rules }
 
   abbrev place : After-place_at-p
-  place = moved.before.before.before
+  place = record { before = c.before.before.before.before.before; type_inv = search rules }
 
 pub play_above-requires : goal.play_above-requires
 play_above-requires c =
-    let m = moved (goal.at.play_above-requires c).After-put_duration in
-    let p = place (goal.at.play_above-requires c).After-put_duration in record { ready = root-ready _ _ _ _ (entry p).requires.ready (entry p).requires.room_for (entry p).requires.standing _ p.place_at.ensures _ m.duration_at.ensures _ m.moved-one.ensures _ c.put_duration.ensures; p_in_bounds = root-inside _ _ _ _ (entry p).requires.ready (entry p).requires.room_for (entry p).requires.standing _ p.place_at.ensures; path = root-path _ _ _ _ (entry p).requires.ready (entry p).requires.room_for (entry p).requires.standing _ p.place_at.ensures _ m.duration_at.ensures _ m.moved-one.ensures _ c.put_duration.ensures }
+    let p = place (goal.at.play_above-requires c).After-put_duration in record { ready = root-ready _ _ _ _ c.requires.ready c.requires.room_for c.requires.standing _ c.place_at-p.ensures _ c.duration_at.ensures _ c.moved_one-d.ensures _ c.put_duration.ensures; p_in_bounds = root-inside _ _ _ _ c.requires.ready c.requires.room_for c.requires.standing _ c.place_at-p.ensures; path = root-path _ _ _ _ c.requires.ready c.requires.room_for c.requires.standing _ c.place_at-p.ensures _ c.duration_at.ensures _ c.moved_one-d.ensures _ c.put_duration.ensures }
 
 pub returns : goal.returns
 returns c =
-    let m = moved (goal.at.returns c).After-put_duration in
     let p = place (goal.at.returns c).After-put_duration in
-    root-stepped _ _ _ _ (entry p).requires.ready (entry p).requires.room_for (entry p).requires.standing _ p.place_at.ensures _ m.duration_at.ensures _ m.moved-one.ensures _ c.put_duration.ensures _ c.play_above.ensures
+    root-stepped _ _ _ _ c.requires.ready c.requires.room_for c.requires.standing _ c.place_at-p.ensures _ c.duration_at.ensures _ c.moved_one-d.ensures _ c.put_duration.ensures _ c.play_above.ensures

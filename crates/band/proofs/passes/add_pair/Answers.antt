@@ -1,0 +1,114 @@
+use mathlib.Core.Path.{◌≡◌, refl, ap, ◌∙◌}
+use Prim.Native.Nat.{ℕ, ◌+◌, ◌-◌, ◌*◌, ◌<◌, ◌≤◌}
+use native.Mathlib.Nat.{zero-mul, suc-mul}
+use native.Mathlib.Numerals.{add-one}
+use native.Mathlib.Omega.{arith}
+use lib.ListN.{length, set, length-set}
+use lib.Seq.{get_or-set_other}
+use lib.Ieee.{nan}
+use Rattle.lists.specs.Build.{over}
+use Rattle.lists.proofs.Orders.{over-step}
+use Rattle.band.specs.declared.passes.Block.{Block}
+use Rattle.band.proofs.Runs.{both, both-next, fused-run}
+use Rattle.band.proofs.Columns.{column_at, column_in, row_in-all, pair-done}
+use borrow.Author.Rules.{rules}
+use Rattle.band.proofs.passes.add_pair.Goals as goal
+use Rattle.band.proofs.passes.add_pair.Goals.{In-loop-t, Start}
+
+module _ (s : Start) where
+  abbrev B : Block
+  B = s.args.b
+
+  before : s.args.j < s.args.i
+  before = omega (arith, s.requires.1.behind)
+
+  -- the place of column i in row from + t
+  place : (t : ℕ) → B.from + t < B.to → column_at s.args.taps.now s.args.u B s.args.i + t * B.w < B.right
+  place t h = column_in _ _ B (length s.args.m.now) s.args.i t s.requires.4 s.requires.2 h
+
+  first : column_at s.args.taps.now s.args.u B s.args.j < B.right
+  first = omega (arith, zero-mul B.w, before, place 0 (omega (arith, s.requires.4.some)))
+
+module _ (c : In-loop-t) where
+  abbrev entry : Start
+  entry = c.before.before.before.before.before.before.before.before.before
+
+  here : c.loop-t.q + (c.args.i - c.args.j) < length c.loop-t.m
+  here = omega (arith, c.loop-t.invariant.1, c.loop-t.invariant.2, before entry, c.requires.4.fit.room, place entry c.loop-t.t (omega (arith, c.loop-t-test.true)))
+
+  there : c.args.u + c.loop-t.t < length c.loop-t.m
+  there = omega (arith, c.loop-t-test.true, c.requires.4.pairs, c.requires.4.fit.right-at, c.requires.4.fit.room, c.loop-t.invariant.2)
+
+pub loop-t-init : goal.loop-t-init
+unfolding over
+loop-t-init c = (omega arith, omega (arith, zero-mul c.args.b.w), refl, refl)
+
+pub loop-t-preserved : goal.loop-t-preserved
+loop-t-preserved c =
+    let l = c.loop-t in
+    let k = c.loop-t-test.true in
+    (omega (arith, k), rw add-one (omega (arith, l.invariant.1, suc-mul l.t c.args.b.w)), length-set (set l.m l.q _) _ _ ∙ length-set l.m l.q _ ∙ l.invariant.2, both-next _ _ c.args.u _ _ c.args.m.now l.m l.t l.q l.invariant.1 _ _ (omega (arith, k, c.requires.4.pairs)) l.invariant.3)
+
+pub returns : goal.returns
+returns c =
+    let l = c.loop-t in
+    let e : l.t ≡ c.args.b.to - c.args.b.from = omega (arith, c.loop-t-test.false, l.invariant.0) in
+    pair-done c.args.taps.now c.args.u c.args.b c.args.m.now _ c.requires.4 c.args.j c.args.i c.requires.1 c.requires.2 c.requires.3 c.requires.0
+    (rw e at l.invariant.3 ∙ fused-run _ (c.args.i - c.args.j) c.args.b.w c.args.u _ _ _ _ (omega (arith, before (goal.at.returns c).Start)) (omega (arith, c.requires.2, c.requires.4.narrow)) (omega (arith, c.requires.4.pairs)) c.args.m.now)
+
+pub overflow_sub-gap : goal.overflow_sub-gap
+overflow_sub-gap c = omega (arith, before (goal.at.overflow_sub-gap c).Start)
+
+pub overflow_mul-q : goal.overflow_mul-q
+overflow_mul-q c = omega (arith, first (goal.at.overflow_mul-q c).Start)
+
+pub overflow_add-q : goal.overflow_add-q
+overflow_add-q c = omega (arith, first (goal.at.overflow_add-q c).Start)
+
+pub overflow_add-q-2 : goal.overflow_add-q-2
+overflow_add-q-2 c = omega (arith, first (goal.at.overflow_add-q-2 c).Start)
+
+pub overflow_add-x : goal.overflow_add-x
+overflow_add-x c = omega (arith, there (goal.at.overflow_add-x c).In-loop-t)
+
+pub offset_bounds-m-u : goal.offset_bounds-m-u
+offset_bounds-m-u c = record { fits = omega (arith, there (goal.at.offset_bounds-m-u c).In-loop-t) }
+
+pub bounds-m-u : goal.bounds-m-u
+bounds-m-u c = there (goal.at.bounds-m-u c).In-loop-t
+
+pub offset_bounds-m-q : goal.offset_bounds-m-q
+offset_bounds-m-q c = record { fits = omega (arith, here (goal.at.offset_bounds-m-q c).In-loop-t) }
+
+pub bounds-m-q : goal.bounds-m-q
+bounds-m-q c = omega (arith, here (goal.at.bounds-m-q c).In-loop-t)
+
+pub offset_bounds-m-q-in-loop-t : goal.offset_bounds-m-q-in-loop-t
+offset_bounds-m-q-in-loop-t c = record { fits = omega (arith, here (goal.at.offset_bounds-m-q-in-loop-t c).In-loop-t) }
+
+pub bounds-m-q-in-loop-t : goal.bounds-m-q-in-loop-t
+bounds-m-q-in-loop-t c = omega (arith, here (goal.at.bounds-m-q-in-loop-t c).In-loop-t)
+
+pub overflow_add-m : goal.overflow_add-m
+overflow_add-m c = omega (arith, here (goal.at.overflow_add-m c).In-loop-t)
+
+pub offset_bounds-m-q-in-loop-t-2 : goal.offset_bounds-m-q-in-loop-t-2
+offset_bounds-m-q-in-loop-t-2 c = record { fits = omega (arith, here (goal.at.offset_bounds-m-q-in-loop-t-2 c).In-loop-t) }
+
+pub bounds-m-q-in-loop-t-2 : goal.bounds-m-q-in-loop-t-2
+bounds-m-q-in-loop-t-2 c = rw length-set (here (goal.at.bounds-m-q-in-loop-t-2 c).In-loop-t)
+
+pub overflow_add-m-in-loop-t : goal.overflow_add-m-in-loop-t
+overflow_add-m-in-loop-t c = omega (arith, here (goal.at.overflow_add-m-in-loop-t c).In-loop-t)
+
+pub offset_bounds-m-q-in-loop-t-3 : goal.offset_bounds-m-q-in-loop-t-3
+offset_bounds-m-q-in-loop-t-3 c = record { fits = omega (arith, here (goal.at.offset_bounds-m-q-in-loop-t-3 c).In-loop-t) }
+
+pub bounds-m-q-in-loop-t-3 : goal.bounds-m-q-in-loop-t-3
+bounds-m-q-in-loop-t-3 c = rw length-set (here (goal.at.bounds-m-q-in-loop-t-3 c).In-loop-t)
+
+pub overflow_add-q-in-loop-t : goal.overflow_add-q-in-loop-t
+overflow_add-q-in-loop-t c = omega (arith, here (goal.at.overflow_add-q-in-loop-t c).In-loop-t, c.loop-t.invariant.2, row_in-all _ _ c.args.b _ c.requires.4, c.requires.4.fit.room)
+
+pub loop-t-smaller : goal.loop-t-smaller
+loop-t-smaller c = omega (arith, c.loop-t-test.true)

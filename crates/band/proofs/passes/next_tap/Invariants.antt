@@ -1,0 +1,18 @@
+use mathlib.Core.Path.{◌≡◌}
+use mathlib.Core.Bool.{true}
+use Prim.Native.Nat.{ℕ, ◌-◌, ◌<◌, ◌≤◌}
+use native.Mathlib.Omega.{arith}
+use borrow.Author.Count.{below_more}
+use borrow.Author.Tests.{not-true, not-false}
+use lib.ListN.{length}
+use lib.Ieee.{eq, ne}
+use Rattle.floats.specs.Numbers.{nought}
+use Rattle.region.specs.Rows.{elem}
+use borrow.Author.Rules.{rules}
+use Rattle.band.proofs.passes.next_tap.Given as goal
+
+abbrev pub invariant-loop-i : goal.invariant-loop-i
+invariant-loop-i l = (l.from ≤ l.i) × (l.i ≤ length l.taps) × ((c : ℕ) → c < l.i → l.from ≤ c → eq (elem l.taps c) nought ≡ true)
+
+abbrev pub decreases-loop-i : goal.decreases-loop-i
+decreases-loop-i l = length l.taps - l.i

@@ -1,0 +1,6 @@
+use mathlib.Core.Path.{refl}
+use borrow.Author.Rules.{rules}
+use Rattle.gv.proofs.gradient.add_row.Goals as goal
+
+pub returns : goal.returns
+returns c = (refl, rw (c.hmm_term-term.ensures, c.el.ensures, c.el-2.ensures))

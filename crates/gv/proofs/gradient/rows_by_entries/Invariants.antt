@@ -1,0 +1,17 @@
+use mathlib.Core.Path.{◌≡◌, refl, ◌∙◌}
+use mathlib.Core.List.{List}
+use Prim.Native.Nat.{◌-◌, ◌≤◌}
+use native.Mathlib.Nat.{mul-le-mul_left}
+use native.Mathlib.Omega.{arith}
+use lib.ListN.{length}
+use lib.Ieee.{Float}
+use Rattle.gv.specs.Inner.Turns.{Graded}
+use Rattle.gv.proofs.Grading.{graded-next}
+use borrow.Author.Rules.{rules}
+use Rattle.gv.proofs.gradient.rows_by_entries.Given as goal
+
+abbrev pub invariant-loop-t : goal.invariant-loop-t
+invariant-loop-t l = (l.t ≤ l.end) × (length l.m ≡ length l.initial.m) × ((d : List Float) → Graded l.p l.n l.w l.weight d l.initial.m l.from l.hmm → Graded l.p l.n l.w l.weight d l.m l.t l.sum)
+
+abbrev pub decreases-loop-t : goal.decreases-loop-t
+decreases-loop-t l = l.end - l.t

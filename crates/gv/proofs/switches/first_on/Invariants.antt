@@ -1,0 +1,16 @@
+use mathlib.Core.Path.{◌≡◌, sym, ◌∙◌}
+use mathlib.Core.List.{map}
+use Prim.Native.Nat.{◌+◌, ◌-◌, ◌≤◌}
+use native.Mathlib.Omega.{arith}
+use lib.ListN.{length, drop}
+use Rattle.lists.specs.Flags.{is_on}
+use Rattle.gv.specs.Inner.Turns.{first_on}
+use Rattle.gv.proofs.Switched as laws
+use borrow.Author.Rules.{rules}
+use Rattle.gv.proofs.switches.first_on.Given as goal
+
+abbrev pub invariant-loop-t : goal.invariant-loop-t
+invariant-loop-t l = (l.t ≤ length l.on) × (l.t + first_on (drop l.t (map is_on l.on)) ≡ first_on (map is_on l.on))
+
+abbrev pub decreases-loop-t : goal.decreases-loop-t
+decreases-loop-t l = length l.on - l.t

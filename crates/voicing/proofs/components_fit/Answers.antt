@@ -1,0 +1,6 @@
+use Rattle.voicing.proofs.Doors.{components-is}
+use borrow.Author.Rules.{rules}
+use Rattle.voicing.proofs.components_fit.Goals as goal
+
+pub returns : goal.returns
+returns c = rw c.least.ensures (components-is c.args.c.v c.args.c.first c.args.c.lanes)

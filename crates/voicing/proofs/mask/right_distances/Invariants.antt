@@ -1,0 +1,9 @@
+use Rattle.voicing.proofs.Distances.{Counting, counting, counted-all, counting-off, counting-on}
+use borrow.Author.Rules.{rules}
+use Rattle.voicing.proofs.mask.right_distances.Given as goal
+
+abbrev pub invariant-loop-f : goal.invariant-loop-f
+invariant-loop-f l = Counting l.flags l.right l.f l.after
+
+abbrev pub decreases-loop-f : goal.decreases-loop-f
+decreases-loop-f l = l.f
