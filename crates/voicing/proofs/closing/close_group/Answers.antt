@@ -49,7 +49,7 @@ pub overflow_add-k : goal.overflow_add-k
 overflow_add-k c = omega (arith, passed-few c.loop-s.invariant.passed c.loop-s-test.true c.frames_at-d.ensures (voiced (goal.at.overflow_add-k c).After-run_end-end) (sym (count-all c.frames_at-d.result)), c.requires.lies.framed.frames)
 
 pub returns : goal.returns
-returns c = let s = c.before.before.before.before.before.before.before.before in let a = c.args in gathered a.size a.records.now a.widths.now a.durations.now a.flags.now a.g a.c a.work.now _ c.requires (rw c.plan_of-p.ensures at c.loop-s.invariant) c.loop-s-test.false
+returns c = let a = c.args in gathered a.size a.records.now a.widths.now a.durations.now a.flags.now a.g a.c a.work.now _ c.requires (rw c.plan_of-p.ensures at c.loop-s.invariant) c.loop-s-test.false
 
 pub plan_of-p-requires : goal.plan_of-p-requires
 plan_of-p-requires c = (c.requires.most, c.requires.lies.most-v)

@@ -17,13 +17,10 @@ module _ (c : After-frames_of-framed) where
   answer : let a = c.args in c.frames_of-framed.result ≡ filled_of (masked_distances_refusal a.weights.now a.durations.now a.voiced.now a.left.now a.right.now) (total a.durations.now)
   answer = let a = c.args in c.frames_of-framed.ensures ∙ ap (λ (k : ℕ). filled_of k (total a.durations.now)) (masked_room a.weights.now a.threshold a.durations.now a.voiced.now a.left.now a.right.now _ _ c.least.ensures c.least-room.ensures)
 
-abbrev after_frames_of_framed_of_after_wide_n : After-wide-n → After-frames_of-framed
-after_frames_of_framed_of_after_wide_n c = record { before = c.before.before.before; type_inv = search rules }
-
 -- nothing is refused
-module _ (c : After-wide-n) where
+module _ (c : After-wide-n) (answered : let a = c.args in c.frames_of-framed.result ≡ filled_of (masked_distances_refusal a.weights.now a.durations.now a.voiced.now a.left.now a.right.now) (total a.durations.now)) where
   ok : let a = c.args in (masked_distances_refusal a.weights.now a.durations.now a.voiced.now a.left.now a.right.now ≡ 0) × (total a.durations.now ≡ c.in-Done.frames)
-  ok = passed _ _ _ (sym (answer (after_frames_of_framed_of_after_wide_n c)) ∙ c.in-Done.is)
+  ok = passed _ _ _ (sym answered ∙ c.in-Done.is)
 
   frames : c.wide-n.result ≡ total c.args.durations.now
   frames = c.wide-n.ensures ∙ sym ok.1
@@ -38,7 +35,11 @@ returns-in_default c = let a = c.args in masked_stops a.weights.now a.threshold 
 pub returns : goal.returns
 returns c =
     let a = c.args in
-    masked_done a.weights.now a.threshold a.durations.now a.voiced.now a.left.now a.right.now (ok (goal.at.returns c).After-wide-n).0 _ (frames (goal.at.returns c).After-wide-n) _ _ _ _ _ c.mask.ensures c.boundary_distances.ensures
+    let w = (goal.at.returns c).After-wide-n in
+    let e = answer (goal.at.returns c).After-frames_of-framed in
+    masked_done a.weights.now a.threshold a.durations.now a.voiced.now a.left.now a.right.now (ok w e).0 _ (frames w e) _ _ _ _ _ c.mask.ensures c.boundary_distances.ensures
 
 pub slice_bounds-boundary_distances-end-2 : goal.slice_bounds-boundary_distances-end-2
-slice_bounds-boundary_distances-end-2 c = sym (length-take-le _ _ (omega (arith, room (goal.at.slice_bounds-boundary_distances-end-2 c).After-wide-n, c.mask.auto.voiced)))
+slice_bounds-boundary_distances-end-2 c =
+    let h : c.wide-n.result ≤ length c.args.voiced.now = room (goal.at.slice_bounds-boundary_distances-end-2 c).After-wide-n (answer (goal.at.slice_bounds-boundary_distances-end-2 c).After-frames_of-framed) in
+    sym (length-take-le _ _ (omega (arith, h, c.mask.auto.voiced)))
