@@ -11,12 +11,9 @@ use borrow.Author.Rules.{rules}
 use Rattle.std.proofs.Common.{ap}
 use Rattle.std.proofs.Common.{not}
 use Rattle.voicing.proofs.mark_switches.Goals as goal
-use Rattle.voicing.proofs.mark_switches.Goals.{Else-not-flagged, Start}
+use Rattle.voicing.proofs.mark_switches.Goals.{Else-not-flagged}
 
 module _ (c : Else-not-flagged) where
-  abbrev entry : Start
-  entry = c.before.before.before.before.before.before
-
   opened : flagged c.args.durations.now (length c.args.flags.now) ≡ true
   opened = sym c.flagged.ensures ∙ not-false _ (ap not c.if-not-flagged.false)
 
