@@ -19,7 +19,7 @@ use Rattle.band.proofs.write_rows.Given as goal
 
 abbrev pub invariant-loop-t : goal.invariant-loop-t
 invariant-loop-t l =
-    (l.t ≤ l.n) × (l.b ≡ l.t * l.w) × (length l.rows ≡ length l.initial.rows) × (length l.right ≡ length l.initial.right) × (take (l.t * l.w) l.rows ≡ flat.rows (λ l.t. build (entry_of l.widths l.coefficients l.n l.ivars l.t) l.w) l.t)
+    (l.t ≤ l.n) × (l.b ≡ l.t * l.w) × (length l.rows ≡ length l.initial.rows) × (length l.right ≡ length l.initial.right) × (take (l.t * l.w) l.rows ≡ flat.rows (λ t. build (entry_of l.widths l.coefficients l.n l.ivars t) l.w) l.t)
     × (l.right ≡ build (right_sum l.widths l.coefficients l.n l.ivars l.means) l.t ++ drop l.t l.initial.right)
 
 abbrev pub decreases-loop-t : goal.decreases-loop-t

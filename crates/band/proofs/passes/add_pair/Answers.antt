@@ -30,11 +30,10 @@ module _ (s : Start) where
   first = omega (arith, zero-mul B.w, before, place 0 (omega (arith, s.requires.4.some)))
 
 module _ (c : In-loop-t) where
-  abbrev entry : Start
-  entry = c.before.before.before.before.before.before.before.before.before
-
   here : c.loop-t.q + (c.args.i - c.args.j) < length c.loop-t.m
-  here = omega (arith, c.loop-t.invariant.1, c.loop-t.invariant.2, before entry, c.requires.4.fit.room, place entry c.loop-t.t (omega (arith, c.loop-t-test.true)))
+  here =
+      let k = column_in _ _ c.args.b (length c.args.m.now) c.args.i c.loop-t.t c.requires.4 c.requires.2 (omega (arith, c.loop-t-test.true)) in
+      omega (arith, c.loop-t.invariant.1, c.loop-t.invariant.2, c.requires.1.behind, c.requires.4.fit.room, k)
 
   there : c.args.u + c.loop-t.t < length c.loop-t.m
   there = omega (arith, c.loop-t-test.true, c.requires.4.pairs, c.requires.4.fit.right-at, c.requires.4.fit.room, c.loop-t.invariant.2)

@@ -12,7 +12,7 @@ use borrow.Author.Rules.{rules}
 use Rattle.band.proofs.row.add_taps.Given as goal
 
 abbrev pub invariant-loop-j : goal.invariant-loop-j
-invariant-loop-j l = (l.j ≤ length l.taps) × (length l.row ≡ length l.initial.row) × (l.row ≡ build (λ l.j. plus_term l.wu (get_or l.taps l.j nought) (elem l.initial.row l.j)) l.j ++ drop l.j l.initial.row)
+invariant-loop-j l = (l.j ≤ length l.taps) × (length l.row ≡ length l.initial.row) × (l.row ≡ build (λ j. plus_term l.wu (get_or l.taps j nought) (elem l.initial.row j)) l.j ++ drop l.j l.initial.row)
 
 abbrev pub decreases-loop-j : goal.decreases-loop-j
 decreases-loop-j l = length l.taps - l.j
