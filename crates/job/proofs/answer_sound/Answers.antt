@@ -6,7 +6,7 @@ use lib.Seq.{length-take-le}
 use Rattle.lists.specs.Sizes.{most_job_states}
 use Rattle.job.proofs.Answers.{few-states, job-refused, job-room, job-few, job-done}
 use Rattle.job.proofs.answer_sound.Goals as goal
-use Rattle.job.proofs.answer_sound.Goals.{After-fit_states-fit, After-little_endian-states, Start}
+use Rattle.job.proofs.answer_sound.Goals.{After-little_endian-states}
 
 -- the number of states is read
 few : (c : After-little_endian-states) → c.little_endian-states.result ≤ most_job_states
@@ -18,13 +18,6 @@ overflow_cast-states c = let h = few (goal.at.overflow_cast-states c).After-litt
 pub fit_states-fit-requires : goal.fit_states-fit-requires
 fit_states-fit-requires c = few (goal.at.fit_states-fit-requires c).After-little_endian-states
 
--- and the states have been fitted
-abbrev read : After-fit_states-fit → After-little_endian-states
-read f = record { before = f.before.before.before.before; type_inv = search rules }
-
-abbrev entry : After-fit_states-fit → Start
-entry f = (read f).before.before.before.before
-
 pub returns-in_default : goal.returns-in_default
 returns-in_default c =
     job-refused _ _ c.requires c.little_endian-states.ensures _ _ c.fit_states-fit.result _ _ c.fit_states-fit.ensures _ _ c.in_default.is c.number.ensures
@@ -34,7 +27,7 @@ slice_bounds-total_u32-end c =
     job-room _ _ c.requires c.little_endian-states.ensures _ _ c.fit_states-fit.result _ _ c.fit_states-fit.ensures _ c.in-Done.is
 
 pub slice_bounds-total_u32-end-2 : goal.slice_bounds-total_u32-end-2
-slice_bounds-total_u32-end-2 c = sym (length-take-le _ _ (slice-reshare-prefix-total-u32 c.before))
+slice_bounds-total_u32-end-2 c = sym (length-take-le _ _ (job-room _ _ c.requires c.little_endian-states.ensures _ _ c.fit_states-fit.result _ _ c.fit_states-fit.ensures _ c.in-Done.is))
 
 pub overflow_cast-result : goal.overflow_cast-result
 overflow_cast-result c =

@@ -4,14 +4,7 @@ use borrow.Author.Rules.{rules}
 use Rattle.job.proofs.Damages.{state-most, length-right, length_wrong}
 use Rattle.job.proofs.Pairs.{step_fits}
 use Rattle.job.proofs.finding.length_found.Goals as goal
-use Rattle.job.proofs.finding.length_found.Goals.{After-little_endian-version, After-state_bytes, Start}
-
--- the version, the number of states and the bytes of a state are read
-abbrev version : After-state_bytes → After-little_endian-version
-version c = record { before = c.before.before.before; type_inv = search rules }
-
-abbrev entry : After-state_bytes → Start
-entry c = (version c).before.before
+use Rattle.job.proofs.finding.length_found.Goals.{After-state_bytes}
 
 fits : (c : After-state_bytes) → c.state_bytes.result * c.little_endian-count.result ≤ 20480
 fits c =

@@ -13,6 +13,9 @@ overflow_add-came c = let h = came-room _ c.requires _ c.came_in-came.ensures in
 pub slice_bounds-copy_u8-count : goal.slice_bounds-copy_u8-count
 slice_bounds-copy_u8-count c = came-within _ c.requires _ c.came_in-came.ensures
 
+pub slice_bounds-copy_u8-start : goal.slice_bounds-copy_u8-start
+slice_bounds-copy_u8-start c = came-within _ c.requires _ c.came_in-came.ensures
+
 pub stage-requires : goal.stage-requires
 stage-requires c =
     omega (arith, c.least-more.ensures, came-room _ c.requires _ c.came_in-came.ensures)
