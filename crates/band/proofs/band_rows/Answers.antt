@@ -8,7 +8,6 @@ use Rattle.band.specs.Promise.{frame_count, set_refusal}
 use Rattle.lists.specs.declared.Filled.TheVariants.{Done}
 use Rattle.lists.proofs.Ends.{passed}
 use Rattle.band.proofs.Ways.{agree, band-narrow, set-taps, band-stops, band_rows-short, band-right-short, band-finished}
-use borrow.Author.Rules.{rules}
 use Rattle.band.proofs.band_rows.Goals as goal
 use Rattle.band.proofs.band_rows.Goals.{After-wide-n}
 

@@ -2,7 +2,6 @@ use mathlib.Core.Path.{sym, ◌∙◌}
 use native.Mathlib.Omega.{arith}
 use Rattle.model.proofs.Accepted.{accepted-some}
 use Rattle.band.proofs.Ways.{frames-windows, frames-rest, frames-other, frames-many, frames-few}
-use borrow.Author.Rules.{rules}
 use Rattle.band.proofs.frames_of.Goals as goal
 
 pub returns-then-refused-ne0 : goal.returns-then-refused-ne0

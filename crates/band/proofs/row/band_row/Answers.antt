@@ -1,12 +1,12 @@
 use mathlib.Core.Path.{◌≡◌, refl, sym}
-use Prim.Native.Nat.{◌+◌, ◌-◌, ◌*◌, ◌≤◌}
+use Prim.Native.Nat.{◌+◌, ◌≤◌}
 use native.Mathlib.Nat.{zero-mul, suc-mul}
 use native.Mathlib.Numerals.{add-one}
 use native.Mathlib.Omega.{arith}
-use lib.ListN.{length, take}
+use lib.ListN.{length}
 use Rattle.lists.specs.Totals.{total}
 use Rattle.lists.proofs.Sums.{total-more}
-use Rattle.band.proofs.Windows.{Windowed, windowed_none, windowed_next, windowed_all, taps_in, ivars-fit, means-fit}
+use Rattle.band.proofs.Windows.{windowed_none, windowed_next, windowed_all, taps_in, ivars-fit, means-fit}
 use borrow.Author.Rules.{rules}
 use Rattle.band.proofs.row.band_row.Goals as goal
 use Rattle.band.proofs.row.band_row.Goals.{After-wide-m}
