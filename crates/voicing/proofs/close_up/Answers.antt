@@ -3,7 +3,6 @@ use mathlib.Core.Bool.{◌&&◌}
 use lib.ListN.{length}
 use Rattle.voicing.specs.Space.{closes}
 use Rattle.voicing.proofs.Doors.{closes-both, closes-is, close_shut, close_done}
-use borrow.Author.Rules.{rules}
 use Rattle.voicing.proofs.close_up.Goals as goal
 use Rattle.voicing.proofs.close_up.Goals.{After-pairs_fit}
 

@@ -9,7 +9,6 @@ use Rattle.lists.specs.Totals.{total}
 use Rattle.voicing.specs.Space.{grouped}
 use Rattle.voicing.specs.Inner.Fits.{Grouped}
 use Rattle.voicing.proofs.Doors.{grouped-is, fill-shut, fill-uneven, fill_done}
-use borrow.Author.Rules.{rules}
 use Rattle.std.proofs.Common.{not}
 use Rattle.voicing.proofs.fill_back.Goals as goal
 use Rattle.voicing.proofs.fill_back.Goals.{After-frames_in, Else-not-grouped}

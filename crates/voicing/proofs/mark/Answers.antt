@@ -8,7 +8,6 @@ use lib.Seq.{length_front, length-take-le}
 use Rattle.voicing.specs.Space.{marks}
 use Rattle.voicing.specs.Inner.Fits.{Flagged}
 use Rattle.voicing.proofs.Doors.{marks-is, mark-refuses, mark-done}
-use borrow.Author.Rules.{rules}
 use Rattle.std.proofs.Common.{ap}
 use Rattle.std.proofs.Common.{not}
 use Rattle.voicing.proofs.mark.Goals as goal

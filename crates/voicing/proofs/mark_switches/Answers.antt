@@ -7,7 +7,6 @@ use Rattle.voicing.specs.Space.{flagged}
 use Rattle.voicing.specs.Inner.Fits.{Flagged}
 use Rattle.voicing.proofs.Masks.{mask-voiced}
 use Rattle.voicing.proofs.Doors.{flagged-is, switches-shut, switches-uneven, switches-fit, switches-done}
-use borrow.Author.Rules.{rules}
 use Rattle.std.proofs.Common.{ap}
 use Rattle.std.proofs.Common.{not}
 use Rattle.voicing.proofs.mark_switches.Goals as goal

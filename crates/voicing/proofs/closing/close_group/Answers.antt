@@ -1,6 +1,6 @@
 use mathlib.Core.Path.{◌≡◌, sym, ◌∙◌}
 use mathlib.Core.Bool.{true}
-use Prim.Native.Nat.{◌+◌, ◌-◌, ◌*◌, ◌<◌, ◌≤◌}
+use Prim.Native.Nat.{◌+◌, ◌*◌, ◌≤◌}
 use native.Mathlib.Omega.{arith}
 use lib.ListN.{length}
 use Rattle.lists.specs.Totals.{total}
@@ -8,8 +8,7 @@ use Rattle.lists.proofs.Counts.{count-all}
 use Rattle.lists.proofs.Rows.{row_fits}
 use Rattle.voicing.specs.Inner.Fits.{goes_on}
 use Rattle.voicing.proofs.Passes.{passed-fits, passed-few}
-use Rattle.voicing.proofs.Groups.{Planned, planned, Gathering, gathering, gathering_unvoiced, gathering-ends, gathering-state, gathering-next, gathered}
-use borrow.Author.Rules.{rules}
+use Rattle.voicing.proofs.Groups.{Planned, planned, gathering, gathering_unvoiced, gathering-ends, gathering-state, gathering-next, gathered}
 use Rattle.voicing.proofs.closing.close_group.Goals as goal
 use Rattle.voicing.proofs.closing.close_group.Goals.{After-frames_at-d, After-run_end-end}
 

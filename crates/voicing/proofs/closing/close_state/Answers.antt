@@ -1,10 +1,9 @@
 use mathlib.Core.Path.{◌≡◌, refl, ◌∙◌}
-use Prim.Native.Nat.{◌+◌, ◌-◌, ◌*◌, ◌≤◌}
+use Prim.Native.Nat.{◌+◌, ◌≤◌}
 use native.Mathlib.Nat.{suc-mul, zero-mul}
 use native.Mathlib.Numerals.{add-one}
 use native.Mathlib.Omega.{arith}
 use lib.ListN.{length}
-use Rattle.region.specs.Inner.Passes.{Across}
 use Rattle.region.proofs.Across.{across-none, across-then}
 use Rattle.voicing.specs.Inner.States.{put_pairs}
 use Rattle.voicing.proofs.States.{window-read, means-room, ivars-room, put_next}

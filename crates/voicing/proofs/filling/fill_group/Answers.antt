@@ -1,6 +1,6 @@
 use mathlib.Core.Path.{◌≡◌, sym, ap, ◌∙◌}
 use mathlib.Core.Bool.{true}
-use Prim.Native.Nat.{ℕ, ◌+◌, ◌-◌, ◌*◌, ◌≤◌}
+use Prim.Native.Nat.{◌+◌, ◌*◌, ◌≤◌}
 use native.Mathlib.Omega.{arith}
 use lib.ListN.{length}
 use Rattle.lists.specs.Totals.{total}
@@ -8,9 +8,8 @@ use Rattle.lists.proofs.Counts.{count-all}
 use Rattle.region.specs.Region.{size_of}
 use Rattle.region.specs.declared.Places.{Places}
 use Rattle.voicing.proofs.Passes.{passed-fits, passed-few, passed-room}
-use Rattle.voicing.proofs.Fillings.{Filling, filling, filled-back, filling-room, filling-voiced, filling_unvoiced}
+use Rattle.voicing.proofs.Fillings.{filling, filled-back, filling-room, filling-voiced, filling_unvoiced}
 use Rattle.voicing.proofs.Columns.{columns_filled}
-use borrow.Author.Rules.{rules}
 use Rattle.voicing.proofs.filling.fill_group.Goals as goal
 use Rattle.voicing.proofs.filling.fill_group.Goals.{After-goes_on-voiced}
 

@@ -1,11 +1,10 @@
 use mathlib.Core.Path.{◌≡◌, refl, ap}
-use Prim.Native.Nat.{ℕ, ◌+◌, ◌-◌, ◌≤◌}
+use Prim.Native.Nat.{ℕ, ◌+◌, ◌≤◌}
 use native.Mathlib.Omega.{arith}
 use lib.ListN.{length}
 use Rattle.lists.specs.Totals.{total}
 use Rattle.voicing.proofs.Passes.{passed-fits}
-use Rattle.voicing.proofs.Switches.{Switching, switching, switched, switching-room, switching-next}
-use borrow.Author.Rules.{rules}
+use Rattle.voicing.proofs.Switches.{switching, switched, switching-room, switching-next}
 use Rattle.voicing.proofs.flags.put_switches.Goals as goal
 use Rattle.voicing.proofs.flags.put_switches.Goals.{After-voiced_in-closed}
 

@@ -4,7 +4,6 @@ use native.Mathlib.Omega.{arith}
 use lib.ListN.{length}
 use lib.Seq.{length-take-le}
 use Rattle.voicing.proofs.Ways.{distances_5, distances_6, distances_done}
-use borrow.Author.Rules.{rules}
 use Rattle.voicing.proofs.mask.boundary_distances.Goals as goal
 use Rattle.voicing.proofs.mask.boundary_distances.Goals.{Else-least-n}
 

@@ -7,7 +7,6 @@ use Rattle.lists.specs.Totals.{total}
 use Rattle.lists.proofs.Ends.{passed}
 use Rattle.voicing.specs.Promise.{mask_refusal}
 use Rattle.voicing.proofs.Ways.{mask-stops, mask-framed, mask-room, mask_done}
-use borrow.Author.Rules.{rules}
 use Rattle.voicing.proofs.mask.mask.Goals as goal
 use Rattle.voicing.proofs.mask.mask.Goals.{After-wide-n}
 

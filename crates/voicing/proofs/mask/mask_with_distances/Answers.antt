@@ -8,7 +8,6 @@ use Rattle.lists.specs.Ends.{filled_of}
 use Rattle.lists.proofs.Ends.{passed}
 use Rattle.voicing.specs.Promise.{masked_distances_refusal}
 use Rattle.voicing.proofs.Ways.{masked_stops, masked_room, masked_long, masked_done}
-use borrow.Author.Rules.{rules}
 use Rattle.voicing.proofs.mask.mask_with_distances.Goals as goal
 use Rattle.voicing.proofs.mask.mask_with_distances.Goals.{After-frames_of-framed, After-wide-n}
 
