@@ -35,9 +35,9 @@ returns c =
     let k = c.render in
     let a = c.args in
     let r = room (goal.at.returns c).After-total_u32-frames in (
-      numbers-written a.stream a.widths.now a.coefficients.now a.records.now a.durations.now a.gv.now a.switches.now c.total_u32-frames.result k.new.1.1.1.1.1.1.1.0 a.out.now (count (goal.at.returns c).After-total_u32-frames) k.ensures,
-      zeroed _ _ _ k.new.1.1.1.1.1.1.1.1.0 a.work.now _ (ap (λ (n : ℕ). n * 48) (count (goal.at.returns c).After-total_u32-frames)) (k.auto.1.1.1.1.1.1.1.1.0 ∙ length-take-le _ _ r.floats) r.floats c.fill_f64.ensures,
-      zeroed _ _ _ k.new.1.1.1.1.1.1.1.1.1.0 a.marks.now _ (ap (λ (n : ℕ). n * 4) (count (goal.at.returns c).After-total_u32-frames)) (k.auto.1.1.1.1.1.1.1.1.1.0 ∙ length-take-le _ _ r.counts) r.counts c.fill_u32.ensures,
+      numbers-written a.stream a.widths.now a.coefficients.now a.records.now a.durations.now a.gv.now a.switches.now c.total_u32-frames.result k.new.out a.out.now (count (goal.at.returns c).After-total_u32-frames) k.ensures,
+      zeroed _ _ _ k.new.work a.work.now _ (ap (λ (n : ℕ). n * 48) (count (goal.at.returns c).After-total_u32-frames)) (k.auto.work ∙ length-take-le _ _ r.floats) r.floats c.fill_f64.ensures,
+      zeroed _ _ _ k.new.marks a.marks.now _ (ap (λ (n : ℕ). n * 4) (count (goal.at.returns c).After-total_u32-frames)) (k.auto.marks ∙ length-take-le _ _ r.counts) r.counts c.fill_u32.ensures,
     )
 
 pub overflow_mul-numbers : goal.overflow_mul-numbers

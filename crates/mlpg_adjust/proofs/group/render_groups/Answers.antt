@@ -39,7 +39,7 @@ pub loop-first-preserved : goal.loop-first-preserved
 loop-first-preserved c =
     let l = c.loop-first in
     let k = c.render_group in
-    (within (goal.at.loop-first-preserved c).After-least-some, k.auto.1.1.1.1.1.1.1.1.0 ∙ l.invariant.1, k.auto.1.1.1.1.1.1.1.1.1.0 ∙ l.invariant.2, k.ensures l.invariant.3)
+    (within (goal.at.loop-first-preserved c).After-least-some, k.auto.work ∙ l.invariant.1, k.auto.out ∙ l.invariant.2, k.ensures l.invariant.3)
 
 pub returns : goal.returns
 returns c =
