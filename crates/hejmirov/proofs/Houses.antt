@@ -11,7 +11,7 @@ use Rattle.houses.specs.declared.Used.{Used}
 use Rattle.houses.specs.Slots.{Table}
 use Rattle.houses.specs.Changes.{SameSets}
 use Rattle.houses.specs.Promise.{used, StartSays, start_refusal}
-use Rattle.houses.specs.Calls.{Asked, Told, changed, used_of_lem, counted_as_lem, Makes, Call, Run, own_calls, asked_in, Alike}
+use Rattle.houses.specs.Calls.{Asked, Told, changed, told_used, told_count, Makes, Call, Run, own_calls, asked_in, Alike}
 use Rattle.houses.specs.Calls as below
 use Rattle.houses.specs.Apart.{ToldTheSame, ChangesItsOwn, Apart}
 use Rattle.houses.proofs.Unwinding.{told_the_same, changes-its-own}
@@ -26,10 +26,10 @@ use Rattle.hejmirov.proofs.Keeping.{zero-done}
 same_change : {a b : Changed} → changed a ≡ changed b → a ≡ b
 same_change e = cc
 
-same_use : {a b : Used} {v w : List ℕ} → used_of_lem a v ≡ used_of_lem b w → (a ≡ b) × (v ≡ w)
+same_use : {a b : Used} {v w : List ℕ} → told_used a v ≡ told_used b w → (a ≡ b) × (v ≡ w)
 same_use e = (cc, cc)
 
-same_count : {a b : Counted} → counted_as_lem a ≡ counted_as_lem b → a ≡ b
+same_count : {a b : Counted} → told_count a ≡ told_count b → a ≡ b
 same_count e = cc
 
 pub calls-told : ToldTheSame CallMakes

@@ -20,7 +20,7 @@ use Rattle.lists.proofs.Answers.{given-either}
 use Rattle.houses.specs.Slots.{Table, Slot, slot_at, widths_in, is_empty, owns, may_use, first_own, free_of}
 use Rattle.houses.specs.Changes.{cleared, put_in}
 use Rattle.houses.specs.Promise.{used_of, table_refusal, set_refusal, clear_refusal, use_refusal, free_refusal, ChangesTo}
-use Rattle.houses.specs.Calls.{Asked, Told, changed, counted_as_lem, Makes, set-made, clear_made, use_made, free-made, Alike}
+use Rattle.houses.specs.Calls.{Asked, Told, changed, told_count, Makes, set-made, clear_made, use_made, free-made, Alike}
 use Rattle.houses.specs.Apart.{ToldTheSame, ChangesItsOwn}
 use Rattle.houses.proofs.Accepting.{set-accepted, clear_accepted}
 use Rattle.houses.proofs.Whose.{own-used, place-own}
@@ -89,7 +89,7 @@ module _ {house : ℕ} {t u : Table} (a : Alike house t u) where
   makes_alike (use_made {s = s} {widths} c) (use_made d) =
       let (e, n) = use_told s widths in
       (rw (c.answer ∙ e ∙ sym d.answer, c.output ∙ n ∙ sym d.output), a)
-  makes_alike (free-made c) (free-made d) = (ap counted_as_lem (c ∙ free-told ∙ sym d), a)
+  makes_alike (free-made c) (free-made d) = (ap told_count (c ∙ free-told ∙ sym d), a)
 
 -- the first half of the claim, of one call
 pub told_the_same : ToldTheSame Makes
