@@ -1,6 +1,7 @@
 // The calls for C and Rust. Each but hejmirov_job_old_number answers a refusal number, 0 for none, and gives its values through pointers, which a refusal leaves as they
 // were, but for the place of a damaged job.
 // A list is a pointer and a length.
+#![tactic(auto)]
 ghost use Rattle.std.specs.Prelude.{◌≡◌};
 ghost use Rattle.steps.specs.Steps.{states};
 ghost use Rattle.duration.specs.Promise.{fitted, aligned};

@@ -9,7 +9,8 @@ pub eliminate-requires : goal.eliminate-requires
 eliminate-requires c = solve_ready _ _ c.args.work.now (omega arith) _ c.fits.ensures (ap not c.if-not-fits.false) _ _ _ c.places-p.ensures c.wide-n.ensures c.small-w.ensures
 
 pub backward-requires : goal.backward-requires
-backward-requires c = let r = eliminate-requires c.before.before.before.before κs in
+backward-requires c =
+    let r = solve_ready _ _ c.args.work.now (omega arith) _ c.fits.ensures (ap not c.if-not-fits.false) _ _ _ c.places-p.ensures c.wide-n.ensures c.small-w.ensures in
     (r.0, r.1, omega (arith, r.2, c.eliminate.auto.work))
 
 pub returns : goal.returns

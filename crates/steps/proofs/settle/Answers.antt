@@ -54,7 +54,7 @@ module _ (c : Else-totals-gt65536) where
       aimed a.rho a.target (all reached) a.work.now _ c.fit_together.ensures (ap not c.if-not-fit_together.false) _ _ c.totals_of-totals.ensures.0 c.totals_of-totals.ensures.1 _ c.in_reach.ensures (ap not c.if-not-in_reach.false) c.if-totals-gt65536.false
 
 pub settle_from-requires : goal.settle_from-requires
-settle_from-requires c = (is-ready (goal.at.settle_from-requires c).Else-totals-gt65536, is-aimed (goal.at.settle_from-requires c).Else-totals-gt65536)
+settle_from-requires c = record { ready = is-ready (goal.at.settle_from-requires c).Else-totals-gt65536; aim = is-aimed (goal.at.settle_from-requires c).Else-totals-gt65536 }
 
 pub returns : goal.returns
 returns c =

@@ -27,8 +27,7 @@ loop-now_at-smaller c = going_less _ _ _ _ _ _ _ c.loop-now_at-test.true _ _ c.l
 
 pub loop-now_at-preserved : goal.loop-now_at-preserved
 loop-now_at-preserved c =
-    let s = c.step_once in
-    tended-next _ _ _ _ _ _ _ _ _ _ c.loop-now_at-test.true c.loop-now_at.invariant s.auto.1.1.1.1.1.0 s.ensures c.moved_one-now_at.ensures
+    tended-next _ _ _ _ _ _ _ _ _ _ c.loop-now_at-test.true c.loop-now_at.invariant c.step_once.auto.work c.step_once.ensures c.moved_one-now_at.ensures
 
 pub shape_of-work : goal.shape_of-work
 shape_of-work c = c.unpack.auto.work ∙ c.loop-now_at.invariant.long ∙ c.play_all.auto.work

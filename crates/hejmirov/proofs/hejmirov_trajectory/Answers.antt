@@ -1,0 +1,6 @@
+use borrow.Author.Rules.{rules}
+use Rattle.hejmirov.proofs.hejmirov_trajectory.Goals as goal
+
+pub returns : goal.returns
+returns c =
+    record { answer = c.create-answer.result; says = rw (← c.stream_of-stream.ensures) c.create-answer.ensures; gives = c.hand_out_created.ensures }

@@ -1,0 +1,5 @@
+use borrow.Author.Rules.{rules}
+use Rattle.hejmirov.proofs.stream_of.Goals as goal
+
+pub returns : goal.returns
+returns c = rw (← c.variance_of.ensures)
