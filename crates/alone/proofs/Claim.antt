@@ -70,16 +70,16 @@ module _ (size : ℕ) (records : List Float) (threshold : Float) (ds : List ℕ)
   abbrev inverses : ℕ → List Float
   inverses i = expand ds (map ivar_of (column size records (v * length widths + pair_number v i component) (length ds)))
 
-  means-long : (i : ℕ) → length (p i) ≡ length bs
+  means_long : (i : ℕ) → length (p i) ≡ length bs
   unfolding frame_means
-  means-long i = expand-length ds _ (column-length size records (pair_number v i component) (length ds)) ∙ sym (stream-length size records threshold ds)
+  means_long i = expand-length ds _ (column-length size records (pair_number v i component) (length ds)) ∙ sym (stream-length size records threshold ds)
 
   inverses-all : (i : ℕ) → length (inverses i) ≡ length bs
   inverses-all i = expand-length ds _ (inverses-length size records (v * length widths + pair_number v i component) (length ds)) ∙ sym (stream-length size records threshold ds)
 
-  ivars-long : (i : ℕ) → length (x i) ≡ length bs
+  ivars_long : (i : ℕ) → length (x i) ≡ length bs
   unfolding frame_ivars
-  ivars-long i =
+  ivars_long i =
       let n : length (lefts 0 bs) ≡ length bs = lefts-length 0 bs in
       shut-length (reach_before widths i) (reach_after widths i) (lefts 0 bs) (rights bs) (inverses i) (rights-length bs ∙ sym n) (inverses-all i ∙ sym n) ∙ n
 
@@ -95,9 +95,9 @@ module _ (size : ℕ) (records : List Float) (threshold : Float) (ds : List ℕ)
     unfolding frame_ivars run_matrix run_side run_ivars run_means
     good one k h fine sound = record {
       frames = record {
-        long = λ i b. run_long bs k h (x i) (ivars-long i);
+        long = λ i b. run_long bs k h (x i) (ivars_long i);
         begins = λ i b u l c. zero-begin bs k h (reach_before widths i) (reach_after widths i) (inverses i) (inverses-all i) u l (rw (reaches-before widths one i) c);
-        long_means = λ i b. run_long bs k h (p i) (means-long i);
+        long_means = λ i b. run_long bs k h (p i) (means_long i);
         fine_means = fine;
       };
       ends = λ i b u l c. zero-end bs k h (reach_before widths i) (reach_after widths i) (inverses i) (inverses-all i) u l (rw (reaches-after widths one i) (omega arith));
@@ -111,8 +111,8 @@ module _ (size : ℕ) (records : List Float) (threshold : Float) (ds : List ℕ)
     solved-same whole fine some goods =
         let rs : List Run = runs_of bs in
         let t : Together widths coefs x p rs = together widths coefs x p whole fine rs goods in
-        let n : frames.count bs ≡ frames_of rs = sym (select-length bs (x 0) (ivars-long 0)) ∙ ap length (select-runs bs (x 0) (ivars-long 0)) ∙ t.frames.long 0 some in
-        ap (map plain) (values_same widths coefs (frames.count bs) (frames_of rs) (λ i. select bs (x i)) _ (λ i. select bs (p i)) _ n (λ i. select-runs bs (x i) (ivars-long i)) (λ i. select-runs bs (p i) (means-long i)))
+        let n : frames.count bs ≡ frames_of rs = sym (select-length bs (x 0) (ivars_long 0)) ∙ ap length (select-runs bs (x 0) (ivars_long 0)) ∙ t.frames.long 0 some in
+        ap (map plain) (values_same widths coefs (frames.count bs) (frames_of rs) (λ i. select bs (x i)) _ (λ i. select bs (p i)) _ n (λ i. select-runs bs (x i) (ivars_long i)) (λ i. select-runs bs (p i) (means_long i)))
         ∙ t.values
 
 -- ---- all components

@@ -69,10 +69,10 @@ taps_in widths coefs w k i h = omega (arith, k.taps, total-more widths i h, tota
 module _ (widths : List ℕ) (coefs : List Float) (n : ℕ) (ivars means : List Float) (w : ℕ) (k : Fits widths coefs n ivars means w) (i : ℕ) (h : i < length widths) where
   -- and so do its frames' numbers
   pub ivars-fit : i * n + n ≤ length ivars
-  ivars-fit = omega (arith, k.ivars-long, row_fits n i (length widths) h)
+  ivars-fit = omega (arith, k.ivars_long, row_fits n i (length widths) h)
 
   pub means-fit : i * n + n ≤ length means
-  means-fit = omega (arith, k.means-long, row_fits n i (length widths) h)
+  means-fit = omega (arith, k.means_long, row_fits n i (length widths) h)
 
 module _ (widths : List ℕ) (coefs : List Float) (n : ℕ) (ivars means : List Float) (t w : ℕ) where
   abbrev window : ℕ → ℕ → Float → Float

@@ -30,7 +30,7 @@ use Rattle.duration.specs.Shortest.{refusal_of_shortest}
 use Rattle.duration.specs.Estimate.{estimates, naturals}
 use Rattle.duration.specs.Fit.{rho_of, start_of, fit_to, refusal_to}
 use Rattle.duration.specs.Speed.{target_at, fit_at, refusal_at}
-use Rattle.duration.specs.Align.{Group, groups, states_in, within, target_of, fit_to_end, fit_of, fit_along, refusal_to_end, refusal_of, refusal_along}
+use Rattle.duration.specs.Align.{Group, groups, states_in, within, target_of, fit_to_end, fit_along, refusal_to_end, refusal_of, refusal_along}
 use Rattle.duration.specs.Drift.{closed_before, group_states, group_least, NoDrift}
 use Rattle.duration.specs.Promise.{fitted, aligned, refusal_of_lists, refusal_of_labels, early_refusal, early_of_labels, Says, FitSays, SpeedSays, AlignSays, AlignOnTime}
 use Rattle.duration.specs.Ones as before

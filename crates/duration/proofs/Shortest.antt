@@ -14,7 +14,6 @@ use Rattle.lists.specs.Sizes.{most_frames}
 use Rattle.lists.specs.Totals.{total}
 use Rattle.lists.proofs.Flags.{neither}
 use Rattle.lists.proofs.Sums.{total-more, total-part, total-front}
-use Rattle.duration.specs.declared.Low.{Low}
 use Rattle.duration.specs.declared.Low.TheVariants as low
 use Rattle.duration.specs.Shortest.{any_none, unfit, refusal_of_shortest}
 use Rattle.duration.specs.Inner.Asked.{low_of}

@@ -1,5 +1,5 @@
 -- RULES, Durations: the theorem of the fit, which is what a fit to a target above the sum of the shortest comes to.
-use Rattle.std.specs.Prelude.{◌≡◌, ◌⊎◌, List, [], ◌∷◌, ◌++◌, ℕ, ◌+◌, ◌≤◌, ◌<◌, length, get_or, drop, Float}
+use Rattle.std.specs.Prelude.{◌≡◌, ◌⊎◌, List, [], ◌∷◌, ◌++◌, ℕ, ◌+◌, ◌≤◌, ◌<◌, length, get_or, drop}
 use Rattle.lists.specs.Sizes.{most_frames, most_states}
 use Rattle.lists.specs.Totals.{total, gap}
 use Rattle.duration.specs.declared.Fitted.{Fitted}

@@ -1,5 +1,5 @@
 -- Durations at a speed.
-use Rattle.std.specs.Prelude.{cond, List, ℕ, ltb, Float}
+use Rattle.std.specs.Prelude.{cond, ℕ, ltb, Float}
 use Rattle.std.specs.Float.{binary64}
 use Rattle.std.specs.Float.Ieee.{div, eq}
 use Rattle.lists.specs.Sizes.{most_frames}

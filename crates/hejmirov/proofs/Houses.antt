@@ -11,13 +11,13 @@ use Rattle.houses.specs.declared.Used.{Used}
 use Rattle.houses.specs.Slots.{Table}
 use Rattle.houses.specs.Changes.{SameSets}
 use Rattle.houses.specs.Promise.{used, StartSays, start_refusal}
-use Rattle.houses.specs.Calls.{Asked, Told, changed, used_of_lem, counted_as_lem, Makes, Call, Run, own_calls, asked_in, Alike}
+use Rattle.houses.specs.Calls.{Asked, Told, changed, told_used, told_count, Makes, Call, Run, own_calls, asked_in, Alike}
 use Rattle.houses.specs.Calls as below
 use Rattle.houses.specs.Apart.{ToldTheSame, ChangesItsOwn, Apart}
 use Rattle.houses.proofs.Unwinding.{told_the_same, changes-its-own}
 use Rattle.houses.proofs.Apart.{apart}
 use Rattle.houses.proofs.Started.{started-alike}
-use Rattle.hejmirov.specs.Houses.{TableStartCallSays, CallAsked, CallTold, number, free_as, CallMakes, set-made, clear_made, use_made, free-made}
+use Rattle.hejmirov.specs.Houses.{TableStartCallSays, CallAsked, CallTold, number, free_as, CallMakes, set_made, clear_made, use_made, free_made}
 use Rattle.hejmirov.proofs.One.{hands_one, hands_two}
 use Rattle.hejmirov.proofs.Keeping.{zero-done}
 
@@ -26,15 +26,15 @@ use Rattle.hejmirov.proofs.Keeping.{zero-done}
 same_change : {a b : Changed} → changed a ≡ changed b → a ≡ b
 same_change e = cc
 
-same_use : {a b : Used} {v w : List ℕ} → used_of_lem a v ≡ used_of_lem b w → (a ≡ b) × (v ≡ w)
+same_use : {a b : Used} {v w : List ℕ} → told_used a v ≡ told_used b w → (a ≡ b) × (v ≡ w)
 same_use e = (cc, cc)
 
-same_count : {a b : Counted} → counted_as_lem a ≡ counted_as_lem b → a ≡ b
+same_count : {a b : Counted} → told_count a ≡ told_count b → a ≡ b
 same_count e = cc
 
 pub calls-told : ToldTheSame CallMakes
-calls-told house asked x y t u t' u' a (set-made f) (set-made g) =
-    let (e, l) = told_the_same house _ _ _ t u t' u' a (below.set-made f.says) (below.set-made g.says) in
+calls-told house asked x y t u t' u' a (set_made f) (set_made g) =
+    let (e, l) = told_the_same house _ _ _ t u t' u' a (below.set_made f.says) (below.set_made g.says) in
     (ap number (f.gives ∙ ap changed_number (same_change e) ∙ sym g.gives), l)
 calls-told house asked x y t u t' u' a (clear_made f) (clear_made g) =
     let (e, l) = told_the_same house _ _ _ t u t' u' a (below.clear_made f.says) (below.clear_made g.says) in
@@ -44,8 +44,8 @@ calls-told house asked x y t u t' u' a (use_made {first = first} {count} {r} {fi
     let (i, w) = same_use e in
     let (n, m, k) = hands_two _ _ first count r q first' count' first'' count'' (ap used i) f.gives g.gives in
     (rw (n, m, w, k), l)
-calls-told house asked x y t u t' u' a (free-made {free = free} {r} {free'} f) (free-made {r = q} {free' = free''} g) =
-    let (e, l) = told_the_same house _ _ _ t u t u a (below.free-made f.says) (below.free-made g.says) in
+calls-told house asked x y t u t' u' a (free_made {free = free} {r} {free'} f) (free_made {r = q} {free' = free''} g) =
+    let (e, l) = told_the_same house _ _ _ t u t u a (below.free_made f.says) (below.free_made g.says) in
     let (n, m) = hands_one _ _ free r q free' free'' (ap counted (same_count e)) f.gives g.gives in
     (rw (n, m), l)
 
@@ -57,10 +57,10 @@ record Below (t : Table) (house : ℕ) (t' : Table) : Type 0 where
   made : Makes t house asked told t'
 
 made-below : {t t' : Table} {house : ℕ} {asked : CallAsked} {told : CallTold} → CallMakes t house asked told t' → Below t house t'
-made-below (set-made f) = record { asked = _; told = _; made = below.set-made f.says }
+made-below (set_made f) = record { asked = _; told = _; made = below.set_made f.says }
 made-below (clear_made f) = record { asked = _; told = _; made = below.clear_made f.says }
 made-below (use_made f) = record { asked = _; told = _; made = below.use_made f.says }
-made-below (free-made f) = record { asked = _; told = _; made = below.free-made f.says }
+made-below (free_made f) = record { asked = _; told = _; made = below.free_made f.says }
 
 pub calls_change : ChangesItsOwn CallMakes
 calls_change = record {

@@ -55,8 +55,8 @@ pub data CallTold : Type 0 where
 
 -- a house makes a call, and is told what its promise says: the table before, and after
 pub data CallMakes : Table → ℕ → CallAsked → CallTold → Table → Type 0 where
-  set-made : {t t' : Table} {house s r : ℕ} {widths : List ℕ} {coefs : List Float} → TableSetCallSays t house s widths coefs r t' → CallMakes t house (to_set s widths coefs) (number r) t'
+  set_made : {t t' : Table} {house s r : ℕ} {widths : List ℕ} {coefs : List Float} → TableSetCallSays t house s widths coefs r t' → CallMakes t house (to_set s widths coefs) (number r) t'
   clear_made : {t t' : Table} {house s r : ℕ} → TableClearCallSays t house s r t' → CallMakes t house (to_clear s) (number r) t'
   use_made : {t : Table} {house s first count r first' count' : ℕ} {widths widths' : List ℕ} → TableUseCallSays t house s first widths count r first' widths' count'
       → CallMakes t house (to_use s first widths count) (used_as r first' widths' count') t
-  free-made : {t : Table} {house free r free' : ℕ} → TableFreeCallSays t house free r free' → CallMakes t house (to_free free) (free_as r free') t
+  free_made : {t : Table} {house free r free' : ℕ} → TableFreeCallSays t house free r free' → CallMakes t house (to_free free) (free_as r free') t

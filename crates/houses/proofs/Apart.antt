@@ -8,7 +8,7 @@ use native.Mathlib.Omega.{arith}
 use borrow.Author.Tests.{eq-eqb, ne_eqb}
 use Rattle.lists.proofs.Numbers.{by_place}
 use Rattle.houses.specs.Slots.{Table, slot_at, is_common}
-use Rattle.houses.specs.Calls.{Makes, Call, call, Run, none, call-then, own_calls, asked_in, Alike}
+use Rattle.houses.specs.Calls.{Makes, Call, call, Run, none, call_then, own_calls, asked_in, Alike}
 use Rattle.houses.specs.Apart.{ToldTheSame, ChangesItsOwn, Apart}
 use Rattle.houses.proofs.Whose.{common_none, may_none}
 use Rattle.houses.proofs.Unwinding.{told_the_same, changes-its-own}
@@ -34,12 +34,12 @@ module _ {Ask Tell : Type 0} (M : Table → ℕ → Ask → Tell → Table → T
   -- a run as a house sees it: before each call of its own, and at the end, a table that is alike to it
   data Seen (house : ℕ) : Table → List (Call Ask Tell) → Table → Type 0 where
     rest : {t t' : Table} → Alike house t t' → Seen house t [] t'
-    own-then : {t u u' t' : Table} {asked : Ask} {told : Tell} {calls : List (Call Ask Tell)} → Alike house t u → M u house asked told u' → Seen house u' calls t' → Seen house t (call house asked told ∷ calls) t'
+    own_then : {t u u' t' : Table} {asked : Ask} {told : Tell} {calls : List (Call Ask Tell)} → Alike house t u → M u house asked told u' → Seen house u' calls t' → Seen house t (call house asked told ∷ calls) t'
 
   -- it may begin with any table that is alike to it
   seen-from : {house : ℕ} {t u t' : Table} {calls : List (Call Ask Tell)} → Alike house t u → Seen house u calls t' → Seen house t calls t'
   seen-from a (rest b) = rest (alike_then a b)
-  seen-from a (own-then b m r) = own-then (alike_then a b) m r
+  seen-from a (own_then b m r) = own_then (alike_then a b) m r
 
   module _ (c : ChangesItsOwn M) where
     -- another house's call leaves a table that is alike to it
@@ -53,10 +53,10 @@ module _ {Ask Tell : Type 0} (M : Table → ℕ → Ask → Tell → Table → T
     seen : (house : ℕ) {t t' : Table} {calls : List (Call Ask Tell)} → Run M t calls t' → Seen house t (own_calls house calls) t'
     unfolding own_calls
     seen house {t} none = rest (alike_self house t)
-    seen house {t} (call-then {t' = t₁} {t''} {house = other} {asked} {told} {calls} m r) =
+    seen house {t} (call_then {t' = t₁} {t''} {house = other} {asked} {told} {calls} m r) =
         by_place house (λ o. M t o asked told t₁ → Seen house t (own_calls house (call o asked told ∷ calls)) t'') other
         (λ d n. rw (ne_eqb other house d) (seen-from (other-alike d n) (seen house r)))
-        (λ n. rw (eq-eqb house house refl) (own-then (alike_self house t) n (seen house r)))
+        (λ n. rw (eq-eqb house house refl) (own_then (alike_self house t) n (seen house r)))
         m
 
   module _ (same : ToldTheSame M) where
@@ -64,9 +64,9 @@ module _ {Ask Tell : Type 0} (M : Table → ℕ → Ask → Tell → Table → T
     seen_same : {house : ℕ} {t u t' u' : Table} {xs ys : List (Call Ask Tell)} → Alike house t u → Seen house t xs t' → Seen house u ys u' → asked_in xs ≡ asked_in ys → (xs ≡ ys) × Alike house t' u'
     unfolding asked_in
     seen_same a (rest b) (rest c) e = (refl, alike_then (alike-back b) (alike_then a c))
-    seen_same a (rest b) (own-then c n r) e = absurd (let z : ◌≡◌ {A = ℕ} 0 1 = cc in omega arith)
-    seen_same a (own-then b m q) (rest c) e = absurd (let z : ◌≡◌ {A = ℕ} 0 1 = cc in omega arith)
-    seen_same {house} a (own-then {u = v} {u' = v'} {asked = asked} {told = x} b m q) (own-then {u = w} {u' = w'} {asked = asked'} {told = y} c n r) e =
+    seen_same a (rest b) (own_then c n r) e = absurd (let z : ◌≡◌ {A = ℕ} 0 1 = cc in omega arith)
+    seen_same a (own_then b m q) (rest c) e = absurd (let z : ◌≡◌ {A = ℕ} 0 1 = cc in omega arith)
+    seen_same {house} a (own_then {u = v} {u' = v'} {asked = asked} {told = x} b m q) (own_then {u = w} {u' = w'} {asked = asked'} {told = y} c n r) e =
         let k : Alike house v w = alike_then (alike-back b) (alike_then a c) in
         let p : asked ≡ asked' = cc in
         let o : M w house asked y w' = subst (λ (z : Ask). M w house z y w') (sym p) n in
@@ -81,7 +81,7 @@ module _ {Ask Tell : Type 0} (M : Table → ℕ → Ask → Tell → Table → T
   -- nobody changes a common slot
   pub run-keeps : ChangesItsOwn M → {t t' : Table} {calls : List (Call Ask Tell)} → Run M t calls t' → (s : ℕ) → is_common s ≡ true → slot_at t' s ≡ slot_at t s
   run-keeps c none s e = refl
-  run-keeps c {t} (call-then {t' = t₁} {house = house} {asked} {told} m r) s e = run-keeps c r s e ∙ c.slots house asked told t t₁ m s (common_none house s e)
+  run-keeps c {t} (call_then {t' = t₁} {house = house} {asked} {told} m r) s e = run-keeps c r s e ∙ c.slots house asked told t t₁ m s (common_none house s e)
 
 -- RULES, Houses, the claim, of the calls' promises
 pub houses_apart : Apart Makes

@@ -11,7 +11,7 @@ use Rattle.lists.proofs.Answers.{given-either}
 use Rattle.houses.specs.Slots.{Table, Slot}
 use Rattle.houses.specs.Changes.{put_in, row_length, SameBehind}
 use Rattle.houses.specs.Promise.{ChangesTo, StartSays}
-use Rattle.houses.specs.Calls.{Asked, Told, Makes, set-made, clear_made, use_made, free-made}
+use Rattle.houses.specs.Calls.{Asked, Told, Makes, set_made, clear_made, use_made, free_made}
 use Rattle.houses.proofs.Accepting.{set-accepted, clear_accepted}
 use Rattle.houses.proofs.Whose.{own-within}
 use Rattle.houses.proofs.Putting.{Sized, holding-sized}
@@ -35,7 +35,7 @@ start-behind {t} common ws cs = changes-behind (λ e. started-behind (row_length
 
 -- nor by any other call
 pub makes_behind : {house : ℕ} {asked : Asked} {x : Told} {t t' : Table} → Makes t house asked x t' → SameBehind t' t
-makes_behind {house} {t = t} (set-made {s = s} {widths} {coefficients} c) = changes-behind (λ e. put-behind s _ t (holding-sized widths coefficients) (own-within house s (set-accepted t house s widths coefficients e).own)) c
+makes_behind {house} {t = t} (set_made {s = s} {widths} {coefficients} c) = changes-behind (λ e. put-behind s _ t (holding-sized widths coefficients) (own-within house s (set-accepted t house s widths coefficients e).own)) c
 makes_behind {house} {t = t} (clear_made {s = s} c) = changes-behind (λ e. put-behind s _ t (holding-sized [] []) (own-within house s (clear_accepted t house s e).own)) c
 makes_behind (use_made c) = (refl, refl)
-makes_behind (free-made c) = (refl, refl)
+makes_behind (free_made c) = (refl, refl)

@@ -8,7 +8,7 @@ use Rattle.lists.specs.declared.Counted.{Counted}
 use Rattle.houses.specs.declared.Used.{Used}
 use Rattle.houses.specs.Slots.{Table}
 use Rattle.houses.specs.Promise.{ChangesTo, StartSays, SetSays, ClearSays, UseSays, FreeSays}
-use Rattle.houses.specs.Calls.{Asked, to_set, to_clear, to_use, to_free, Told, Makes, set-made, clear_made, use_made, free-made}
+use Rattle.houses.specs.Calls.{Asked, to_set, to_clear, to_use, to_free, Told, Makes, set_made, clear_made, use_made, free_made}
 
 -- of a call that changes a table
 changes-one : {k : ℕ} {new t t₁ t₂ : Table} {q r : Changed} → ChangesTo k new t q t₁ → ChangesTo k new t r t₂ → (q ≡ r) × (t₁ ≡ t₂)
@@ -33,7 +33,7 @@ free_one t house q r a b = a ∙ sym b
 
 -- whatever a house asks, it is told something
 pub makes_some : (t : Table) (house : ℕ) (asked : Asked) → (x : Told) × (t' : Table) × Makes t house asked x t'
-makes_some t house (to_set s ws cs) = (_, _, set-made (record { answer = refl; left = refl }))
+makes_some t house (to_set s ws cs) = (_, _, set_made (record { answer = refl; left = refl }))
 makes_some t house (to_clear s) = (_, _, clear_made (record { answer = refl; left = refl }))
 makes_some t house (to_use s out) = (_, t, use_made (record { answer = refl; output = refl }))
-makes_some t house to_free = (_, t, free-made refl)
+makes_some t house to_free = (_, t, free_made refl)

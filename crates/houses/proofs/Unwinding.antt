@@ -20,7 +20,7 @@ use Rattle.lists.proofs.Answers.{given-either}
 use Rattle.houses.specs.Slots.{Table, Slot, slot_at, widths_in, is_empty, owns, may_use, first_own, free_of}
 use Rattle.houses.specs.Changes.{cleared, put_in}
 use Rattle.houses.specs.Promise.{used_of, table_refusal, set_refusal, clear_refusal, use_refusal, free_refusal, ChangesTo}
-use Rattle.houses.specs.Calls.{Asked, Told, changed, counted_as_lem, Makes, set-made, clear_made, use_made, free-made, Alike}
+use Rattle.houses.specs.Calls.{Asked, Told, changed, told_count, Makes, set_made, clear_made, use_made, free_made, Alike}
 use Rattle.houses.specs.Apart.{ToldTheSame, ChangesItsOwn}
 use Rattle.houses.proofs.Accepting.{set-accepted, clear_accepted}
 use Rattle.houses.proofs.Whose.{own-used, place-own}
@@ -80,7 +80,7 @@ module _ {house : ℕ} {t u : Table} (a : Alike house t u) where
 
   -- and so has any call
   makes_alike : {asked : Asked} {x y : Told} {t' u' : Table} → Makes t house asked x t' → Makes u house asked y u' → (x ≡ y) × Alike house t' u'
-  makes_alike (set-made {s = s} {widths} {coefficients} c) (set-made d) =
+  makes_alike (set_made {s = s} {widths} {coefficients} c) (set_made d) =
       let (e, n) = changes-alike c d (set-number s widths coefficients) (put-alike s _ (holding-sized widths coefficients)) in
       (ap changed e, n)
   makes_alike (clear_made {s = s} c) (clear_made d) =
@@ -89,7 +89,7 @@ module _ {house : ℕ} {t u : Table} (a : Alike house t u) where
   makes_alike (use_made {s = s} {widths} c) (use_made d) =
       let (e, n) = use_told s widths in
       (rw (c.answer ∙ e ∙ sym d.answer, c.output ∙ n ∙ sym d.output), a)
-  makes_alike (free-made c) (free-made d) = (ap counted_as_lem (c ∙ free-told ∙ sym d), a)
+  makes_alike (free_made c) (free_made d) = (ap told_count (c ∙ free-told ∙ sym d), a)
 
 -- the first half of the claim, of one call
 pub told_the_same : ToldTheSame Makes
@@ -110,10 +110,10 @@ put-kept house s {k} {x} {t} z own c =
 
 -- and any call
 makes_kept : {house : ℕ} {asked : Asked} {x : Told} {t t' : Table} → Makes t house asked x t' → Kept house t t'
-makes_kept {house} {t = t} (set-made {s = s} {widths} {coefficients} c) = put-kept house s (holding-sized widths coefficients) (λ e. (set-accepted t house s widths coefficients e).own) c
+makes_kept {house} {t = t} (set_made {s = s} {widths} {coefficients} c) = put-kept house s (holding-sized widths coefficients) (λ e. (set-accepted t house s widths coefficients e).own) c
 makes_kept {house} {t = t} (clear_made {s = s} c) = put-kept house s (holding-sized [] []) (λ e. (clear_accepted t house s e).own) c
 makes_kept (use_made c) = (refl, λ q n. refl)
-makes_kept (free-made c) = (refl, λ q n. refl)
+makes_kept (free_made c) = (refl, λ q n. refl)
 
 -- the other half, of one call
 pub changes-its-own : ChangesItsOwn Makes

@@ -32,14 +32,14 @@ use Rattle.houses.proofs.Whose.{own-within, may-within}
 
 -- a table that is not too short has all slots
 pub long-table : (t : Table) → table_refusal t ≡ 0 → Long t.widths t.coefficients
-long-table t e = let l = long-enough t e in record { enough-widths = l.0; enough-coefficients = l.1 }
+long-table t e = let l = long-enough t e in record { enough_widths = l.0; enough_coefficients = l.1 }
 
 within-table : (t : Table) (s : ℕ) → s < slot_count → table_refusal t ≡ 0 → Within s t.widths t.coefficients
-within-table t s h e = let l = long-table t e in record { there = h; enough-widths = l.enough-widths; enough-coefficients = l.enough-coefficients }
+within-table t s h e = let l = long-table t e in record { there = h; enough_widths = l.enough_widths; enough_coefficients = l.enough_coefficients }
 
 -- a slot's number as an index is that number
 pub within_as : {ws : List ℕ} {cs : List Float} {s n : ℕ} → n ≡ s → Within s ws cs → Within n ws cs
-within_as e h = record { there = omega (arith, e, h.there); enough-widths = h.enough-widths; enough-coefficients = h.enough-coefficients }
+within_as e h = record { there = omega (arith, e, h.there); enough_widths = h.enough_widths; enough_coefficients = h.enough_coefficients }
 
 -- and so has one of which a set, a clear or a use is not refused, the slot among them
 module _ (t : Table) (house s : ℕ) where
@@ -162,7 +162,7 @@ use_done t house s j at first count widths widths' row own e z a f r o c w =
     let k : use_refusal t house s widths ≡ 0 = sym e ∙ z in
     let h = use_within t house s widths k in
     let v : row ≡ (slot_at t s).widths = rw (r, a) in
-    let four : length row ≡ most_windows = rw v (length-take-le most_windows (drop (s * most_windows) t.widths) (rw length-drop (omega (arith, h.there, h.enough-widths)))) in
+    let four : length row ≡ most_windows = rw v (length-take-le most_windows (drop (s * most_windows) t.widths) (rw length-drop (omega (arith, h.there, h.enough_widths)))) in
     let short : length own ≤ 4294967296 = rw o (omega (arith, length-take (up_to_last row) row)) in
     record {
       answer = rw (k, f) (ap (At (s * most_set_taps)) (c ∙ total-whole own short ∙ ap total o ∙ ap (λ (x : List ℕ). total (trimmed x)) v));

@@ -16,15 +16,15 @@ pub data Asked : Type 0 where
 -- all that it is told: the answer, and what it lent at exit
 pub data Told : Type 0 where
   changed : Changed → Told
-  used_of_lem : Used → (widths' : List ℕ) → Told
-  counted_as_lem : Counted → Told
+  told_used : Used → (widths' : List ℕ) → Told
+  told_count : Counted → Told
 
 -- a house asks, and is told what the call's promise says: the table before, and after
 pub data Makes : Table → ℕ → Asked → Told → Table → Type 0 where
-  set-made : {t t' : Table} {house s : ℕ} {widths : List ℕ} {coefficients : List Float} {r : Changed} → SetSays t house s widths coefficients r t' → Makes t house (to_set s widths coefficients) (changed r) t'
+  set_made : {t t' : Table} {house s : ℕ} {widths : List ℕ} {coefficients : List Float} {r : Changed} → SetSays t house s widths coefficients r t' → Makes t house (to_set s widths coefficients) (changed r) t'
   clear_made : {t t' : Table} {house s : ℕ} {r : Changed} → ClearSays t house s r t' → Makes t house (to_clear s) (changed r) t'
-  use_made : {t : Table} {house s : ℕ} {widths widths' : List ℕ} {r : Used} → UseSays t house s widths r widths' → Makes t house (to_use s widths) (used_of_lem r widths') t
-  free-made : {t : Table} {house : ℕ} {r : Counted} → FreeSays t house r → Makes t house to_free (counted_as_lem r) t
+  use_made : {t : Table} {house s : ℕ} {widths widths' : List ℕ} {r : Used} → UseSays t house s widths r widths' → Makes t house (to_use s widths) (told_used r widths') t
+  free_made : {t : Table} {house : ℕ} {r : Counted} → FreeSays t house r → Makes t house to_free (told_count r) t
 
 -- one call of a house: what it asked, and what it was told
 pub record Call (Ask Tell : Type 0) : Type 0 where
@@ -38,7 +38,7 @@ call house asked told = record { house = house; asked = asked; told = told }
 -- calls of any houses, one after the other, each as a promise M says: the table before them, and after them
 pub data Run {Ask Tell : Type 0} (M : Table → ℕ → Ask → Tell → Table → Type 0) : Table → List (Call Ask Tell) → Table → Type 0 where
   none : {t : Table} → Run M t [] t
-  call-then : {t t' t'' : Table} {house : ℕ} {asked : Ask} {told : Tell} {calls : List (Call Ask Tell)} → M t house asked told t' → Run M t' calls t'' → Run M t (call house asked told ∷ calls) t''
+  call_then : {t t' t'' : Table} {house : ℕ} {asked : Ask} {told : Tell} {calls : List (Call Ask Tell)} → M t house asked told t' → Run M t' calls t'' → Run M t (call house asked told ∷ calls) t''
 
 module _ {Ask Tell : Type 0} where
   -- the calls of one house

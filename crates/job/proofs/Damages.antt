@@ -106,9 +106,9 @@ module _ (bytes : List ℕ) where
 
 pub data Way (bytes : List ℕ) : Found → Type 0 where
   wrong_mark : alike mark bytes < 3 → alike mark bytes < length bytes → Way bytes (Wrong Mark (alike mark bytes))
-  ends-early : length bytes < 5 → min 3 (length bytes) ≤ alike mark bytes → Way bytes (Wrong Length (length bytes))
+  ends_early : length bytes < 5 → min 3 (length bytes) ≤ alike mark bytes → Way bytes (Wrong Length (length bytes))
   wrong_version : 3 ≤ alike mark bytes → 5 ≤ length bytes → is_known (version_of bytes) ≡ false → Way bytes (Wrong Version 3)
-  ends-in_count : 3 ≤ alike mark bytes → is_known (version_of bytes) ≡ true → 5 ≤ length bytes → length bytes < 7 → Way bytes (Wrong Length (length bytes))
+  ends_in_count : 3 ≤ alike mark bytes → is_known (version_of bytes) ≡ true → 5 ≤ length bytes → length bytes < 7 → Way bytes (Wrong Length (length bytes))
   wrong_count : 3 ≤ alike mark bytes → is_known (version_of bytes) ≡ true → 7 ≤ length bytes → most_job_states < count_of bytes → Way bytes (Wrong Count 5)
   wrong_length : 3 ≤ alike mark bytes → is_known (version_of bytes) ≡ true → 7 ≤ length bytes → count_of bytes ≤ most_job_states → (length bytes ≡ whole_of bytes → ⊥)
       → Way bytes (Wrong Length (min (length bytes) (whole_of bytes)))
@@ -134,7 +134,7 @@ module _ (bytes : List ℕ) where
         (λ (few : count_of bytes ≤ most_job_states). way-length v seven few)
         (λ (g : most_job_states < count_of bytes). rw (found-count bytes h five v seven g) (wrong_count three v seven g))
         (le-or-lt (count_of bytes) most_job_states))
-        (λ (l : length bytes < 7). rw (found-short-count bytes h five v l) (ends-in_count three v five l))
+        (λ (l : length bytes < 7). rw (found-short-count bytes h five v l) (ends_in_count three v five l))
         (le-or-lt 7 (length bytes))
 
     way-version : Way bytes (damage_of bytes)
@@ -149,7 +149,7 @@ module _ (bytes : List ℕ) where
   way = ⊎_elim
       (λ (h : min 3 (length bytes) ≤ alike mark bytes). ⊎_elim
       (way-version h)
-      (λ (l : length bytes < 5). rw (found-short bytes h l) (ends-early l h))
+      (λ (l : length bytes < 5). rw (found-short bytes h l) (ends_early l h))
       (le-or-lt 5 (length bytes)))
       (λ (h : alike mark bytes < min 3 (length bytes)). rw (found-mark bytes h) (wrong_mark (omega arith) (omega arith)))
       (le-or-lt (min 3 (length bytes)) (alike mark bytes))
@@ -168,9 +168,9 @@ JobWhere bytes (Wrong what at) = Unit {0}
 
 way-job : (bytes : List ℕ) (f : Found) → Way bytes f → JobWhere bytes f
 way-job bytes f (wrong_mark h g) = tt
-way-job bytes f (ends-early l h) = tt
+way-job bytes f (ends_early l h) = tt
 way-job bytes f (wrong_version m l d) = tt
-way-job bytes f (ends-in_count m v l g) = tt
+way-job bytes f (ends_in_count m v l g) = tt
 way-job bytes f (wrong_count m v l g) = tt
 way-job bytes f (wrong_length m v l g d) = tt
 way-job bytes f (nowhere j) = j

@@ -28,8 +28,8 @@ use Rattle.job.specs.Places.{PlaceRight}
 use Rattle.job.specs.Promise.{JobSays}
 use Rattle.job.specs.Link.{head_bytes, link_room, link_bytes, idle, under_way, has_ended, came_in, link_refusal}
 use Rattle.job.specs.LinkPromise.{LinkBeginSays, LinkPartSays, LinkEndSays}
-use Rattle.job.specs.Linking.{Call, part_of, end_with, CallOutcome, taken, refused11, Calls, none, part_then, end-then, JobInParts, AsWhole}
-use Rattle.job.proofs.Damages.{length_most, found-mark, found-version, found-count, found-length, Way, wrong_mark, ends-early, wrong_version, ends-in_count, wrong_count, wrong_length, nowhere, way, sound-job}
+use Rattle.job.specs.Linking.{Call, part_of, end_with, CallOutcome, taken, refused11, Calls, none, part_then, end_then, JobInParts, AsWhole}
+use Rattle.job.proofs.Damages.{length_most, found-mark, found-version, found-count, found-length, Way, wrong_mark, ends_early, wrong_version, ends_in_count, wrong_count, wrong_length, nowhere, way, sound-job}
 use Rattle.job.proofs.Answers.{damaged_so}
 use Rattle.job.proofs.Outcomes.{answered-one, job_one, job-found, job-told}
 use Rattle.job.proofs.Memory.{is-long, is_open, open_long, held-came, held_open, idle_ended, ended_11, open_0}
@@ -67,9 +67,9 @@ module _ (bytes : List ℕ) (h : link_room ≤ length bytes) where
 
   way-kept : (f : Found) → Way bytes f → damage_of kept ≡ f
   way-kept f (wrong_mark m g) = found-mark kept (omega (arith, full, kept-alike)) ∙ ap (Wrong Mark) kept-alike
-  way-kept f (ends-early l m) = absurd (omega arith)
+  way-kept f (ends_early l m) = absurd (omega arith)
   way-kept f (wrong_version m l d) = found-version kept (omega (arith, kept-alike)) (omega (arith, full)) (kept-known ∙ d)
-  way-kept f (ends-in_count m v l g) = absurd (omega arith)
+  way-kept f (ends_in_count m v l g) = absurd (omega arith)
   way-kept f (wrong_count m v l g) = found-count kept (omega (arith, kept-alike)) (omega (arith, full)) (kept-known ∙ v) (omega (arith, full)) (rw (kept_word 5 (omega arith)) g)
   way-kept f (wrong_length m v l g d) =
       let c : count_of kept ≡ count_of bytes = kept_word 5 (omega arith) in
@@ -206,7 +206,7 @@ all-refused (part_of bytes ∷ calls) link outcomes link' e (part_then p cs) =
     let s = part_11 link e bytes _ _ p in
     let t = all-refused calls _ _ link' (rw s.1 e) cs in
     (rw (s.0, t.0), t.1 ∙ s.1)
-all-refused (end_with out work ∷ calls) link outcomes link' e (end-then p cs) =
+all-refused (end_with out work ∷ calls) link outcomes link' e (end_then p cs) =
     let s = end_11 link e out work _ _ _ _ p in
     let t = all-refused calls _ _ link' (rw s.1 e) cs in
     (rw (s.0, s.2, s.3, t.0), t.1 ∙ s.1)

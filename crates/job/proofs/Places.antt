@@ -1,6 +1,6 @@
 -- The place of a damage is right.
 use mathlib.Core.Path.{◌≡◌, refl, sym, ap, ◌∙◌, subst}
-use mathlib.Core.Bool.{true, false, true≢false}
+use mathlib.Core.Bool.{true, true≢false}
 use mathlib.Core.Logic.{◌≢◌}
 use mathlib.Core.List.{List, [], ◌∷◌, ◌++◌}
 use Prim.Native.Nat.{ℕ, zero, suc, ◌+◌, ◌-◌, ◌≤◌, ◌<◌, min}
@@ -22,7 +22,7 @@ use Rattle.job.specs.Damage.{damage_of}
 use Rattle.job.specs.Places.{Begins, looked_to, PlaceRight}
 use Rattle.lists.proofs.Spelled.{bytes-append}
 use Rattle.job.proofs.Written.{bytes-mark}
-use Rattle.job.proofs.Damages.{Way, wrong_mark, ends-early, wrong_version, ends-in_count, wrong_count, wrong_length, nowhere, way}
+use Rattle.job.proofs.Damages.{Way, wrong_mark, ends_early, wrong_version, ends_in_count, wrong_count, wrong_length, nowhere, way}
 
 -- ---- what a front says of every file that begins so
 
@@ -165,7 +165,7 @@ module _ (bytes : List ℕ) where
         there = λ i. none-marked h i;
         ends = λ e j. absurd (omega arith);
       }
-  way-right f (ends-early l h) =
+  way-right f (ends_early l h) =
       record {
         within = omega arith;
         before = early-begins (length bytes) refl l h;
@@ -179,7 +179,7 @@ module _ (bytes : List ℕ) where
         there = λ i b. true≢false (sym b.job.versioned ∙ like-known bytes b.rest 5 l (omega arith) ∙ d);
         ends = λ e j. omega arith;
       }
-  way-right f (ends-in_count m v l g) =
+  way-right f (ends_in_count m v l g) =
       record {
         within = omega arith;
         before = in_count-begins (length bytes) refl m v l g;

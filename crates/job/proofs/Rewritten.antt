@@ -179,16 +179,16 @@ module _ (bytes : List ℕ) (b : Bytes bytes) (j : IsJob bytes) where
   abbrev size : ℕ
   size = state_bytes (version_of bytes)
 
-  means-long : length (job_of bytes).means ≡ count
-  means-long = floats-long bytes 15 size count
+  means_long : length (job_of bytes).means ≡ count
+  means_long = floats-long bytes 15 size count
 
   -- what is read can be written, in the version in which it stood
   pub read-writable : Writable (version_of bytes) (job_of bytes)
   read-writable =
       record {
         known = j.versioned;
-        few = rw means-long j.few;
-        agree = (floats-long bytes 23 size count ∙ sym means-long, shortest-long (version_of bytes) bytes count ∙ sym means-long);
+        few = rw means_long j.few;
+        agree = (floats-long bytes 23 size count ∙ sym means_long, shortest-long (version_of bytes) bytes count ∙ sym means_long);
         speed = of_bits-fits binary64 (pattern_at bytes 7);
         means = floats-fit bytes 15 size count;
         varis = floats-fit bytes 23 size count;
@@ -205,7 +205,7 @@ module _ (bytes : List ℕ) (b : Bytes bytes) (j : IsJob bytes) where
 
     module _ (k : ℕ) (h : k < count) where
       within : k < length (job_of bytes).means
-      within = rw means-long h
+      within = rw means_long h
 
       mean-nan : OneNan (pattern_at bytes (15 + size * k))
       mean-nan = nan_at (15 + size * k) (mean-part (version_of bytes) (job_of bytes) read-writable k within ∙ ap bytes_of_float (floats_at_lem bytes 15 size count k h))

@@ -31,7 +31,7 @@ pub data Calls : List ℕ → List Call → List CallOutcome → List ℕ → Ty
   none : {link : List ℕ} → Calls link [] [] link
   part_then : {link bytes mid link' : List ℕ} {r : Linked} {calls : List Call} {outcomes : List CallOutcome}
       → LinkPartSays link bytes r mid → Calls mid calls outcomes link' → Calls link (part_of bytes ∷ calls) (parted r ∷ outcomes) link'
-  end-then : {link out work mid out' work' link' : List ℕ} {r : Answered} {calls : List Call} {outcomes : List CallOutcome}
+  end_then : {link out work mid out' work' link' : List ℕ} {r : Answered} {calls : List Call} {outcomes : List CallOutcome}
       → LinkEndSays link out work r mid out' work' → Calls mid calls outcomes link' → Calls link (end_with out work ∷ calls) (finished r out' work' ∷ outcomes) link'
 
 -- A job in parts: begin on a memory, whatever it holds, then these parts in order, then the end with an output and a work space. `clean` and `full` are the memory after

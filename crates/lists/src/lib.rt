@@ -1,5 +1,6 @@
 // Total functions on lent lists: whatever the places and counts, they do what the list has room for.
 #![tactic(auto)]
+
 ghost use Rattle.std.specs.Prelude.{◌≡◌, [], ◌∷◌, ◌*◌, ◌^◌, min, max, take, drop, replicate, leb};
 ghost use Rattle.std.proofs.lemmas.List.Edits.{sets};
 ghost use Rattle.lists.specs.Totals.{total};

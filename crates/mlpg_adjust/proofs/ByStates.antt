@@ -82,4 +82,4 @@ module _ (s : Stream) (widths : List ℕ) (records : List Float) (ds : List ℕ)
   pub clamped_in_32 : Recorded s widths records ds → clamped_high s widths records ds + clamped_low s widths records ds ≤ 16777216
   clamped_in_32 r =
       let few : count (voiced_in s widths records ds) ≤ 65536 = omega (arith, count_most (voiced_in s widths records ds), mask-long s widths records ds, r.frames) in
-      omega (arith, clamped-share, mul-le-mul r.most-v (mul-le-mul r.most-windows few))
+      omega (arith, clamped-share, mul-le-mul r.most_v (mul-le-mul r.most-windows few))

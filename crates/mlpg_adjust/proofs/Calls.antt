@@ -74,7 +74,7 @@ module _ (p : Plan) (widths : List ℕ) (coefs records : List Float) (ds marks :
   module _ (k : ℕ) (k-is : k ≡ region.floats_of p.layout) where
     small : (0 < k) × (k ≤ 48)
     small = let z : k ≡ region.floats_of g = k-is ∙ ap (λ (q : Layout). region.floats_of q) layout_is in
-        (omega (arith, z), omega (arith, z, r.shaped.most-windows, r.shaped.most-width))
+        (omega (arith, z), omega (arith, z, r.shaped.most-windows, r.shaped.most_width))
 
     pub lanes_some : 0 < 48 / k
     lanes_some = (le-div_iff_mul-le {k = k} {x = 1} {y = 48} small.0).1 (omega (arith, small.1))
@@ -110,12 +110,12 @@ module _ (p : Plan) (widths : List ℕ) (coefs records : List Float) (ds marks :
         let n-is : p.layout.n ≡ count (voiced_in s widths records ds) = ap (λ (q : Layout). q.n) layout_is in
         record {
           some = rw layout_is (omega arith);
-          few-windows = rw layout_is r.shaped.most-windows;
+          few_windows = rw layout_is r.shaped.most-windows;
           few = omega (arith, n-is, r.marked.most, r.shaped.frames);
           frames = omega (arith, frames-is, r.shaped.frames);
           switches = omega (arith, n-is, frames-is, r.marked.room);
           components = h;
-          most-v = rw e r.shaped.most-v;
+          most_v = rw e r.shaped.most_v;
           room = room;
         }
 
@@ -133,7 +133,7 @@ module _ (p : Plan) (c : Group) (marks : List ℕ) (targets work work' : List Fl
       let q = rw (e, add-sub_cancel_left p.frames p.layout.n, add-sub_cancel_left c.first c.lanes, add-sub_cancel_left (c.v + c.first) c.lanes) at says.space in
       let room : length (part c.first c.lanes targets) * region.size_of p.layout ≤ length work = rw m-long k.room in
       opened _ _ _ _ (gv_opens p.layout (length (part p.frames p.layout.n marks)) (length (part c.first c.lanes targets)) (length (part (c.v + c.first) c.lanes targets)) (length work)
-      k.some k.few-windows k.few o-long (v-long ∙ sym m-long) room) q
+      k.some k.few_windows k.few o-long (v-long ∙ sym m-long) room) q
       ∙ rw m-long
 
 -- ---- a group's columns

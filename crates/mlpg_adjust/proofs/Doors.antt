@@ -42,7 +42,7 @@ module _ (s : Stream) (widths : List ℕ) (coefs records : List Float) (ds : Lis
   module _ (marks : List ℕ) (m : Marked s widths records ds marks) (c : Group) (e : c.v ≡ s.v) (h : c.first + c.lanes ≤ c.v) (floats : ℕ) (room : c.lanes * region.size_of g ≤ floats) where
     group-opens : grouped ds marks g c floats ≡ true
     group-opens =
-        let q : c.v ≤ 64 = rw e k.most-v in
+        let q : c.v ≤ 64 = rw e k.most_v in
         rw (frames-flagged (length marks) (omega (arith, m.room)), m.flags, eq-eqb g.n g.n refl, le-leb c.v 64 q, le-leb (c.first + c.lanes) c.v h, le-leb (c.lanes * region.size_of g) floats room)
 
     pub closing-opens : closes (state_size s widths) records widths ds marks g c floats ≡ true

@@ -123,7 +123,7 @@ module _ (s : Stream) (widths : List ℕ) (coefs records : List Float) (ds : Lis
 
       pub all-rendered : (gv_on s.gv ≡ true → length on ≡ length ds) → (gv out : List Float) → length out ≡ total ds * s.v
           → Columned (column_of p.stream widths coefs records ds m₂ gv) p.stream.v p.stream.v out → out ≡ numbers_of s widths coefs records ds gv on
-      all-rendered h gv out l col = rendered s widths coefs records ds gv on marks₂ (switches_are h) out k.some-v l (rw (marks_are, p-is) at col)
+      all-rendered h gv out l col = rendered s widths coefs records ds gv on marks₂ (switches_are h) out k.some_v l (rw (marks_are, p-is) at col)
 
 -- ---- the call that writes the switches
 

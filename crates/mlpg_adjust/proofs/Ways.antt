@@ -67,8 +67,8 @@ frames_are ds n e few = e ∙ total-whole ds (omega arith)
 -- what is left where 3 is not given
 pub record InRange (v states : ℕ) : Type 0 where
   pub few : states ≤ 4096
-  pub some-v : 0 < v
-  pub most-v : v ≤ 64
+  pub some_v : 0 < v
+  pub most_v : v ≤ 64
 
 three-tests : (a b d : Bool) → a || b || d ≡ false → (a ≡ false) × (b ≡ false) × (d ≡ false)
 three-tests false false false h = (refl, refl, refl)
@@ -80,7 +80,7 @@ pub in_range : (v states : ℕ) → out_of_range v states ≡ false → InRange 
 in_range v states h =
     let t = neither (ltb 4096 states) (outside v) h in
     let u = neither (ltb v 1) (ltb 64 v) t.1 in
-    record { few = ltb-false 4096 states t.0; some-v = ltb-false v 1 u.0; most-v = ltb-false 64 v u.1 }
+    record { few = ltb-false 4096 states t.0; some_v = ltb-false v 1 u.0; most_v = ltb-false 64 v u.1 }
 
 has_room : (v frames : ℕ) (n : Lengths) → short v frames n ≡ false → Room v frames n
 has_room v frames n h =
@@ -181,11 +181,11 @@ module _ (s : Stream) (ws : List ℕ) (cs : List Float) (ds : List ℕ) (n : Len
   passed_shape rs e =
       let r = in_range s.v (length ds) passed.2 in
       record {
-        some-v = r.some-v;
-        most-v = r.most-v;
+        some_v = r.some_v;
+        most_v = r.most_v;
         fit = passed.0;
         most-windows = fit-few ws passed.0;
-        most-width = band-narrow ws cs windows;
+        most_width = band-narrow ws cs windows;
         whole = agreed.whole;
         recorded = e ∙ agreed.recorded;
         few = r.few;

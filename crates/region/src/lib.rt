@@ -1,6 +1,7 @@
 // One component's region of the work space: where its means, inverse variances, rows, right side, factors and values lie, one after the other. The regions of
 // several components lie one after the other too.
 #![tactic(auto)]
+
 ghost use Rattle.std.specs.Prelude.{◌≡◌, ◌*◌, leb};
 ghost use Rattle.region.specs.Region.{floats_of, size_of, places_of};
 

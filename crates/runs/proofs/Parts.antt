@@ -250,8 +250,8 @@ module _ (s : Stream) (widths : List ℕ) (coefs records : List Float) (ds : Lis
         q.shaped.fit,
         q.fine,
         le-ltb 4096 (length (part a m ds)) few,
-        le-ltb s.v 1 q.shaped.some-v,
-        le-ltb 64 s.v q.shaped.most-v,
+        le-ltb s.v 1 q.shaped.some_v,
+        le-ltb 64 s.v q.shaped.most_v,
         eq-eqb (length coefs) (total widths) q.shaped.whole,
         eq-eqb (length own) (length (part a m ds) * size) e,
         q.off,
@@ -271,7 +271,7 @@ module _ (s : Stream) (widths : List ℕ) (coefs records : List Float) (ds : Lis
       let z : f.end.state * state_size s widths - f.begin.state * state_size s widths ≡ states_of f * state_size s widths = omega (arith, rw b at (add-mul f.begin.state (states_of f) (state_size s widths))) in
       let w = rw (e, z) at k in
       let n : created_number c ≡ 0 = w.number ∙ own-accepted in
-      (w.numbers ∙ rw (n, own-numbers s widths coefs records ds f.begin.state (states_of f) f.number (run_of f) owned q.shaped.some-v q.off gv switches), w.space ∙ rw (n, ← owned.lasts), w.counts ∙ rw (n, ← owned.lasts))
+      (w.numbers ∙ rw (n, own-numbers s widths coefs records ds f.begin.state (states_of f) f.number (run_of f) owned q.shaped.some_v q.off gv switches), w.space ∙ rw (n, ← owned.lasts), w.counts ∙ rw (n, ← owned.lasts))
 
 -- where its records lie
 pub record Placed (begin end size records : ℕ) : Type 0 where
@@ -283,7 +283,7 @@ pub run-placed : (s : Stream) (widths : List ℕ) (coefs records : List Float) (
     → (size : ℕ) → size ≡ state_size s widths → Placed f.begin.state f.end.state size (length records)
 run-placed s widths coefs records ds f out work marks q size e =
     let n : length records ≡ length ds * size = q.shaped.recorded ∙ rw e in
-    let small : size ≤ 513 = rw e (size_small s.v (length widths) s.masked q.shaped.most-v q.shaped.most-windows) in
+    let small : size ≤ 513 = rw e (size_small s.v (length widths) s.masked q.shaped.most_v q.shaped.most-windows) in
     record {
       forth = mul-le-mul_right size q.found.ends.later;
       within = rw n (mul-le-mul_right size q.found.ends.stands.within);

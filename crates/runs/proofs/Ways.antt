@@ -74,7 +74,7 @@ module _ (v : ℕ) (masked : Bool) (windows records : ℕ) (ds : List ℕ) where
     passed = four-tests (ltb windows 1 || ltb 4 windows) (out_of_range v (length ds)) (eqb records (length ds * record_size v windows masked)) (ltb 65536 (total ds)) z
 
     pub passed-small : (v ≤ 64) × (windows ≤ 4)
-    passed-small = ((in_range v (length ds) passed.1).most-v, ltb-false 4 windows (neither (ltb windows 1) (ltb 4 windows) passed.0).1)
+    passed-small = ((in_range v (length ds) passed.1).most_v, ltb-false 4 windows (neither (ltb windows 1) (ltb 4 windows) passed.0).1)
 
     pub passed-recorded : (u : Voicing) → u.size ≡ record_size v windows masked → Recorded u records ds
     passed-recorded u e = record { each = rw e (le_of_eq (sym (eqb-true records (length ds * record_size v windows masked) passed.2))); frames = ltb-false 65536 (total ds) passed.3 }

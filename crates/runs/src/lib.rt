@@ -1,5 +1,6 @@
 // The voiced runs of a stream, and the trajectory of one of them alone.
 #![tactic(auto)]
+
 ghost use Rattle.std.specs.Prelude.{◌≡◌};
 ghost use Rattle.runs.specs.Promise.{RunsSay, RunSays};
 

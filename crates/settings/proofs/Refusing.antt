@@ -56,9 +56,9 @@ module _ (bytes : List ℕ) where
   not-marked m = rw m
 
   module _ (m : starts_with mark bytes ≡ true) where
-    pub ends-early : length bytes < 5 → 18 ≡ format_refusal bytes
+    pub ends_early : length bytes < 5 → 18 ≡ format_refusal bytes
     unfolding format_refusal
-    ends-early h = rw (m, lt-ltb (length bytes) 5 h)
+    ends_early h = rw (m, lt-ltb (length bytes) 5 h)
 
     module _ (h : 5 ≤ length bytes) (version : ℕ) (v : version ≡ version_of bytes) where
       pub unknown : is_known version ≡ false → 16 ≡ format_refusal bytes

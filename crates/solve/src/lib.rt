@@ -1,5 +1,6 @@
 // Normal equations that lie in regions of the work space, factored and solved in place: a row of each component at a time, so that several go side by side.
 #![tactic(auto)]
+
 ghost use Rattle.std.specs.Prelude.{◌≡◌, ◌+◌, ◌*◌, ◌<◌, ◌≤◌, length};
 ghost use Rattle.std.proofs.lemmas.List.Edits.{sets};
 ghost use Rattle.lists.specs.Build.{build};

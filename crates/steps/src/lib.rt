@@ -1,5 +1,6 @@
 // The step rule: one frame at a time, to the state of least cost, until the states' total is the target.
 #![tactic(auto)]
+
 ghost use Rattle.std.specs.Prelude.{◌≡◌, ◌≤◌, ◌<◌, length};
 ghost use Rattle.lists.specs.Sizes.{most_frames, most_states};
 ghost use Rattle.lists.specs.Totals.{total, gap};

@@ -94,7 +94,7 @@ grouped-is ds flags g c floats e =
     let q = both _ _ p.0 in
     let r = both _ _ q.0 in
     let w = both _ _ q.1 in
-    record { framed = flagged-is ds (length flags) r.0; voiced = eqb-true _ _ r.1; most-v = leb-true _ _ w.0; some = leb-true _ _ w.1; room = leb-true _ _ p.1 }
+    record { framed = flagged-is ds (length flags) r.0; voiced = eqb-true _ _ r.1; most_v = leb-true _ _ w.0; some = leb-true _ _ w.1; room = leb-true _ _ p.1 }
 
 -- ---- `close_up`
 

@@ -44,13 +44,13 @@ use Rattle.voicing.proofs.States.{parts-rows, means, inverses, put-means, put-iv
 pub record Planned (size records : ℕ) (widths ds flags : List ℕ) (p : Plan) (first floats : ℕ) : Type 0 where
   pub framed : Flagged ds (length flags)
   pub voiced : count (mask_in ds flags) ≡ p.n
-  pub most-v : p.v ≤ 64
+  pub most_v : p.v ≤ 64
   pub some : first + p.lanes ≤ p.v
   pub half_at : p.half ≡ p.v * length widths
   pub pairs : p.half + p.half ≤ size
   pub recorded : length ds * size ≤ records
   pub ivars-at : p.ivars ≡ length widths * p.n
-  pub ivars-end : p.ivars + p.ivars ≤ p.size
+  pub ivars_end : p.ivars + p.ivars ≤ p.size
   pub room : p.lanes * p.size ≤ floats
 
 pub planned : {size records floats : ℕ} {widths ds flags : List ℕ} {g : Layout} {c : Group} {p : Plan} → Paired size records (length widths) ds flags g c floats → p ≡ plan_of (length widths) g c
@@ -58,13 +58,13 @@ pub planned : {size records floats : ℕ} {widths ds flags : List ℕ} {g : Layo
 planned {widths = widths} {g = g} {c = c} f e = rw e (record {
   framed = f.lies.framed;
   voiced = f.lies.voiced;
-  most-v = f.lies.most-v;
+  most_v = f.lies.most_v;
   some = f.lies.some;
   half_at = refl;
   pairs = omega (arith, f.pairs, mul_comm c.v (length widths), add-mul (length widths) (length widths) c.v);
   recorded = f.recorded;
   ivars-at = ap (λ (n : ℕ). n * g.n) (sym f.windows);
-  ivars-end = omega arith;
+  ivars_end = omega arith;
   room = f.lies.room;
 })
 
@@ -80,14 +80,14 @@ module _ (size : ℕ) (records : List Float) (widths ds flags : List ℕ) (p : P
   abbrev ivars_all : ℕ → ℕ → List Float
   ivars_all l i = shut_all (reach_before widths i) (reach_after widths i) (lefts 0 (mask_in ds flags)) (rights (mask_in ds flags)) (expand ds (ivars_by_state l i))
 
-  means-long : (l i : ℕ) → length (means_all l i) ≡ total ds
-  means-long l i = expand-length ds _ (column-length size records (pair_number p.v i (first + l)) (length ds))
+  means_long : (l i : ℕ) → length (means_all l i) ≡ total ds
+  means_long l i = expand-length ds _ (column-length size records (pair_number p.v i (first + l)) (length ds))
 
   by_state_long : (l i : ℕ) → length (expand ds (ivars_by_state l i)) ≡ total ds
   by_state_long l i = expand-length ds _ (inverses-length size records (p.v * length widths + pair_number p.v i (first + l)) (length ds))
 
-  ivars-long : (l i : ℕ) → length (ivars_all l i) ≡ total ds
-  ivars-long l i =
+  ivars_long : (l i : ℕ) → length (ivars_all l i) ≡ total ds
+  ivars_long l i =
       let n : length (lefts 0 (mask_in ds flags)) ≡ total ds = lefts-length 0 (mask_in ds flags) ∙ mask-long ds flags in
       shut-length (reach_before widths i) (reach_after widths i) _ _ _ (rights-length (mask_in ds flags) ∙ mask-long ds flags ∙ sym n) (by_state_long l i ∙ sym n) ∙ n
 
@@ -97,8 +97,8 @@ module _ (size : ℕ) (records : List Float) (widths ds flags : List ℕ) (p : P
 
   -- component l's pairs of the first f frames stand at the k voiced ones, and what lies behind the pairs is as it was
   pub record Gathered (f k l : ℕ) (old new : List Float) : Type 0 where
-    pub means-done : (i : ℕ) → i < length widths → ClosedUp f (means_all l i) (part (i * p.n) k new)
-    pub ivars-done : (i : ℕ) → i < length widths → ClosedUp f (ivars_all l i) (part (p.ivars + i * p.n) k new)
+    pub means_done : (i : ℕ) → i < length widths → ClosedUp f (means_all l i) (part (i * p.n) k new)
+    pub ivars_done : (i : ℕ) → i < length widths → ClosedUp f (ivars_all l i) (part (p.ivars + i * p.n) k new)
     pub behind : drop (p.ivars + p.ivars) new ≡ drop (p.ivars + p.ivars) old
 
   pub record Gathering (old work : List Float) (s f k begin end : ℕ) : Type 0 where
@@ -110,7 +110,7 @@ module _ (size : ℕ) (records : List Float) (widths ds flags : List ℕ) (p : P
   gathering old = record {
     passed = passed_none;
     run = in_none;
-    regions = across-none (λ l h. record { means-done = λ i t. refl; ivars-done = λ i t. refl; behind = refl });
+    regions = across-none (λ l h. record { means_done = λ i t. refl; ivars_done = λ i t. refl; behind = refl });
   }
 
   module _ {old work : List Float} {s f k begin end : ℕ} (a : Gathering old work s f k begin end) (t : s < length ds) {d : ℕ} (o : d ≡ get_or ds s 0) where
@@ -128,8 +128,8 @@ module _ (size : ℕ) (records : List Float) (widths ds flags : List ℕ) (p : P
           passed = rw add-zero at (passed-next a.passed t o g z);
           run = in_unvoiced a.run d r (goes_some flags f d g);
           regions = across_as a.regions (λ l h q. record {
-            means-done = λ i j. rw (next (means_all l i) (means-long l i)) (q.means-done i j);
-            ivars-done = λ i j. rw (next (ivars_all l i) (ivars-long l i)) (q.ivars-done i j);
+            means_done = λ i j. rw (next (means_all l i) (means_long l i)) (q.means_done i j);
+            ivars_done = λ i j. rw (next (ivars_all l i) (ivars_long l i)) (q.ivars_done i j);
             behind = q.behind;
           });
         }
@@ -150,12 +150,12 @@ module _ (size : ℕ) (records : List Float) (widths ds flags : List ℕ) (p : P
 
       pub gathering-state : StateFits p (length widths) (length records) (length work) (s * size + first) span
       gathering-state = record {
-        most-v = fit.most-v;
+        most_v = fit.most_v;
         half_at = fit.half_at;
         read = omega (arith, fit.recorded, fit.pairs, fit.some, row_fits size s (length ds) t);
         voiced = omega (arith, fit.voiced, passed-room a.passed t o g (sym (count-all d)));
         ivars-at = fit.ivars-at;
-        ivars-end = fit.ivars-end;
+        ivars_end = fit.ivars_end;
         room = omega (arith, fit.room, a.regions.long);
       }
 
@@ -182,16 +182,16 @@ module _ (size : ℕ) (records : List Float) (widths ds flags : List ℕ) (p : P
       gathering-next new q =
           let state = gathering-state in
           let put-at : (l : ℕ) → l < p.lanes → p.ivars + length widths * p.n ≤ length (region_of p.size l work) = λ l h.
-          rw (region-long p.size p.lanes l work h state.room) (omega (arith, fit.ivars-at, fit.ivars-end)) in
+          rw (region-long p.size p.lanes l work h state.room) (omega (arith, fit.ivars-at, fit.ivars_end)) in
           let wide : length widths * p.n ≤ p.ivars = omega (arith, fit.ivars-at) in
           record {
             passed = passed-next a.passed t o g (sym (count-all d));
             run = in_voiced a.run d onto e;
             regions = across-then a.regions q (λ l h x y. record {
-              means-done = λ i j. rw (y, put-means records p (s * size + first) widths span l state.voiced (length widths) i (region_of p.size l work) j wide (put-at l h))
-                  (closed-next (means_all l i) (part (i * p.n) k (region_of p.size l work)) _ (means-long l i) (means-run l i) (x.means-done i j));
-              ivars-done = λ i j. rw (y, put-ivars records p (s * size + first) widths span l state.voiced (length widths) i (region_of p.size l work) j wide (put-at l h))
-                  (closed-next (ivars_all l i) (part (p.ivars + i * p.n) k (region_of p.size l work)) _ (ivars-long l i) (ivars-run l i) (x.ivars-done i j));
+              means_done = λ i j. rw (y, put-means records p (s * size + first) widths span l state.voiced (length widths) i (region_of p.size l work) j wide (put-at l h))
+                  (closed-next (means_all l i) (part (i * p.n) k (region_of p.size l work)) _ (means_long l i) (means-run l i) (x.means_done i j));
+              ivars_done = λ i j. rw (y, put-ivars records p (s * size + first) widths span l state.voiced (length widths) i (region_of p.size l work) j wide (put-at l h))
+                  (closed-next (ivars_all l i) (part (p.ivars + i * p.n) k (region_of p.size l work)) _ (ivars_long l i) (ivars-run l i) (x.ivars_done i j));
               behind = rw y (put-behind records p (s * size + first) widths span l state.voiced (length widths) (p.ivars + p.ivars) (region_of p.size l work) (omega arith) wide) ∙ x.behind;
             });
           }
@@ -227,6 +227,6 @@ module _ (size : ℕ) (records : List Float) (widths ds flags : List ℕ) (g : L
       (across_as a.regions (λ l t q.
       paired_flat size records c.v (c.first + l) widths (mask_in ds flags) ds g (region_of (size_of g) l old) (region_of (size_of g) l work) fit.windows
       (region-long (size_of g) c.lanes l old t fit.lies.room)
-      (λ i j. sym (append-nil _) ∙ (rw (last, n) at (q.means-done i j)))
-      (λ i j. sym (append-nil _) ∙ (rw (last, n) at (q.ivars-done i j)))
+      (λ i j. sym (append-nil _) ∙ (rw (last, n) at (q.means_done i j)))
+      (λ i j. sym (append-nil _) ∙ (rw (last, n) at (q.ivars_done i j)))
       q.behind))

@@ -26,10 +26,10 @@ module _ {p : Plan} {windows records floats mean : ℕ} {t : Span} (h : StateFit
   window-read = omega (arith, h.read, h.half_at, row_fits p.v i windows b, mul_comm p.v windows)
 
   pub means-room : i * p.n + t.k + p.n ≤ p.size
-  means-room = omega (arith, h.voiced, h.ivars-at, h.ivars-end, row_fits p.n i windows b)
+  means-room = omega (arith, h.voiced, h.ivars-at, h.ivars_end, row_fits p.n i windows b)
 
   pub ivars-room : p.ivars + (i * p.n + t.k) + t.d ≤ p.size
-  ivars-room = omega (arith, h.voiced, h.ivars-at, h.ivars-end, row_fits p.n i windows b)
+  ivars-room = omega (arith, h.voiced, h.ivars-at, h.ivars_end, row_fits p.n i windows b)
 
 -- parts that follow each other, n numbers each
 pub parts-rows : (f : ℕ → List Float) (n o : ℕ) (m : List Float) (w : ℕ) → ((i : ℕ) → i < w → part (o + i * n) n m ≡ f i) → part o (w * n) m ≡ rows f w
@@ -45,8 +45,8 @@ module _ (records : List Float) (p : Plan) (mean : ℕ) (widths : List ℕ) (t :
   abbrev pub inverses : ℕ → List Float
   inverses i = shut_ends (ends_of widths t i) (ivar_of (get_or records (mean + i * p.v + p.half + l) nan))
 
-  means-long : (i : ℕ) → length (means i) ≡ t.d
-  means-long i = length-replicate t.d _
+  means_long : (i : ℕ) → length (means i) ≡ t.d
+  means_long i = length-replicate t.d _
 
   inverses-long : (i : ℕ) → length (inverses i) ≡ t.d
   inverses-long i = ends-length (ends_of widths t i) _
@@ -72,7 +72,7 @@ module _ (records : List Float) (p : Plan) (mean : ℕ) (widths : List ℕ) (t :
   put-behind fits (suc w) o m h g =
       let s = suc-mul w p.n in
       dropped_before (inverses w) _ o (p.ivars + (w * p.n + t.k)) (omega (arith, inverses-long w))
-      ∙ dropped_before (means w) _ o (w * p.n + t.k) (omega (arith, means-long w))
+      ∙ dropped_before (means w) _ o (w * p.n + t.k) (omega (arith, means_long w))
       ∙ put-behind fits w o m (omega arith) (omega arith)
 
   module _ (fits : t.k + t.d ≤ p.n) where
@@ -82,7 +82,7 @@ module _ (records : List Float) (p : Plan) (mean : ℕ) (widths : List ℕ) (t :
     means-kept zero j m h o = refl
     means-kept (suc w) j m h o =
         stored-behind (inverses w) _ (j * p.n) t.k (p.ivars + (w * p.n + t.k)) (omega arith)
-        ∙ stored-before (means w) _ (j * p.n) t.k (w * p.n + t.k) (omega (arith, means-long w, row_fits p.n w j (omega arith)))
+        ∙ stored-before (means w) _ (j * p.n) t.k (w * p.n + t.k) (omega (arith, means_long w, row_fits p.n w j (omega arith)))
         ∙ means-kept w j m (omega arith) o
 
     ivars-kept : (w j : ℕ) (m : List Float) → w ≤ j → w * p.n ≤ p.ivars → part (p.ivars + j * p.n) t.k (put w m) ≡ part (p.ivars + j * p.n) t.k m
@@ -90,7 +90,7 @@ module _ (records : List Float) (p : Plan) (mean : ℕ) (widths : List ℕ) (t :
     ivars-kept zero j m h o = refl
     ivars-kept (suc w) j m h o =
         stored-before (inverses w) _ (p.ivars + j * p.n) t.k (p.ivars + (w * p.n + t.k)) (omega (arith, inverses-long w, row_fits p.n w j (omega arith)))
-        ∙ stored-before (means w) _ (p.ivars + j * p.n) t.k (w * p.n + t.k) (omega (arith, means-long w, suc-mul w p.n))
+        ∙ stored-before (means w) _ (p.ivars + j * p.n) t.k (w * p.n + t.k) (omega (arith, means_long w, suc-mul w p.n))
         ∙ ivars-kept w j m (omega arith) (omega (arith, suc-mul w p.n))
 
     pub put-means : (w i : ℕ) (m : List Float) → i < w → w * p.n ≤ p.ivars → p.ivars + w * p.n ≤ length m → part (i * p.n) (t.k + t.d) (put w m) ≡ part (i * p.n) t.k m ++ means i
@@ -101,7 +101,7 @@ module _ (records : List Float) (p : Plan) (mean : ℕ) (widths : List ℕ) (t :
         stored-behind (inverses w) _ (i * p.n) (t.k + t.d) (p.ivars + (w * p.n + t.k)) (omega (arith, row_fits p.n i (suc w) h))
         ∙ ⊎_elim
         (λ (g : w ≤ i). let e : i ≡ w = omega arith in
-        rw e (stored_at (means w) (put w m) (w * p.n) t.k (w * p.n + t.k) (t.k + t.d) refl (ap (λ (x : ℕ). t.k + x) (means-long w)) (omega (arith, means-long w, put-long w m))
+        rw e (stored_at (means w) (put w m) (w * p.n) t.k (w * p.n + t.k) (t.k + t.d) refl (ap (λ (x : ℕ). t.k + x) (means_long w)) (omega (arith, means_long w, put-long w m))
         ∙ ap (λ (x : List Float). x ++ means w) (means-kept w w m (omega arith) (omega arith))))
         (λ (g : i < w). stored-behind (means w) _ (i * p.n) (t.k + t.d) (w * p.n + t.k) (omega (arith, row_fits p.n i w g)) ∙ put-means w i m g (omega arith) (omega arith))
         (le-or-lt w i)
@@ -115,7 +115,7 @@ module _ (records : List Float) (p : Plan) (mean : ℕ) (widths : List ℕ) (t :
         ⊎_elim
         (λ (g : w ≤ i). let e : i ≡ w = omega arith in
         rw e (stored_at (inverses w) mid (p.ivars + w * p.n) t.k (p.ivars + (w * p.n + t.k)) (t.k + t.d) (omega arith) (ap (λ (x : ℕ). t.k + x) (inverses-long w)) (rw length-sets (omega (arith, inverses-long w, put-long w m)))
-        ∙ ap (λ (x : List Float). x ++ inverses w) (stored-before (means w) (put w m) (p.ivars + w * p.n) t.k (w * p.n + t.k) (omega (arith, means-long w)) ∙ ivars-kept w w m (omega arith) (omega arith))))
+        ∙ ap (λ (x : List Float). x ++ inverses w) (stored-before (means w) (put w m) (p.ivars + w * p.n) t.k (w * p.n + t.k) (omega (arith, means_long w)) ∙ ivars-kept w w m (omega arith) (omega arith))))
         (λ (g : i < w). stored-behind (inverses w) mid (p.ivars + i * p.n) (t.k + t.d) (p.ivars + (w * p.n + t.k)) (omega (arith, row_fits p.n i w g))
-        ∙ stored-before (means w) _ (p.ivars + i * p.n) (t.k + t.d) (w * p.n + t.k) (omega (arith, means-long w)) ∙ put-ivars w i m g (omega arith) (omega arith))
+        ∙ stored-before (means w) _ (p.ivars + i * p.n) (t.k + t.d) (w * p.n + t.k) (omega (arith, means_long w)) ∙ put-ivars w i m g (omega arith) (omega arith))
         (le-or-lt w i)

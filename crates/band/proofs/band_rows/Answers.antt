@@ -47,8 +47,8 @@ write_rows-requires c =
     let g = agree s.widths.now s.coefficients.now (length s.means.now) (length s.ivars.now) (ok (goal.at.write_rows-requires c).After-wide-n).0 in (
       record {
         set = rw c.band_width-w.ensures (set-taps s.widths.now s.coefficients.now g.windows);
-        ivars-long = rw (count (goal.at.write_rows-requires c).After-wide-n) (omega (arith, g.whole, g.same));
-        means-long = rw (count (goal.at.write_rows-requires c).After-wide-n) (omega (arith, g.whole));
+        ivars_long = rw (count (goal.at.write_rows-requires c).After-wide-n) (omega (arith, g.whole, g.same));
+        means_long = rw (count (goal.at.write_rows-requires c).After-wide-n) (omega (arith, g.whole));
       },
       length-take-le _ _ c.if-rows-k.false,
       length-take-le _ _ c.if-right-n.false,

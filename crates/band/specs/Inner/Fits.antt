@@ -17,5 +17,5 @@ pub record Taps (widths : List ℕ) (coefs : List Float) (w : ℕ) : Type 0 wher
 -- and its lists over n frames
 pub record Fits (widths : List ℕ) (coefs : List Float) (n : ℕ) (ivars means : List Float) (w : ℕ) : Type 0 where
   pub set : Taps widths coefs w
-  pub ivars-long : length widths * n ≤ length ivars
-  pub means-long : length widths * n ≤ length means
+  pub ivars_long : length widths * n ≤ length ivars
+  pub means_long : length widths * n ≤ length means

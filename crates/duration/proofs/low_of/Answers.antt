@@ -1,10 +1,8 @@
-use Prim.Native.Nat.{◌-◌, ◌≤◌}
+use Prim.Native.Nat.{◌≤◌}
 use native.Mathlib.Omega.{arith}
-use borrow.Author.Rules.{rules}
 use borrow.Author.Tests.{ltb-false}
-use lib.ListN.{length}
 use Rattle.lists.proofs.Flags.{neither}
-use Rattle.duration.proofs.Shortest.{Looking, looking, looking-next, looked, low-unfit, low-fit}
+use Rattle.duration.proofs.Shortest.{looking, looking-next, looked, low-unfit, low-fit}
 use Rattle.duration.proofs.low_of.Goals as goal
 
 pub loop-i-init : goal.loop-i-init

@@ -1,10 +1,6 @@
-use Prim.Native.Nat.{◌-◌, ◌≤◌}
-use native.Mathlib.Omega.{arith}
-use borrow.Author.Rules.{rules}
-use borrow.Author.Tests.{ltb-false}
+use Prim.Native.Nat.{◌-◌}
 use lib.ListN.{length}
-use Rattle.lists.proofs.Flags.{neither}
-use Rattle.duration.proofs.Shortest.{Looking, looking, looking-next, looked, low-unfit, low-fit}
+use Rattle.duration.proofs.Shortest.{Looking}
 use Rattle.duration.proofs.low_of.Given as goal
 
 abbrev pub invariant-loop-i : goal.invariant-loop-i

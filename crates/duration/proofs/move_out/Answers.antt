@@ -1,7 +1,5 @@
-use Prim.Native.Nat.{◌-◌}
 use native.Mathlib.Omega.{arith}
-use borrow.Author.Rules.{rules}
-use Rattle.duration.proofs.Calls.{Moving, moving, moving-next, moving-done}
+use Rattle.duration.proofs.Calls.{moving, moving-next, moving-done}
 use Rattle.duration.proofs.move_out.Goals as goal
 
 pub loop-i-init : goal.loop-i-init

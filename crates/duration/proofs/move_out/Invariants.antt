@@ -1,7 +1,5 @@
 use Prim.Native.Nat.{◌-◌}
-use native.Mathlib.Omega.{arith}
-use borrow.Author.Rules.{rules}
-use Rattle.duration.proofs.Calls.{Moving, moving, moving-next, moving-done}
+use Rattle.duration.proofs.Calls.{Moving}
 use Rattle.duration.proofs.move_out.Given as goal
 
 abbrev pub invariant-loop-i : goal.invariant-loop-i

@@ -1,6 +1,5 @@
 use native.Mathlib.Nat.{mul-le-mul_left}
 use native.Mathlib.Omega.{arith}
-use borrow.Author.Rules.{rules}
 use Rattle.duration.proofs.Refusals.{labels-over, width-none, width-over, labels-many, labels_differ, labels-agree}
 use Rattle.duration.proofs.refusal_of_labels.Goals as goal
 

@@ -1,5 +1,4 @@
 use mathlib.Core.Path.{sym, ap}
-use borrow.Author.Rules.{rules}
 use lib.Ieee.{binary64, to_bits}
 use Rattle.floats.proofs.Fields.{is-nan, no_nan, not_of}
 use Rattle.floats.proofs.bits_of.Goals as goal

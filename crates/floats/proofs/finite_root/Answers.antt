@@ -7,7 +7,6 @@ use lib.Pow.{pow_mono}
 use lib.Ieee.{binary64, of_bits}
 use Rattle.floats.proofs.Fields.{not_of}
 use Rattle.floats.proofs.Roots.{D-short, q-full, q-short, radicand, root_of_scaled, rooted, rooted-bits, rooted-no_nan}
-use borrow.Author.Rules.{rules}
 use Rattle.floats.specs.Root.{nearest_root}
 use Rattle.floats.specs.Inner.Scaled.{IsScaled}
 use Rattle.floats.proofs.finite_root.Goals as goal

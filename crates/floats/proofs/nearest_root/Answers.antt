@@ -1,6 +1,6 @@
-use Prim.Native.Nat.{◌-◌, ◌^◌, ◌<◌}
+use Prim.Native.Nat.{◌^◌, ◌<◌}
 use native.Mathlib.Omega.{arith}
-use Rattle.floats.proofs.Squares.{Kept, taken, left_out, root-small, rounds-up, rounds-down}
+use Rattle.floats.proofs.Squares.{taken, left_out, root-small, rounds-up, rounds-down}
 use Rattle.floats.proofs.nearest_root.Goals as goal
 use Rattle.floats.proofs.nearest_root.Goals.{At-loop-turn}
 

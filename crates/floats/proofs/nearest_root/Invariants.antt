@@ -1,6 +1,5 @@
-use Prim.Native.Nat.{◌-◌, ◌^◌, ◌<◌}
-use native.Mathlib.Omega.{arith}
-use Rattle.floats.proofs.Squares.{Kept, taken, left_out, root-small, rounds-up, rounds-down}
+use Prim.Native.Nat.{◌-◌}
+use Rattle.floats.proofs.Squares.{Kept}
 use Rattle.floats.proofs.nearest_root.Given as goal
 
 abbrev pub invariant-loop-turn : goal.invariant-loop-turn

@@ -1,7 +1,6 @@
 use mathlib.Core.Path.{sym}
 use lib.Ieee.{div, of_bits}
 use Rattle.floats.proofs.Fields.{nan_pattern, number_pattern, not_of}
-use borrow.Author.Rules.{rules}
 use Rattle.floats.proofs.of_bits.Goals as goal
 
 pub returns-then-bits-gt9218868437227405312 : goal.returns-then-bits-gt9218868437227405312

@@ -1,7 +1,6 @@
 use mathlib.Core.Path.{sym}
 use lib.Ieee.{div, of_bits}
 use Rattle.floats.proofs.Fields.{is-nan}
-use borrow.Author.Rules.{rules}
 use Rattle.floats.proofs.one_nan.Goals as goal
 
 pub returns-then-x : goal.returns-then-x

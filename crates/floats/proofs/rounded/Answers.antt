@@ -3,7 +3,6 @@ use Prim.Native.Nat.{◌/◌, ◌^◌, ◌≤◌}
 use native.Mathlib.Omega.{arith}
 use lib.Dec.{T}
 use lib.Ieee.{Float, binary64, fits, to_bits}
-use borrow.Author.Rules.{rules}
 use Rattle.floats.proofs.Whole.{no_nan-inside, field-from, field-to, at_most, when_inside}
 use Rattle.floats.proofs.rounded.Goals as goal
 use Rattle.floats.proofs.rounded.Goals.{After-within-bits}

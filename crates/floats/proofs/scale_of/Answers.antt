@@ -3,7 +3,6 @@ use Prim.Native.Nat.{ℕ, ◌+◌, ◌/◌, ◌^◌, ◌≤◌, ◌<◌}
 use native.Mathlib.Omega.{arith}
 use lib.Count.{count_leading_zeros}
 use lib.Ieee.{binary64, of_bits}
-use borrow.Author.Rules.{rules}
 use Rattle.floats.specs.Inner.Scaled.{IsScaled}
 use Rattle.floats.proofs.Fields.{digits_are}
 use Rattle.floats.proofs.Roots.{normal_scaled, subnormal_scaled, zeros-many, zeros-few}

@@ -2,7 +2,6 @@ use mathlib.Core.Path.{ap, ◌∙◌}
 use Prim.Native.Nat.{ℕ}
 use lib.Seq.{sets}
 use Rattle.lists.specs.Bytes.{bytes_of}
-use borrow.Author.Rules.{rules}
 use Rattle.floats.proofs.to_bytes.Goals as goal
 
 pub returns : goal.returns

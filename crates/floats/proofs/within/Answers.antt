@@ -1,6 +1,5 @@
 use mathlib.Core.Path.{◌∙◌}
 use lib.Ieee.{binary64, le, of_bits}
-use borrow.Author.Rules.{rules}
 use Rattle.floats.proofs.Strict.{lt-le}
 use Rattle.floats.proofs.Whole.{when_large}
 use Rattle.floats.proofs.within.Goals as goal

@@ -3,10 +3,10 @@ use Rattle.std.specs.Prelude.{List, ℕ, ◌*◌, ◌≤◌, ◌<◌, length, Fl
 use Rattle.lists.specs.Sizes.{most_windows, most_set_taps, slot_count}
 
 pub record Long (widths : List ℕ) (coefficients : List Float) : Type 0 where
-  pub enough-widths : slot_count * most_windows ≤ length widths
-  pub enough-coefficients : slot_count * most_set_taps ≤ length coefficients
+  pub enough_widths : slot_count * most_windows ≤ length widths
+  pub enough_coefficients : slot_count * most_set_taps ≤ length coefficients
 
 pub record Within (s : ℕ) (widths : List ℕ) (coefficients : List Float) : Type 0 where
   pub there : s < slot_count
-  pub enough-widths : slot_count * most_windows ≤ length widths
-  pub enough-coefficients : slot_count * most_set_taps ≤ length coefficients
+  pub enough_widths : slot_count * most_windows ≤ length widths
+  pub enough_coefficients : slot_count * most_set_taps ≤ length coefficients

@@ -1,5 +1,4 @@
 use mathlib.Core.Path.{sym, ◌∙◌}
-use borrow.Author.Rules.{rules}
 use Rattle.job.proofs.Answers.{damaged_so}
 use Rattle.job.proofs.answer.Goals as goal
 

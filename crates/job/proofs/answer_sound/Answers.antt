@@ -1,7 +1,6 @@
 use mathlib.Core.Path.{sym}
 use Prim.Native.Nat.{◌≤◌}
 use native.Mathlib.Omega.{arith}
-use borrow.Author.Rules.{rules}
 use lib.Seq.{length-take-le}
 use Rattle.lists.specs.Sizes.{most_job_states}
 use Rattle.job.proofs.Answers.{few-states, job-refused, job-room, job-few, job-done}

@@ -1,4 +1,3 @@
-use borrow.Author.Rules.{rules}
 use Rattle.job.proofs.Pairs.{ones-read, numbers-read}
 use Rattle.job.proofs.read_shortest.Goals as goal
 

@@ -27,7 +27,7 @@ module _ (c : Else-refused-ne0) where
   shape = let a = c.args in accepted_shape a.stream a.widths.now a.coefficients.now a.records.now a.durations.now a.gv.now a.switches.now a.out.now a.work.now a.marks.now (ok c)
 
 pub report-answer-requires : goal.report-answer-requires
-report-answer-requires c = let s = shape (goal.at.report-answer-requires c).Else-refused-ne0 in record { most-v = s.most-v; most-windows = s.most-windows; recorded = s.recorded; frames = s.frames }
+report-answer-requires c = let s = shape (goal.at.report-answer-requires c).Else-refused-ne0 in record { most_v = s.most_v; most-windows = s.most-windows; recorded = s.recorded; frames = s.frames }
 
 pub write-requires : goal.write-requires
 write-requires c =

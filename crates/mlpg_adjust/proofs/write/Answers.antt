@@ -41,7 +41,7 @@ returns c =
     )
 
 pub overflow_mul-numbers : goal.overflow_mul-numbers
-overflow_mul-numbers c = omega (arith, few (goal.at.overflow_mul-numbers c).After-total_u32-frames, mul-le-mul_left c.total_u32-frames.result c.requires.0.most-v)
+overflow_mul-numbers c = omega (arith, few (goal.at.overflow_mul-numbers c).After-total_u32-frames, mul-le-mul_left c.total_u32-frames.result c.requires.0.most_v)
 
 pub overflow_mul-floats : goal.overflow_mul-floats
 overflow_mul-floats c = omega (arith, few (goal.at.overflow_mul-floats c).After-total_u32-frames)

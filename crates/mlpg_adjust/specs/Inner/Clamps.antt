@@ -34,7 +34,7 @@ clamps_by_states size records threshold ds = record { high = clamped_by_states i
 
 -- what is asked of a stream's records: one a state, and no more pairs and frames than allowed
 pub record Recorded (s : Stream) (widths : List ℕ) (records : List Float) (ds : List ℕ) : Type 0 where
-  pub most-v : s.v ≤ most_components
+  pub most_v : s.v ≤ most_components
   pub most-windows : length widths ≤ most_windows
   pub recorded : length records ≡ length ds * state_size s widths
   pub frames : total ds ≤ most_frames

@@ -24,11 +24,11 @@ use Rattle.mlpg_adjust.specs.declared.group.Plan.{Plan}
 
 -- lists that are accepted: what refusals 1, 3, 4 and 5 leave
 pub record Shaped (s : Stream) (widths : List ℕ) (coefs records : List Float) (ds : List ℕ) : Type 0 where
-  pub some-v : 0 < s.v
-  pub most-v : s.v ≤ most_components
+  pub some_v : 0 < s.v
+  pub most_v : s.v ≤ most_components
   pub fit : widths_fit widths ≡ true
   pub most-windows : length widths ≤ most_windows
-  pub most-width : band_width widths ≤ most_taps
+  pub most_width : band_width widths ≤ most_taps
   pub whole : length coefs ≡ total widths
   pub recorded : length records ≡ length ds * state_size s widths
   pub few : length ds ≤ most_states
@@ -71,12 +71,12 @@ pub record Ready (p : Plan) (widths : List ℕ) (coefs records : List Float) (ds
 -- what the global variance needs of a plan and a group, of so many marks and floats
 pub record Varying (p : Plan) (c : Group) (marks work : ℕ) : Type 0 where
   pub some : 0 < p.layout.w
-  pub few-windows : p.layout.windows ≤ most_windows
+  pub few_windows : p.layout.windows ≤ most_windows
   pub few : p.layout.n ≤ most_frames
   pub frames : p.frames ≤ most_frames
   pub switches : p.frames + p.layout.n ≤ marks
   pub components : c.first + c.lanes ≤ c.v
-  pub most-v : c.v ≤ most_components
+  pub most_v : c.v ≤ most_components
   pub room : c.lanes * region.size_of p.layout ≤ work
 
 -- lane l's region after the global variance: its switches stand behind the marks of all frames, its targets in a list of v means and v variances

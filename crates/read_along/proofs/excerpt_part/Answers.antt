@@ -2,7 +2,6 @@ use mathlib.Core.Path.{◌≡◌, refl, sym, ap, ◌∙◌}
 use mathlib.Core.List.{List}
 use Prim.Native.Nat.{ℕ, ◌+◌, ◌-◌, ◌*◌, ◌≤◌, ◌<◌}
 use native.Mathlib.Omega.{arith}
-use borrow.Author.Rules.{rules}
 use lib.Ieee.{Float}
 use lib.ListN.{length}
 use Rattle.lists.specs.Sizes.{most_frames}
@@ -32,7 +31,7 @@ returns-then-number-ne0 c =
     part-refused a.words.now a.nstate a.durations.now a.trajectory.now a.v a.word _ (number (goal.at.returns-then-number-ne0 c).After-words_refusal-number) c.if-number-ne0.true
 
 abbrev after_words_refusal_number_of_else_number_ne0 : Else-number-ne0 → After-words_refusal-number
-after_words_refusal_number_of_else_number_ne0 c = record { before = c.before.before; type_inv = search rules }
+after_words_refusal_number_of_else_number_ne0 c = record { before = c.before.before; type_inv = record { trajectory = c.type_inv.trajectory; durations = c.type_inv.durations; words = c.type_inv.words } }
 
 -- nothing is refused before the word is looked at
 module _ (c : Else-number-ne0) where
@@ -59,7 +58,7 @@ returns-then-words-i c =
     part_2 (ws (goal.at.returns-then-words-i c).Else-number-ne0) (nstate (goal.at.returns-then-words-i c).Else-number-ne0) (ds (goal.at.returns-then-words-i c).Else-number-ne0) (ts (goal.at.returns-then-words-i c).Else-number-ne0) c.args.v c.args.word (none (goal.at.returns-then-words-i c).Else-number-ne0) (omega (arith, c.if-words-i.true, c.wide-i.ensures))
 
 abbrev else_number_ne0_of_else_words_i : Else-words-i → Else-number-ne0
-else_number_ne0_of_else_words_i c = record { before = c.before.before.before; type_inv = search rules }
+else_number_ne0_of_else_words_i c = record { before = c.before.before.before; type_inv = record { trajectory = c.type_inv.trajectory; durations = c.type_inv.durations; words = c.type_inv.words } }
 
 -- the word is there
 there : (c : Else-words-i) → c.args.word < length (ws (else_number_ne0_of_else_words_i c))
@@ -68,10 +67,10 @@ there c = omega (arith, c.if-words-i.false, c.wide-i.ensures)
 -- its two frames
 module _ (c : After-behind-next) where
   abbrev there-at : Else-words-i
-  there-at = record { before = c.before.before.before; type_inv = search rules }
+  there-at = record { before = c.before.before.before; type_inv = record { trajectory = c.type_inv.trajectory; durations = c.type_inv.durations; words = c.type_inv.words } }
 
   abbrev known_at : Else-number-ne0
-  known_at = record { before = c.before.before.before.before.before; type_inv = search rules }
+  known_at = record { before = c.before.before.before.before.before; type_inv = record { trajectory = c.type_inv.trajectory; durations = c.type_inv.durations; words = c.type_inv.words } }
 
   abbrev word : ℕ
   word = c.args.word

@@ -1,10 +1,6 @@
-use mathlib.Core.Path.{◌≡◌}
-use Prim.Native.Nat.{◌+◌, ◌-◌, ◌≤◌}
-use native.Mathlib.Omega.{arith}
+use Prim.Native.Nat.{◌≤◌}
 use Rattle.region.specs.Inner.Passes.{Across}
 use Rattle.solve.specs.Inner.Standing.{Back}
-use Rattle.solve.proofs.Standings.{back_none, back-next}
-use borrow.Author.Rules.{rules}
 use Rattle.solve.proofs.backward.Given as goal
 
 abbrev pub invariant-loop-t : goal.invariant-loop-t

@@ -5,7 +5,6 @@ use native.Mathlib.Omega.{arith}
 use borrow.Rule.Slice.PartMut.{mid_len}
 use lib.ListN.{set}
 use Rattle.lists.proofs.Rows.{row_fits}
-use borrow.Author.Rules.{rules}
 use Rattle.solve.proofs.backward_row.Goals as goal
 
 pub backward_at-x-requires : goal.backward_at-x-requires

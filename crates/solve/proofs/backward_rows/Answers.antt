@@ -1,10 +1,7 @@
-use mathlib.Core.Path.{◌≡◌}
-use Prim.Native.Nat.{◌+◌, ◌-◌, ◌≤◌}
+use Prim.Native.Nat.{◌+◌, ◌≤◌}
 use native.Mathlib.Omega.{arith}
 use lib.ListN.{length}
-use Rattle.region.proofs.Across.{Passing, passing-none, passing-fits, passing-long, passing-next, passing-done}
-use Rattle.solve.specs.Inner.Standing.{value_back}
-use borrow.Author.Rules.{rules}
+use Rattle.region.proofs.Across.{passing-none, passing-fits, passing-long, passing-next, passing-done}
 use Rattle.solve.proofs.backward_rows.Goals as goal
 use Rattle.solve.proofs.backward_rows.Goals.{In-loop-l}
 

@@ -1,11 +1,6 @@
-use mathlib.Core.Path.{◌≡◌}
 use Prim.Native.Nat.{◌-◌, ◌≤◌}
-use native.Mathlib.Omega.{arith}
 use Rattle.region.specs.Inner.Passes.{Across}
-use Rattle.region.proofs.Across.{across-none}
 use Rattle.solve.specs.Inner.Standing.{Forth}
-use Rattle.solve.proofs.Standings.{stood_none, forth-next}
-use borrow.Author.Rules.{rules}
 use Rattle.solve.proofs.eliminate.Given as goal
 
 abbrev pub invariant-loop-t : goal.invariant-loop-t

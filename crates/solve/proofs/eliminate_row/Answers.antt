@@ -4,7 +4,6 @@ use native.Mathlib.Omega.{arith}
 use borrow.Rule.Slice.PartMut.{mid_len}
 use lib.ListN.{length-set}
 use Rattle.lists.proofs.Rows.{row_fits}
-use borrow.Author.Rules.{rules}
 use Rattle.solve.proofs.eliminate_row.Goals as goal
 use Rattle.solve.proofs.eliminate_row.Goals.{Start}
 

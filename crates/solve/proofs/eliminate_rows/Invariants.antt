@@ -1,10 +1,7 @@
 use mathlib.Core.Path.{◌≡◌}
-use Prim.Native.Nat.{◌+◌, ◌-◌, ◌≤◌}
-use native.Mathlib.Omega.{arith}
-use lib.ListN.{length}
-use Rattle.region.proofs.Across.{Passing, passing-none, passing-fits, passing-long, passing-next, passing-done}
+use Prim.Native.Nat.{◌-◌}
+use Rattle.region.proofs.Across.{Passing}
 use Rattle.solve.specs.Inner.Standing.{row_done}
-use borrow.Author.Rules.{rules}
 use Rattle.solve.proofs.eliminate_rows.Given as goal
 
 abbrev pub invariant-loop-l : goal.invariant-loop-l

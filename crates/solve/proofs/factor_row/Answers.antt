@@ -1,10 +1,9 @@
 use mathlib.Core.Path.{◌≡◌}
-use Prim.Native.Nat.{◌+◌, ◌-◌, ◌*◌}
+use Prim.Native.Nat.{◌+◌, ◌*◌}
 use native.Mathlib.Omega.{arith}
 use borrow.Rule.Slice.PartMut.{mid_len}
 use lib.ListN.{length-set}
-use Rattle.solve.proofs.Factors.{Filling, filling-first, filling-next}
-use borrow.Author.Rules.{rules}
+use Rattle.solve.proofs.Factors.{filling-first, filling-next}
 use Rattle.solve.proofs.factor_row.Goals as goal
 
 pub reduced_at-x-requires : goal.reduced_at-x-requires

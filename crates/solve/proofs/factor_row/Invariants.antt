@@ -1,10 +1,5 @@
-use mathlib.Core.Path.{◌≡◌}
-use Prim.Native.Nat.{◌+◌, ◌-◌, ◌*◌}
-use native.Mathlib.Omega.{arith}
-use borrow.Rule.Slice.PartMut.{mid_len}
-use lib.ListN.{length-set}
-use Rattle.solve.proofs.Factors.{Filling, filling-first, filling-next}
-use borrow.Author.Rules.{rules}
+use Prim.Native.Nat.{◌-◌}
+use Rattle.solve.proofs.Factors.{Filling}
 use Rattle.solve.proofs.factor_row.Given as goal
 
 abbrev pub invariant-loop-i : goal.invariant-loop-i

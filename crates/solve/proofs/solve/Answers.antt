@@ -1,6 +1,5 @@
 use native.Mathlib.Omega.{arith}
 use Rattle.solve.proofs.Solved.{solve_rowless, solve_short, solve_ready, solve_all}
-use borrow.Author.Rules.{rules}
 use Rattle.std.proofs.Common.{ap}
 use Rattle.std.proofs.Common.{not}
 use Rattle.solve.proofs.solve.Goals as goal

@@ -2,7 +2,6 @@ use mathlib.Core.Path.{◌≡◌, sym, ap, ◌∙◌}
 use mathlib.Core.List.{List}
 use Prim.Native.Nat.{ℕ, ◌+◌, ◌*◌, ◌≤◌}
 use native.Mathlib.Omega.{arith}
-use borrow.Author.Rules.{rules}
 use lib.ListN.{length}
 use lib.Seq.{length-take-le}
 use Rattle.lists.specs.Totals.{total}
@@ -50,7 +49,7 @@ frames_of-first-requires c =
     omega (arith, l, c.least-at.ensures, few (goal.at.frames_of-first-requires c).Else-sizes-ne0)
 
 abbrev else_sizes_ne0_of_after_frames_of : After-frames_of → Else-sizes-ne0
-else_sizes_ne0_of_after_frames_of c = record { before = c.before.before.before.before.before; type_inv = search rules }
+else_sizes_ne0_of_after_frames_of c = record { before = c.before.before.before.before.before; type_inv = record { durations = c.type_inv.durations; trajectory = c.type_inv.trajectory } }
 
 -- once the durations are summed
 frames : (c : After-frames_of) → c.frames_of-first.result + c.frames_of.result ≡ total (ds (else_sizes_ne0_of_after_frames_of c))
@@ -62,10 +61,10 @@ shape_refusal-shape-requires c =
     omega (arith, p)
 
 abbrev else_sizes_ne0_of_after_shape_refusal_shape : After-shape_refusal-shape → Else-sizes-ne0
-else_sizes_ne0_of_after_shape_refusal_shape c = record { before = c.before.before.before.before.before.before; type_inv = search rules }
+else_sizes_ne0_of_after_shape_refusal_shape c = record { before = c.before.before.before.before.before.before; type_inv = record { durations = c.type_inv.durations; trajectory = c.type_inv.trajectory } }
 
 abbrev after_frames_of_of_after_shape_refusal_shape : After-shape_refusal-shape → After-frames_of
-after_frames_of_of_after_shape_refusal_shape c = record { before = c.before.before; type_inv = search rules }
+after_frames_of_of_after_shape_refusal_shape c = record { before = c.before.before; type_inv = record { durations = c.type_inv.durations; trajectory = c.type_inv.trajectory } }
 
 -- the number of the trajectory with its durations
 shape : (c : After-shape_refusal-shape) → c.shape_refusal-shape.result ≡ trajectory_refusal (count (else_sizes_ne0_of_after_shape_refusal_shape c)) (ds (else_sizes_ne0_of_after_shape_refusal_shape c)) (v (else_sizes_ne0_of_after_shape_refusal_shape c))
@@ -76,10 +75,10 @@ pub returns-then-shape-ne0 : goal.returns-then-shape-ne0
 returns-then-shape-ne0 c = span-refused_as _ _ _ _ _ _ (shape (goal.at.returns-then-shape-ne0 c).After-shape_refusal-shape) c.if-shape-ne0.true
 
 abbrev else_sizes_ne0_of_else_shape_ne0 : Else-shape-ne0 → Else-sizes-ne0
-else_sizes_ne0_of_else_shape_ne0 c = record { before = c.before.before.before.before.before.before.before; type_inv = search rules }
+else_sizes_ne0_of_else_shape_ne0 c = record { before = c.before.before.before.before.before.before.before; type_inv = record { durations = c.type_inv.durations; trajectory = c.type_inv.trajectory } }
 
 abbrev after_shape_refusal_shape_of_else_shape_ne0 : Else-shape-ne0 → After-shape_refusal-shape
-after_shape_refusal_shape_of_else_shape_ne0 c = record { before = c.before.before; type_inv = search rules }
+after_shape_refusal_shape_of_else_shape_ne0 c = record { before = c.before.before; type_inv = record { durations = c.type_inv.durations; trajectory = c.type_inv.trajectory } }
 
 -- what is known once 4 and 5 are excluded
 accepted-none : (c : Else-shape-ne0) → trajectory_refusal (count (else_sizes_ne0_of_else_shape_ne0 c)) (ds (else_sizes_ne0_of_else_shape_ne0 c)) (v (else_sizes_ne0_of_else_shape_ne0 c)) ≡ 0
@@ -100,7 +99,7 @@ pub overflow_mul-result : goal.overflow_mul-result
 overflow_mul-result c =
     let l = c.before.before.before in
     let e = l.before.before in
-    let p = product-fits 4294967295 c.long.result l.long-width.result (omega (arith, c.long.ensures, c.shared_slice_known-3-1.given e.least-at.result)) (omega (arith, l.long-width.ensures, narrow (goal.at.overflow_mul-result c).Else-sizes-ne0)) in
+    let p = product-fits 4294967295 c.long.result l.long-width.result (omega (arith, c.long.ensures, c.type_inv.durations e.least-at.result)) (omega (arith, l.long-width.ensures, narrow (goal.at.overflow_mul-result c).Else-sizes-ne0)) in
     omega (arith, p)
 
 pub returns : goal.returns

@@ -1,8 +1,6 @@
-use Prim.Native.Nat.{◌-◌}
 use native.Mathlib.Omega.{arith}
-use borrow.Author.Rules.{rules}
 use lib.ListN.{length}
-use Rattle.steps.proofs.Alone.{Passed, passed_none, passed-short, passed-long, passed-all}
+use Rattle.steps.proofs.Alone.{passed_none, passed-short, passed-long, passed-all}
 use Rattle.steps.proofs.lone.Goals as goal
 
 pub loop-i-init : goal.loop-i-init

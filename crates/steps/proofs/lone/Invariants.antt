@@ -1,8 +1,6 @@
 use Prim.Native.Nat.{◌-◌}
-use native.Mathlib.Omega.{arith}
-use borrow.Author.Rules.{rules}
 use lib.ListN.{length}
-use Rattle.steps.proofs.Alone.{Passed, passed_none, passed-short, passed-long, passed-all}
+use Rattle.steps.proofs.Alone.{Passed}
 use Rattle.steps.proofs.lone.Given as goal
 
 abbrev pub invariant-loop-i : goal.invariant-loop-i

@@ -1,4 +1,3 @@
-use borrow.Author.Rules.{rules}
 use Rattle.steps.specs.Steps.{states}
 use Rattle.steps.proofs.Alone.{alone_has, alone-settled}
 use Rattle.steps.proofs.settle_from.Goals as goal

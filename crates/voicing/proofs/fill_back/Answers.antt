@@ -25,7 +25,7 @@ module _ (c : After-frames_in) where
   numbers = ap (λ (n : ℕ). n * c.args.c.v) c.frames_in.ensures
 
   few : Grouped c.args.durations.now c.args.flags.now c.args.g c.args.c (length c.args.work.now) → c.frames_in.result * c.args.c.v ≤ 65536 * 64
-  few f = let h : c.frames_in.result ≤ 65536 = omega (arith, c.frames_in.ensures, f.framed.frames) in mul-le-mul h f.most-v
+  few f = let h : c.frames_in.result ≤ 65536 = omega (arith, c.frames_in.ensures, f.framed.frames) in mul-le-mul h f.most_v
 
 pub returns-then-not-grouped : goal.returns-then-not-grouped
 returns-then-not-grouped c = let a = c.args in fill-shut a.none _ _ a.g a.c a.work.now _ (sym c.grouped.ensures ∙ not-true _ (ap not c.if-not-grouped.true))

@@ -39,7 +39,7 @@ pub record Switched (ds : List ℕ) (states : ℕ) (flags : List ℕ) : Type 0 w
 pub record Grouped (ds flags : List ℕ) (g : Layout) (c : Group) (floats : ℕ) : Type 0 where
   pub framed : Flagged ds (length flags)
   pub voiced : count (mask_in ds flags) ≡ g.n
-  pub most-v : c.v ≤ 64
+  pub most_v : c.v ≤ 64
   pub some : c.first + c.lanes ≤ c.v
   pub room : c.lanes * size_of g ≤ floats
 

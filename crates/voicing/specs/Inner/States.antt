@@ -42,10 +42,10 @@ module _ (records : List Float) (p : Plan) (mean : ℕ) (widths : List ℕ) (t :
 
 -- the pairs of a state's means from number `mean` on are there, and room for them
 pub record StateFits (p : Plan) (windows records floats mean : ℕ) (t : Span) : Type 0 where
-  pub most-v : p.v ≤ 64
+  pub most_v : p.v ≤ 64
   pub half_at : p.half ≡ p.v * windows
   pub read : mean + p.lanes + p.half + p.half ≤ records + p.v
   pub voiced : t.k + t.d ≤ p.n
   pub ivars-at : p.ivars ≡ windows * p.n
-  pub ivars-end : p.ivars + p.ivars ≤ p.size
+  pub ivars_end : p.ivars + p.ivars ≤ p.size
   pub room : p.lanes * p.size ≤ floats

@@ -1,10 +1,9 @@
 use mathlib.Core.Path.{◌≡◌, ◌∙◌}
-use Prim.Native.Nat.{◌-◌}
 use native.Mathlib.Omega.{arith}
 use borrow.Author.Rules.{rules}
 use lib.ListN.{length}
 use Rattle.steps.specs.Steps.{states}
-use Rattle.duration.proofs.Along.{Along, along, next_in, along_open, group-lies, group-some, Turn, turn-refused, turn-frames, turn-changes, turn-grown, lies, all-passed, along-done}
+use Rattle.duration.proofs.Along.{along, next_in, along_open, group-lies, group-some, Turn, turn-refused, turn-frames, turn-changes, turn-grown, lies, all-passed, along-done}
 use Rattle.duration.proofs.align.fit_along.Goals as goal
 use Rattle.duration.proofs.align.fit_along.Goals.{After-close_group-group, After-close_tail, At-loop-i, Start}
 

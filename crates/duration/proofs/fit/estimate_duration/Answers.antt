@@ -1,9 +1,5 @@
-use Prim.Native.Nat.{◌-◌}
 use native.Mathlib.Omega.{arith}
-use borrow.Author.Rules.{rules}
-use lib.ListN.{length}
-use Rattle.steps.specs.Steps.{states}
-use Rattle.duration.proofs.Estimates.{Estimating, estimating, estimating-next, estimated}
+use Rattle.duration.proofs.Estimates.{estimating, estimating-next, estimated}
 use Rattle.duration.proofs.fit.estimate_duration.Goals as goal
 use Rattle.duration.proofs.fit.estimate_duration.Goals.{At-loop-i, Start}
 

@@ -1,9 +1,7 @@
 use Prim.Native.Nat.{◌-◌}
-use native.Mathlib.Omega.{arith}
-use borrow.Author.Rules.{rules}
 use lib.ListN.{length}
 use Rattle.steps.specs.Steps.{states}
-use Rattle.duration.proofs.Estimates.{Estimating, estimating, estimating-next, estimated}
+use Rattle.duration.proofs.Estimates.{Estimating}
 use Rattle.duration.proofs.fit.estimate_duration.Given as goal
 
 abbrev pub invariant-loop-i : goal.invariant-loop-i

@@ -1,5 +1,4 @@
 use mathlib.Core.Path.{ap}
-use borrow.Author.Rules.{rules}
 use lib.Ieee.{binary64, sub, div}
 use Rattle.model.specs.declared.mean_vari.MeanVari.{MeanVari}
 use Rattle.floats.specs.Numbers.{number}

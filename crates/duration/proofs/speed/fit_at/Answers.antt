@@ -1,8 +1,6 @@
 use mathlib.Core.Path.{◌≡◌, ap, ◌∙◌, subst}
-use mathlib.Core.List.{List}
 use Prim.Native.Nat.{ℕ, ◌≤◌, ◌<◌}
 use native.Mathlib.Omega.{arith}
-use borrow.Author.Rules.{rules}
 use lib.Ieee.{binary64, div}
 use Rattle.lists.specs.Sizes.{most_frames}
 use Rattle.lists.specs.Totals.{total}

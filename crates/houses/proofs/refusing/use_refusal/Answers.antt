@@ -1,6 +1,5 @@
 use mathlib.Core.Path.{◌≡◌}
 use native.Mathlib.Omega.{arith}
-use borrow.Author.Rules.{rules}
 use Rattle.houses.specs.Slots.{table, slot_at, is_empty}
 use Rattle.houses.proofs.Reading.{empty_as}
 use Rattle.houses.proofs.Ways.{use_another, used-there, use_empty, use_short, use_narrow, use_none}
@@ -20,7 +19,7 @@ is_empty-empty-requires c =
 -- what was seen of the slot
 module _ (c : After-is_empty-empty) where
   abbrev o : After-may_use
-  o = record { before = c.before.before.before.before; type_inv = search rules }
+  o = record { before = c.before.before.before.before; type_inv = record { set_widths = c.type_inv.set_widths; coefficients = c.type_inv.coefficients; widths = c.type_inv.widths } }
 
   empty : c.is_empty-empty.result ≡ is_empty (slot_at (table c.args.widths.now c.args.coefficients.now) c.args.slot)
   empty = empty_as _ _ _ _ _ c.wide.ensures c.is_empty-empty.ensures

@@ -8,8 +8,8 @@ put_row-requires c =
     let p = c.requires in (
       record {
         there = c.loop-slot-test.true;
-        enough-widths = omega (arith, p.0.enough-widths, still-widths _ _ _ l.invariant);
-        enough-coefficients = omega (arith, p.0.enough-coefficients, still-coefficients _ _ _ l.invariant);
+        enough_widths = omega (arith, p.0.enough_widths, still-widths _ _ _ l.invariant);
+        enough_coefficients = omega (arith, p.0.enough_coefficients, still-coefficients _ _ _ l.invariant);
       },
       p.1,
     )
@@ -19,7 +19,7 @@ loop-slot-preserved c =
     start-next _ _ _ c.loop-slot.invariant _ _ c.loop-slot-test.true c.put_row.ensures
 
 pub returns : goal.returns
-returns c = let p = c.requires.0 in start-done _ _ _ c.loop-slot.invariant p.enough-widths p.enough-coefficients c.loop-slot-test.false
+returns c = let p = c.requires.0 in start-done _ _ _ c.loop-slot.invariant p.enough_widths p.enough_coefficients c.loop-slot-test.false
 
 pub loop-slot-init : goal.loop-slot-init
 loop-slot-init c = starting _ _ _ _ _

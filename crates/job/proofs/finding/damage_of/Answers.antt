@@ -1,5 +1,4 @@
 use mathlib.Core.Path.{◌≡◌, sym, ◌∙◌}
-use borrow.Author.Rules.{rules}
 use Rattle.job.proofs.Damages.{heading_found, heading-is, heading_wrong, heading-sound, heading-few}
 use Rattle.job.proofs.finding.damage_of.Goals as goal
 use Rattle.job.proofs.finding.damage_of.Goals.{After-or-heading}

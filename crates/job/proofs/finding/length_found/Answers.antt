@@ -1,6 +1,5 @@
 use Prim.Native.Nat.{◌*◌, ◌≤◌}
 use native.Mathlib.Omega.{arith}
-use borrow.Author.Rules.{rules}
 use Rattle.job.proofs.Damages.{state-most, length-right, length_wrong}
 use Rattle.job.proofs.Pairs.{step_fits}
 use Rattle.job.proofs.finding.length_found.Goals as goal

@@ -1,4 +1,3 @@
-use borrow.Author.Rules.{rules}
 use Rattle.job.proofs.Damages.{mark_wrong, mark-sound}
 use Rattle.job.proofs.finding.mark_found.Goals as goal
 

@@ -1,4 +1,3 @@
-use borrow.Author.Rules.{rules}
 use Rattle.job.proofs.Damages.{word_wrong, word_sound}
 use Rattle.job.proofs.finding.word_found.Goals as goal
 

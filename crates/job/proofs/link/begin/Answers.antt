@@ -1,5 +1,4 @@
 use mathlib.Core.Path.{sym, ◌∙◌}
-use borrow.Author.Rules.{rules}
 use Rattle.job.proofs.LinkWays.{begin-refused, begin-taken}
 use Rattle.job.proofs.link.begin.Goals as goal
 

@@ -1,5 +1,4 @@
 use native.Mathlib.Omega.{arith}
-use borrow.Author.Rules.{rules}
 use Rattle.job.proofs.Memory.{open_stage}
 use Rattle.job.proofs.link.came_in.Goals as goal
 

@@ -1,4 +1,3 @@
-use borrow.Author.Rules.{rules}
 use Rattle.job.proofs.LinkWays.{end_refused}
 use Rattle.job.proofs.link.end.Goals as goal
 

@@ -1,5 +1,4 @@
 use native.Mathlib.Omega.{arith}
-use borrow.Author.Rules.{rules}
 use Rattle.job.proofs.LinkWays.{came-room, came-within, end-taken}
 use Rattle.job.proofs.link.finish.Goals as goal
 

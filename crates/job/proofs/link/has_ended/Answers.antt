@@ -1,4 +1,3 @@
-use borrow.Author.Rules.{rules}
 use Rattle.job.specs.Link.{has_ended}
 use Rattle.job.proofs.link.has_ended.Goals as goal
 

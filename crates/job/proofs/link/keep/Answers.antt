@@ -1,5 +1,4 @@
 use native.Mathlib.Omega.{arith}
-use borrow.Author.Rules.{rules}
 use Rattle.job.proofs.LinkWays.{came-room, came-within, part-taken}
 use Rattle.job.proofs.link.keep.Goals as goal
 

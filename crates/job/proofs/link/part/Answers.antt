@@ -1,5 +1,4 @@
 use native.Mathlib.Omega.{arith}
-use borrow.Author.Rules.{rules}
 use Rattle.job.proofs.LinkWays.{part-refused}
 use Rattle.job.proofs.link.part.Goals as goal
 

@@ -1,5 +1,4 @@
 use mathlib.Core.Path.{sym, ◌∙◌}
-use borrow.Author.Rules.{rules}
 use Rattle.job.proofs.Memory.{ended_11}
 use Rattle.job.proofs.LinkWays.{as_begin}
 use Rattle.job.proofs.link.refusal.Goals as goal

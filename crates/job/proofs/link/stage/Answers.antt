@@ -1,4 +1,3 @@
-use borrow.Author.Rules.{rules}
 use Rattle.job.proofs.link.stage.Goals as goal
 
 pub returns-then-under_way : goal.returns-then-under_way

@@ -14,7 +14,7 @@ use Rattle.mlpg_adjust.proofs.counting.report.Goals as goal
 use Rattle.mlpg_adjust.proofs.counting.report.Goals.{After-of_states-clamps, Start}
 
 small : (c : Start) → state_size c.args.stream c.args.widths.now ≤ 513
-small c = size_small c.args.stream.v (length c.args.widths.now) c.args.stream.masked c.requires.most-v c.requires.most-windows
+small c = size_small c.args.stream.v (length c.args.widths.now) c.args.stream.masked c.requires.most_v c.requires.most-windows
 
 pub of_states-clamps-requires : goal.of_states-clamps-requires
 of_states-clamps-requires c =
@@ -38,4 +38,4 @@ returns c =
     rw (by_states is_high _ _ _ _ _ _ c.requires.recorded, by_states is_low _ _ _ _ _ _ c.requires.recorded) (ap (λ (x : Clamps). Done x.high x.low) (said (goal.at.returns c).After-of_states-clamps))
 
 pub record_size-requires : goal.record_size-requires
-record_size-requires c = (c.requires.most-v, c.requires.most-windows)
+record_size-requires c = (c.requires.most_v, c.requires.most-windows)

@@ -56,7 +56,7 @@ pub loop-first-init : goal.loop-first-init
 loop-first-init c = (search rules, refl, refl, columned_none _ _ _)
 
 pub overflow_add-first : goal.overflow_add-first
-overflow_add-first c = omega (arith, within (goal.at.overflow_add-first c).After-least-some, c.wide-v.ensures, c.requires.0.shaped.most-v)
+overflow_add-first c = omega (arith, within (goal.at.overflow_add-first c).After-least-some, c.wide-v.ensures, c.requires.0.shaped.most_v)
 
 pub shape_of-work : goal.shape_of-work
 shape_of-work c = c.loop-first.invariant.1

@@ -24,7 +24,7 @@ module _ (c : After-total_u32-frames) where
   count = frames_are _ _ c.total_u32-frames.ensures range.0.few
 
 pub is_short-requires : goal.is_short-requires
-is_short-requires c = ((range (goal.at.is_short-requires c).After-total_u32-frames).0.most-v, rw (count (goal.at.is_short-requires c).After-total_u32-frames) (range (goal.at.is_short-requires c).After-total_u32-frames).1)
+is_short-requires c = ((range (goal.at.is_short-requires c).After-total_u32-frames).0.most_v, rw (count (goal.at.is_short-requires c).After-total_u32-frames) (range (goal.at.is_short-requires c).After-total_u32-frames).1)
 
 abbrev after_total_u32_frames_of_after_is_short : After-is_short → After-total_u32-frames
 after_total_u32_frames_of_after_is_short c = record { before = c.before.before; type_inv = search rules }

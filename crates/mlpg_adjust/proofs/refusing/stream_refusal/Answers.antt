@@ -19,7 +19,7 @@ returns-then-is_out_of_range c = refused_3 _ _ _ _ _ _ c.widths_fit.ensures (ap 
 pub lists_disagree-requires : goal.lists_disagree-requires
 lists_disagree-requires c =
     let r = in_range _ _ (sym c.is_out_of_range.ensures ∙ c.if-is_out_of_range.false) in
-    (r.most-v, fit-few _ (sym c.widths_fit.ensures ∙ not-false _ (ap not c.if-not-widths_fit.false)), r.few)
+    (r.most_v, fit-few _ (sym c.widths_fit.ensures ∙ not-false _ (ap not c.if-not-widths_fit.false)), r.few)
 
 pub returns-then-lists_disagree : goal.returns-then-lists_disagree
 returns-then-lists_disagree c = refused_4 _ _ _ _ _ _ c.widths_fit.ensures (ap not c.if-not-widths_fit.false) _ c.all_finite.ensures (ap not c.if-not-all_finite.false) _ c.is_out_of_range.ensures c.if-is_out_of_range.false _ c.lists_disagree.ensures c.if-lists_disagree.true

@@ -1,11 +1,8 @@
 use mathlib.Core.Path.{◌≡◌}
 use Prim.Native.Nat.{◌-◌, ◌≤◌}
-use native.Mathlib.Omega.{arith}
-use borrow.Author.Rules.{rules}
 use lib.ListN.{drop}
 use Rattle.lists.specs.Build.{fold_from}
 use Rattle.model.specs.Pair.{plus, pairs_of, sum_of}
-use Rattle.model.proofs.Pairs.{sum-next, sum_done}
 use Rattle.model.proofs.mean_vari.sum.Given as goal
 
 abbrev pub invariant-loop-i : goal.invariant-loop-i

@@ -16,7 +16,7 @@ marked c = sym c.starts_with.ensures ∙ not-false _ (ap not c.if-not-starts_wit
 
 small : (c : After-count_of-count) → c.count_of-count.result < 4294967296
 small c =
-    let b : Bytes c.args.bytes.now = λ j. omega (arith, c.shared_slice_known-1.given j) in
+    let b : Bytes c.args.bytes.now = λ j. omega (arith, c.type_inv.bytes j) in
     number-below c.args.bytes.now b _ 5 c.count_of-count.ensures
 
 pub returns-then-not-starts_with : goal.returns-then-not-starts_with

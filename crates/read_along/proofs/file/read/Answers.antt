@@ -24,7 +24,7 @@ module _ (c : After-count_of-count) where
 
   small : c.count_of-count.result < 4294967296
   small =
-      let b : Bytes bytes = λ j. omega (arith, c.shared_slice_known-1.given j) in
+      let b : Bytes bytes = λ j. omega (arith, c.type_inv.bytes j) in
       number-below bytes b _ 5 c.count_of-count.ensures
 
   long : length (all_ends (spans_in bytes)) ≡ 2 * c.count_of-count.result

@@ -13,7 +13,7 @@ module _ (c : In-loop-i) where
   bytes = c.args.bytes.now
 
   each : Bytes bytes
-  each j = omega (arith, c.shared_slice_known-1.given j)
+  each j = omega (arith, c.type_inv.bytes j)
 
   more : c.loop-i.i < count_of bytes
   more = omega (arith, c.loop-i-test.true, c.requires.0)

@@ -13,7 +13,7 @@ module _ (c : In-loop-i) where
 
   small : c.loop-i.i < 4294967296
   small =
-      let b : Bytes c.args.bytes.now = λ j. omega (arith, c.shared_slice_known-1.given j) in
+      let b : Bytes c.args.bytes.now = λ j. omega (arith, c.type_inv.bytes j) in
       omega (arith, c.loop-i-test.true, number-below c.args.bytes.now b _ 5 c.requires)
 
 pub returns-then-first-end : goal.returns-then-first-end

@@ -1,7 +1,6 @@
 use mathlib.Core.Path.{◌∙◌, ap}
 use Prim.Native.Nat.{◌*◌}
 use lib.Dec.{leb}
-use borrow.Author.Rules.{rules}
 use Rattle.region.specs.declared.Places.{Places}
 use Rattle.region.proofs.Layout.fits.Goals as goal
 

@@ -1,6 +1,5 @@
 use Prim.Native.Nat.{◌*◌, ◌≤◌}
 use native.Mathlib.Omega.{arith}
-use borrow.Author.Rules.{rules}
 use Rattle.region.proofs.Laying.{byte_times, times_byte}
 use Rattle.region.proofs.Layout.places.Goals as goal
 use Rattle.region.proofs.Layout.places.Goals.{After-small}

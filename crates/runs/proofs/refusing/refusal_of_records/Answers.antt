@@ -26,13 +26,13 @@ module _ (c : Else-durations-v) where
   few = (ltb-false 4 c.args.windows (neither (ltb c.args.windows 1) (ltb 4 c.args.windows) c.if-windows.false).1, in_range c.args.v (length c.args.durations.now) c.if-durations-v.false)
 
 pub record_size-requires : goal.record_size-requires
-record_size-requires c = ((few (goal.at.record_size-requires c).Else-durations-v).1.most-v, (few (goal.at.record_size-requires c).Else-durations-v).0)
+record_size-requires c = ((few (goal.at.record_size-requires c).Else-durations-v).1.most_v, (few (goal.at.record_size-requires c).Else-durations-v).0)
 
 pub overflow_mul-durations : goal.overflow_mul-durations
 overflow_mul-durations c =
     let a = c.args in
     let f = few (goal.at.overflow_mul-durations c).Else-durations-v in
-    let m : c.record_size.result ≤ 513 = rw c.record_size.ensures (size_small a.v a.windows a.masked f.1.most-v f.0) in
+    let m : c.record_size.result ≤ 513 = rw c.record_size.ensures (size_small a.v a.windows a.masked f.1.most_v f.0) in
     omega (arith, f.1.few, mul-le-mul_left (length a.durations.now) m)
 
 pub returns-then-records-durations : goal.returns-then-records-durations

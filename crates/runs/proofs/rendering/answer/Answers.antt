@@ -17,7 +17,7 @@ pub record_size-requires : goal.record_size-requires
 record_size-requires c =
     let a = c.args in
     let s = shaped a.stream a.widths.now a.coefficients.now a.records.now a.durations.now a.gv.now a.switches.now c.requires in
-    (s.most-v, s.most-windows)
+    (s.most_v, s.most-windows)
 
 pub run_at-found-requires : goal.run_at-found-requires
 run_at-found-requires c =

@@ -2,7 +2,6 @@ use mathlib.Core.Path.{◌≡◌, sym, ap, ◌∙◌}
 use mathlib.Core.List.{List}
 use Prim.Native.Nat.{ℕ, ◌+◌, ◌*◌, ◌<◌}
 use native.Mathlib.Omega.{arith}
-use borrow.Author.Rules.{rules}
 use lib.ListN.{length}
 use lib.Seq.{sets, length-take-le}
 use Rattle.lists.specs.Bytes.{Bytes}
@@ -31,7 +30,7 @@ module _ (c : In-loop-i) where
   size = c.entry_bytes-size.result
 
   each : Bytes bytes
-  each j = omega (arith, c.shared_slice_known-1.given j)
+  each j = omega (arith, c.type_inv.bytes j)
 
   more : i < count_of bytes
   more = omega (arith, c.loop-i-test.true, c.little_endian-count.ensures)
@@ -75,7 +74,7 @@ returns-then-place-eq-PLACES c =
     gather_full (bytes (goal.at.returns-then-place-eq-PLACES c).In-loop-i) _ _ _ _ c.loop-i.invariant (more (goal.at.returns-then-place-eq-PLACES c).In-loop-i) _ _ (there (goal.at.returns-then-place-eq-PLACES c).In-loop-i) c.little_endian-voice.ensures _ c.first_u32-place.ensures c.if-place-eq-PLACES.true
 
 abbrev in_loop_i_of_else_place_eq_places : Else-place-eq-PLACES → In-loop-i
-in_loop_i_of_else_place_eq_places c = record { before = c.before.before.before.before; type_inv = search rules }
+in_loop_i_of_else_place_eq_places c = record { before = c.before.before.before.before; type_inv = record { bytes = c.type_inv.bytes } }
 
 -- a record has a place
 put : (c : Else-place-eq-PLACES) → c.first_u32-place.result < most_voices

@@ -10,7 +10,7 @@ use Rattle.settings.proofs.file.read.Goals.{Else-short-ne0}
 
 -- each number of the file is a byte
 each : (b : Else-short-ne0) → Bytes b.args.bytes.now
-each b i = omega (arith, b.shared_slice_known-1.given i)
+each b i = omega (arith, b.type_inv.bytes i)
 
 pub returns-then-short-ne0 : goal.returns-then-short-ne0
 returns-then-short-ne0 c = read_short _ _ _ _ c.store_refusal-short.ensures c.if-short-ne0.true

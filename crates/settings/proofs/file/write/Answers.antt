@@ -2,7 +2,6 @@ use mathlib.Core.Path.{◌≡◌, sym, ◌∙◌}
 use mathlib.Core.List.{List}
 use Prim.Native.Nat.{ℕ, ◌≤◌}
 use native.Mathlib.Omega.{arith}
-use borrow.Author.Rules.{rules}
 use lib.ListN.{length, take}
 use Rattle.lists.specs.Sizes.{most_voices}
 use Rattle.settings.specs.Store.{store_settings}
@@ -33,7 +32,7 @@ pub slice_bounds-held-end : goal.slice_bounds-held-end
 slice_bounds-held-end c = sym (whole (goal.at.slice_bounds-held-end c).Else-store_refusal-ne0).0
 
 abbrev else_store_refusal_ne0_of_after_held_count : After-held-count → Else-store_refusal-ne0
-else_store_refusal_ne0_of_after_held_count c = record { before = c.before.before; type_inv = search rules }
+else_store_refusal_ne0_of_after_held_count c = record { before = c.before.before; type_inv = record { out = c.type_inv.out; settings = c.type_inv.settings; voices = c.type_inv.voices } }
 
 few : (c : After-held-count) → c.held-count.result ≤ most_voices
 few c = omega (arith, c.held-count.ensures, held-few (voices (else_store_refusal_ne0_of_after_held_count c)))

@@ -1,13 +1,11 @@
 use mathlib.Core.Path.{◌≡◌, sym, ap, ◌∙◌}
-use Prim.Native.Nat.{◌+◌, ◌-◌}
+use Prim.Native.Nat.{◌+◌}
 use native.Mathlib.Omega.{arith}
-use lib.ListN.{drop, length-drop}
+use lib.ListN.{length-drop}
 use lib.Seq.{get_or-drop}
-use lib.Ieee.{nan, binary64, div}
-use Rattle.region.specs.Rows.{elem, entry}
-use Rattle.solve.specs.Solve.{reach, backward_term}
-use Rattle.solve.proofs.Orders.{Lessened, lessened_none, lessened_next, lessened_done}
-use borrow.Author.Rules.{rules}
+use lib.Ieee.{nan}
+use Rattle.solve.specs.Solve.{reach}
+use Rattle.solve.proofs.Orders.{lessened_none, lessened_next, lessened_done}
 use Rattle.solve.proofs.row.backward_at.Goals as goal
 
 pub loop-k-preserved : goal.loop-k-preserved

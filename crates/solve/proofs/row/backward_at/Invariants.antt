@@ -1,13 +1,9 @@
-use mathlib.Core.Path.{◌≡◌, sym, ap, ◌∙◌}
 use Prim.Native.Nat.{◌+◌, ◌-◌}
-use native.Mathlib.Omega.{arith}
-use lib.ListN.{drop, length-drop}
-use lib.Seq.{get_or-drop}
-use lib.Ieee.{nan, binary64, div}
+use lib.ListN.{drop}
+use lib.Ieee.{binary64, div}
 use Rattle.region.specs.Rows.{elem, entry}
-use Rattle.solve.specs.Solve.{reach, backward_term}
-use Rattle.solve.proofs.Orders.{Lessened, lessened_none, lessened_next, lessened_done}
-use borrow.Author.Rules.{rules}
+use Rattle.solve.specs.Solve.{backward_term}
+use Rattle.solve.proofs.Orders.{Lessened}
 use Rattle.solve.proofs.row.backward_at.Given as goal
 
 abbrev pub invariant-loop-k : goal.invariant-loop-k

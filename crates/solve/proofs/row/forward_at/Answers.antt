@@ -2,9 +2,7 @@ use mathlib.Core.Path.{refl}
 use Prim.Native.Nat.{◌+◌, ◌-◌}
 use native.Mathlib.Omega.{arith}
 use Rattle.lists.proofs.Rows.{row_in}
-use Rattle.solve.specs.Solve.{forward_term}
-use Rattle.solve.proofs.Orders.{Lessened, lessened_none, lessened_next, lessened_done}
-use borrow.Author.Rules.{rules}
+use Rattle.solve.proofs.Orders.{lessened_none, lessened_next, lessened_done}
 use Rattle.solve.proofs.row.forward_at.Goals as goal
 
 pub at-requires : goal.at-requires

@@ -1,10 +1,6 @@
-use mathlib.Core.Path.{refl}
-use Prim.Native.Nat.{◌+◌, ◌-◌}
-use native.Mathlib.Omega.{arith}
-use Rattle.lists.proofs.Rows.{row_in}
+use Prim.Native.Nat.{◌-◌}
 use Rattle.solve.specs.Solve.{factor_term}
-use Rattle.solve.proofs.Orders.{Lessened, lessened_none, lessened_next, lessened_done}
-use borrow.Author.Rules.{rules}
+use Rattle.solve.proofs.Orders.{Lessened}
 use Rattle.solve.proofs.row.reduced_at.Given as goal
 
 abbrev pub invariant-loop-k : goal.invariant-loop-k

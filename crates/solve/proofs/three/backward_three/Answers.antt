@@ -1,5 +1,4 @@
 use Rattle.solve.proofs.Threes.{three_back}
-use borrow.Author.Rules.{rules}
 use Rattle.solve.proofs.three.backward_three.Goals as goal
 
 pub returns : goal.returns

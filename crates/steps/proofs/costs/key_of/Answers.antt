@@ -1,4 +1,3 @@
-use borrow.Author.Rules.{rules}
 use borrow.Author.Tests.{lt-ltb, le-ltb}
 use Rattle.steps.specs.Steps.{key_of}
 use Rattle.steps.proofs.costs.key_of.Goals as goal

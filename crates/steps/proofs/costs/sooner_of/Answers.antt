@@ -1,5 +1,4 @@
 use mathlib.Core.Path.{sym, ◌∙◌}
-use borrow.Author.Rules.{rules}
 use Rattle.steps.proofs.costs.sooner_of.Goals as goal
 
 pub returns-then-is_sooner : goal.returns-then-is_sooner

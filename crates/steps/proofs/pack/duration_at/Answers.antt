@@ -1,5 +1,4 @@
 use mathlib.Core.Path.{sym}
-use borrow.Author.Rules.{rules}
 use Rattle.steps.proofs.Packs.{get_or-lows}
 use Rattle.steps.proofs.pack.duration_at.Goals as goal
 

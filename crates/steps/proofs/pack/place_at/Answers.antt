@@ -1,5 +1,4 @@
 use native.Mathlib.Omega.{arith}
-use borrow.Author.Rules.{rules}
 use Rattle.steps.proofs.Packs.{inner_place, leaf-place}
 use Rattle.steps.proofs.pack.place_at.Goals as goal
 

@@ -1,5 +1,4 @@
 use native.Mathlib.Omega.{arith}
-use borrow.Author.Rules.{rules}
 use Rattle.steps.proofs.Packs.{puts_duration}
 use Rattle.steps.proofs.pack.put_duration.Goals as goal
 

@@ -1,4 +1,3 @@
-use borrow.Author.Rules.{rules}
 use Rattle.steps.proofs.Packs.{puts_place}
 use Rattle.steps.proofs.pack.put_place.Goals as goal
 

@@ -1,8 +1,5 @@
-use Prim.Native.Nat.{◌-◌}
 use native.Mathlib.Omega.{arith}
-use borrow.Author.Rules.{rules}
-use lib.ListN.{length}
-use Rattle.steps.proofs.Packs.{Unpacking, unpacking, unpacking-next, unpacked}
+use Rattle.steps.proofs.Packs.{unpacking, unpacking-next, unpacked}
 use Rattle.steps.proofs.pack.unpack.Goals as goal
 
 pub loop-i-init : goal.loop-i-init

@@ -1,8 +1,6 @@
 use Prim.Native.Nat.{◌-◌}
-use native.Mathlib.Omega.{arith}
-use borrow.Author.Rules.{rules}
 use lib.ListN.{length}
-use Rattle.steps.proofs.Packs.{Unpacking, unpacking, unpacking-next, unpacked}
+use Rattle.steps.proofs.Packs.{Unpacking}
 use Rattle.steps.proofs.pack.unpack.Given as goal
 
 abbrev pub invariant-loop-i : goal.invariant-loop-i

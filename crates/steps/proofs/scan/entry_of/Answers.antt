@@ -1,6 +1,5 @@
 use native.Mathlib.Omega.{arith}
 use Rattle.lists.proofs.Sums.{get_or-le-total}
-use borrow.Author.Rules.{rules}
 use Rattle.steps.specs.Inner.Scores.{key_at}
 use Rattle.steps.proofs.scan.entry_of.Goals as goal
 

@@ -1,11 +1,6 @@
-use Prim.Native.Nat.{◌-◌}
 use native.Mathlib.Omega.{arith}
-use borrow.Author.Rules.{rules}
-use lib.ListN.{length}
-use Rattle.steps.specs.Steps.{states}
-use Rattle.steps.specs.Inner.Scores.{key_at}
 use Rattle.steps.proofs.Keys.{least-place}
-use Rattle.steps.proofs.Scans.{Scanning, scan_start, scan_fits, scan_next}
+use Rattle.steps.proofs.Scans.{scan_start, scan_fits, scan_next}
 use Rattle.steps.proofs.scan.least_of.Goals as goal
 
 pub entry_of-best-requires : goal.entry_of-best-requires

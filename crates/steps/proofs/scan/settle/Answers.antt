@@ -1,7 +1,5 @@
-use Rattle.lists.specs.Totals.{gap}
-use Rattle.steps.proofs.Stepping.{Going, going, going-room, going-may, going-few, going_again, going_less, going_done}
+use Rattle.steps.proofs.Stepping.{going, going-room, going-may, going-few, going_again, going_less, going_done}
 use native.Mathlib.Omega.{arith}
-use Rattle.steps.specs.Steps.{states}
 use Rattle.steps.proofs.scan.settle.Goals as goal
 
 pub loop-now_at-init : goal.loop-now_at-init

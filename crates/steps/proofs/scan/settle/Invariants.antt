@@ -1,6 +1,5 @@
 use Rattle.lists.specs.Totals.{gap}
-use Rattle.steps.proofs.Stepping.{Going, going, going-room, going-may, going-few, going_again, going_less, going_done}
-use native.Mathlib.Omega.{arith}
+use Rattle.steps.proofs.Stepping.{Going}
 use Rattle.steps.specs.Steps.{states}
 use Rattle.steps.proofs.scan.settle.Given as goal
 

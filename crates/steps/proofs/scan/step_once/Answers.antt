@@ -1,6 +1,5 @@
 use Prim.Native.Nat.{◌<◌}
 use native.Mathlib.Omega.{arith}
-use borrow.Author.Rules.{rules}
 use lib.ListN.{length}
 use Rattle.steps.proofs.Stepping.{found_in, found-may, found-step}
 use Rattle.steps.proofs.scan.step_once.Goals as goal

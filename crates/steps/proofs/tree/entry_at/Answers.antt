@@ -1,6 +1,5 @@
 use native.Mathlib.Omega.{arith}
 use Rattle.lists.proofs.Sums.{get_or-le-total}
-use borrow.Author.Rules.{rules}
 use Rattle.steps.specs.Inner.Scores.{key_at}
 use Rattle.steps.specs.Inner.Pack.{lows}
 use Rattle.steps.proofs.Packs.{length-lows}

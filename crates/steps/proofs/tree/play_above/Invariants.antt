@@ -1,8 +1,5 @@
-use native.Mathlib.Omega.{arith}
-use borrow.Author.Rules.{rules}
 use Rattle.steps.specs.Steps.{states}
-use Rattle.steps.proofs.Order.{sooner_in}
-use Rattle.steps.proofs.Playing.{sized, ready-same, Rising, rising, leaf_in, facing_in, facing_fit, rising-next, risen}
+use Rattle.steps.proofs.Playing.{Rising}
 use Rattle.steps.proofs.tree.play_above.Given as goal
 
 abbrev pub invariant-loop-i : goal.invariant-loop-i

@@ -1,10 +1,8 @@
 use Prim.Native.Nat.{◌≤◌}
 use native.Mathlib.Omega.{arith}
-use borrow.Author.Rules.{rules}
 use Rattle.lists.specs.Sizes.{most_states}
-use Rattle.steps.specs.Steps.{states}
 use Rattle.steps.proofs.Order.{sooner_in}
-use Rattle.steps.proofs.Playing.{sized, ready-same, Playing, playing, child_in, children_fit, playing-next, played}
+use Rattle.steps.proofs.Playing.{sized, ready-same, playing, child_in, children_fit, playing-next, played}
 use Rattle.steps.proofs.tree.play_all.Goals as goal
 use Rattle.steps.proofs.tree.play_all.Goals.{At-loop-i, Start}
 

@@ -1,10 +1,5 @@
-use Prim.Native.Nat.{◌≤◌}
-use native.Mathlib.Omega.{arith}
-use borrow.Author.Rules.{rules}
-use Rattle.lists.specs.Sizes.{most_states}
 use Rattle.steps.specs.Steps.{states}
-use Rattle.steps.proofs.Order.{sooner_in}
-use Rattle.steps.proofs.Playing.{sized, ready-same, Playing, playing, child_in, children_fit, playing-next, played}
+use Rattle.steps.proofs.Playing.{Playing}
 use Rattle.steps.proofs.tree.play_all.Given as goal
 
 abbrev pub invariant-loop-i : goal.invariant-loop-i

@@ -1,10 +1,6 @@
-use mathlib.Core.Path.{refl, ◌∙◌}
-use native.Mathlib.Omega.{arith}
-use borrow.Author.Rules.{rules}
 use Rattle.lists.specs.Totals.{gap}
 use Rattle.steps.specs.Steps.{states}
-use Rattle.steps.proofs.Stepping.{going-room, going-may, going-few, going_less}
-use Rattle.steps.proofs.Playing.{packed-ready, Tended, tended, tended-next, tended-done}
+use Rattle.steps.proofs.Playing.{Tended}
 use Rattle.steps.proofs.tree.settle.Given as goal
 
 abbrev pub invariant-loop-now_at : goal.invariant-loop-now_at

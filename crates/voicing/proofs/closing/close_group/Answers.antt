@@ -51,7 +51,7 @@ pub returns : goal.returns
 returns c = let a = c.args in gathered a.size a.records.now a.widths.now a.durations.now a.flags.now a.g a.c a.work.now _ c.requires (rw c.plan_of-p.ensures at c.loop-s.invariant) c.loop-s-test.false
 
 pub plan_of-p-requires : goal.plan_of-p-requires
-plan_of-p-requires c = (c.requires.most, c.requires.lies.most-v)
+plan_of-p-requires c = (c.requires.most, c.requires.lies.most_v)
 
 pub loop-s-init : goal.loop-s-init
 loop-s-init c = gathering _ _ _ _ _ _ _ _
@@ -72,7 +72,7 @@ pub overflow_mul-s : goal.overflow_mul-s
 overflow_mul-s c = record { fits = omega (arith, recorded (goal.at.overflow_mul-s c).After-run_end-end, c.well_formed) }
 
 pub overflow_add-s : goal.overflow_add-s
-overflow_add-s c = omega (arith, recorded (goal.at.overflow_add-s c).After-run_end-end, c.well_formed, c.requires.lies.some, c.requires.lies.most-v)
+overflow_add-s c = omega (arith, recorded (goal.at.overflow_add-s c).After-run_end-end, c.well_formed, c.requires.lies.some, c.requires.lies.most_v)
 
 pub shape_of-work : goal.shape_of-work
 shape_of-work c = c.loop-s.invariant.regions.long

@@ -41,7 +41,7 @@ loop-i-preserved c =
     )
 
 pub overflow_add-from : goal.overflow_add-from
-overflow_add-from c = omega (arith, reads (goal.at.overflow_add-from c).In-loop-i, c.requires.most-v, c.well_formed)
+overflow_add-from c = omega (arith, reads (goal.at.overflow_add-from c).In-loop-i, c.requires.most_v, c.well_formed)
 
 pub overflow_add-at : goal.overflow_add-at
 overflow_add-at c = omega (arith, next (goal.at.overflow_add-at c).In-loop-i, c.well_formed)

@@ -35,7 +35,7 @@ module _ (c : After-goes_on-voiced) where
     few = passed-few c.loop-s.invariant.passed c.loop-s-test.true c.frames_at-d.ensures (sym on ∙ c.goes_on-voiced.ensures) (sym (count-all c.frames_at-d.result))
 
 pub put_lanes-requires : goal.put_lanes-requires
-put_lanes-requires c = (c.requires.0.most-v, omega (arith, c.requires.0.some), values (goal.at.put_lanes-requires c).After-goes_on-voiced c.if-voiced.true, rw (size_is (goal.at.put_lanes-requires c).After-goes_on-voiced) c.requires.0.room, places (goal.at.put_lanes-requires c).After-goes_on-voiced)
+put_lanes-requires c = (c.requires.0.most_v, omega (arith, c.requires.0.some), values (goal.at.put_lanes-requires c).After-goes_on-voiced c.if-voiced.true, rw (size_is (goal.at.put_lanes-requires c).After-goes_on-voiced) c.requires.0.room, places (goal.at.put_lanes-requires c).After-goes_on-voiced)
 
 pub loop-s-preserved-then-voiced : goal.loop-s-preserved-then-voiced
 loop-s-preserved-then-voiced c =
@@ -58,10 +58,10 @@ pub goes_on-voiced-requires : goal.goes_on-voiced-requires
 goes_on-voiced-requires c = omega (arith, passed-fits c.loop-s.invariant.passed c.loop-s-test.true c.frames_at-d.ensures, c.requires.0.framed.room)
 
 pub overflow_mul-p : goal.overflow_mul-p
-overflow_mul-p c = record { fits = omega (arith, places (goal.at.overflow_mul-p c).After-goes_on-voiced, c.requires.0.most-v, c.well_formed, c.loop-s.invariant.long) }
+overflow_mul-p c = record { fits = omega (arith, places (goal.at.overflow_mul-p c).After-goes_on-voiced, c.requires.0.most_v, c.well_formed, c.loop-s.invariant.long) }
 
 pub overflow_add-p : goal.overflow_add-p
-overflow_add-p c = omega (arith, places (goal.at.overflow_add-p c).After-goes_on-voiced, c.requires.0.most-v, c.well_formed, c.loop-s.invariant.long)
+overflow_add-p c = omega (arith, places (goal.at.overflow_add-p c).After-goes_on-voiced, c.requires.0.most_v, c.well_formed, c.loop-s.invariant.long)
 
 pub overflow_add-f : goal.overflow_add-f
 overflow_add-f c = omega (arith, frames (goal.at.overflow_add-f c).After-goes_on-voiced, c.requires.0.framed.frames)
@@ -73,7 +73,7 @@ pub overflow_add-k : goal.overflow_add-k
 overflow_add-k c = omega (arith, few (goal.at.overflow_add-k c).After-goes_on-voiced c.if-voiced.true, c.requires.0.framed.frames)
 
 pub spread_lanes-requires : goal.spread_lanes-requires
-spread_lanes-requires c = (c.requires.0.most-v, omega (arith, c.requires.0.some), places (goal.at.spread_lanes-requires c).After-goes_on-voiced)
+spread_lanes-requires c = (c.requires.0.most_v, omega (arith, c.requires.0.some), places (goal.at.spread_lanes-requires c).After-goes_on-voiced)
 
 pub shape_of-out : goal.shape_of-out
 shape_of-out c = c.loop-s.invariant.long

@@ -1,4 +1,3 @@
-use borrow.Author.Rules.{rules}
 use Rattle.job.proofs.finding.Found.or.Goals as goal
 
 pub returns-in-Wrong : goal.returns-in-Wrong

@@ -1,4 +1,3 @@
-use borrow.Author.Rules.{rules}
 use Rattle.model.proofs.mean_vari.Clamp.inverse.Goals as goal
 
 pub returns-in-No : goal.returns-in-No

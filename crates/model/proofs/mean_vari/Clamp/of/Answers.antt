@@ -1,4 +1,3 @@
-use borrow.Author.Rules.{rules}
 use Rattle.model.proofs.Clamps.{clamp-high, clamp-low, clamp-no}
 use Rattle.model.proofs.mean_vari.Clamp.of.Goals as goal
 

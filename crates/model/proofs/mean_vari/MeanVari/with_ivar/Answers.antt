@@ -1,4 +1,3 @@
-use borrow.Author.Rules.{rules}
 use Rattle.model.proofs.Clamps.{tied}
 use Rattle.model.proofs.mean_vari.MeanVari.with_ivar.Goals as goal
 

@@ -1,11 +1,8 @@
 use native.Mathlib.Omega.{arith}
-use borrow.Author.Rules.{rules}
-use Prim.Native.Nat.{◌-◌, ◌≤◌}
-use mathlib.Core.Path.{◌≡◌, refl, ◌∙◌}
-use mathlib.Core.List.{◌++◌}
-use lib.ListN.{length, take, drop, length-set}
+use mathlib.Core.Path.{refl, ◌∙◌}
+use lib.ListN.{length-set}
 use lib.Ieee.{nan}
-use Rattle.model.specs.Mixing.{more_by, over_shorter}
+use Rattle.model.specs.Mixing.{more_by}
 use Rattle.model.proofs.Adding.{shorter_next, shorter_done}
 use Rattle.model.proofs.voice.model.add_scaled.Goals as goal
 

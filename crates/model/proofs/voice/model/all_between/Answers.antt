@@ -1,12 +1,7 @@
-use mathlib.Core.Path.{◌≡◌, refl}
-use mathlib.Core.Bool.{true}
-use Prim.Native.Nat.{◌-◌}
-use native.Mathlib.Omega.{arith}
-use borrow.Author.Rules.{rules}
-use lib.ListN.{length}
+use mathlib.Core.Path.{refl}
 use Rattle.lists.proofs.Flags.{both}
 use Rattle.model.specs.Clamps.{is_high, is_low}
-use Rattle.model.proofs.Clamps.{between-no, Counted, counted-no, counted-all}
+use Rattle.model.proofs.Clamps.{between-no, counted-no, counted-all}
 use Rattle.model.proofs.voice.model.all_between.Goals as goal
 
 pub loop-i-preserved : goal.loop-i-preserved

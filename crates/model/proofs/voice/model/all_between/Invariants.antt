@@ -1,12 +1,9 @@
-use mathlib.Core.Path.{◌≡◌, refl}
+use mathlib.Core.Path.{◌≡◌}
 use mathlib.Core.Bool.{true}
 use Prim.Native.Nat.{◌-◌}
-use native.Mathlib.Omega.{arith}
-use borrow.Author.Rules.{rules}
 use lib.ListN.{length}
-use Rattle.lists.proofs.Flags.{both}
 use Rattle.model.specs.Clamps.{is_high, is_low}
-use Rattle.model.proofs.Clamps.{between-no, Counted, counted-no, counted-all}
+use Rattle.model.proofs.Clamps.{Counted}
 use Rattle.model.proofs.voice.model.all_between.Given as goal
 
 abbrev pub invariant-loop-i : goal.invariant-loop-i

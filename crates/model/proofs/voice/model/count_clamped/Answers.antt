@@ -1,9 +1,6 @@
-use Prim.Native.Nat.{◌-◌}
 use native.Mathlib.Omega.{arith}
-use borrow.Author.Rules.{rules}
-use lib.ListN.{length}
 use Rattle.model.specs.Clamps.{is_high, is_low}
-use Rattle.model.proofs.Clamps.{Counted, counted_next, counted-few, counted-all}
+use Rattle.model.proofs.Clamps.{counted_next, counted-few, counted-all}
 use Rattle.model.proofs.voice.model.count_clamped.Goals as goal
 
 pub overflow_add-high : goal.overflow_add-high

@@ -1,9 +1,7 @@
 use Prim.Native.Nat.{◌-◌}
-use native.Mathlib.Omega.{arith}
-use borrow.Author.Rules.{rules}
 use lib.ListN.{length}
 use Rattle.model.specs.Clamps.{is_high, is_low}
-use Rattle.model.proofs.Clamps.{Counted, counted_next, counted-few, counted-all}
+use Rattle.model.proofs.Clamps.{Counted}
 use Rattle.model.proofs.voice.model.count_clamped.Given as goal
 
 abbrev pub invariant-loop-i : goal.invariant-loop-i

@@ -1,5 +1,4 @@
 use native.Mathlib.Omega.{arith}
-use borrow.Author.Rules.{rules}
 use mathlib.Core.Path.{sym}
 use Rattle.model.proofs.Records.{weight-given, weight-absent}
 use Rattle.model.proofs.voice.model.msd.Goals as goal

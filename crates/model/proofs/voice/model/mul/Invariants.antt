@@ -1,13 +1,8 @@
-use borrow.Author.Rules.{rules}
-use native.Mathlib.Omega.{arith}
-use Prim.Native.Nat.{◌-◌, min}
-use mathlib.Core.Path.{◌≡◌, sym, ◌∙◌}
+use Prim.Native.Nat.{◌-◌}
 use mathlib.Core.List.{map}
-use lib.ListN.{length, length-map, get_or-map}
-use lib.Ieee.{nan}
-use Rattle.lists.proofs.Stores.{Storing, storing, storing-next, storing-done}
+use lib.ListN.{length}
+use Rattle.lists.proofs.Stores.{Storing}
 use Rattle.model.proofs.Scaling.{times}
-use Rattle.model.proofs.Promises.{mul-refused, mul-done}
 use Rattle.model.proofs.voice.model.mul.Given as goal
 
 abbrev pub invariant-loop-i : goal.invariant-loop-i

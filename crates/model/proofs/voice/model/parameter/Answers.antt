@@ -1,4 +1,3 @@
-use borrow.Author.Rules.{rules}
 use mathlib.Core.Path.{sym}
 use Rattle.model.proofs.Records.{pair_found, pair_missing}
 use Rattle.model.proofs.voice.model.parameter.Goals as goal

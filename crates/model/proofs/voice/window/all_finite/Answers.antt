@@ -1,9 +1,5 @@
 use native.Mathlib.Omega.{arith}
-use borrow.Author.Rules.{rules}
-use Prim.Native.Nat.{◌-◌, ◌≤◌}
-use mathlib.Core.Path.{◌≡◌}
-use lib.ListN.{length, drop}
-use Rattle.model.specs.Windows.{all_of, finite, all_finite}
+use Rattle.model.specs.Windows.{finite, all_finite}
 use Rattle.model.proofs.Windows.{all-next, all_stop, all_done}
 use Rattle.std.proofs.Common.{ap}
 use Rattle.std.proofs.Common.{not}

@@ -1,10 +1,7 @@
-use native.Mathlib.Omega.{arith}
-use borrow.Author.Rules.{rules}
 use Prim.Native.Nat.{◌-◌, ◌≤◌}
 use mathlib.Core.Path.{◌≡◌}
 use lib.ListN.{length, drop}
-use Rattle.model.specs.Windows.{all_of, finite, all_finite}
-use Rattle.model.proofs.Windows.{all-next, all_stop, all_done}
+use Rattle.model.specs.Windows.{all_of, finite}
 use Rattle.model.proofs.voice.window.all_finite.Given as goal
 
 abbrev pub invariant-loop-i : goal.invariant-loop-i

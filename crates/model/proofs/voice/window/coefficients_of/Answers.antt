@@ -1,4 +1,3 @@
-use borrow.Author.Rules.{rules}
 use Rattle.model.proofs.voice.window.coefficients_of.Goals as goal
 
 pub returns : goal.returns

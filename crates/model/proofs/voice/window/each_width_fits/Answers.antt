@@ -1,9 +1,6 @@
 use native.Mathlib.Omega.{arith}
-use borrow.Author.Rules.{rules}
-use Prim.Native.Nat.{◌-◌, ◌≤◌}
-use mathlib.Core.Path.{◌≡◌, ap, ◌∙◌}
-use lib.ListN.{length, drop}
-use Rattle.model.specs.Windows.{between, all_of}
+use mathlib.Core.Path.{ap, ◌∙◌}
+use Rattle.model.specs.Windows.{between}
 use Rattle.model.proofs.Windows.{all-next, all_stop, all_done}
 use Rattle.std.proofs.Common.{not}
 use Rattle.model.proofs.voice.window.each_width_fits.Goals as goal

@@ -1,10 +1,7 @@
-use native.Mathlib.Omega.{arith}
-use borrow.Author.Rules.{rules}
 use Prim.Native.Nat.{◌-◌, ◌≤◌}
-use mathlib.Core.Path.{◌≡◌, ap, ◌∙◌}
+use mathlib.Core.Path.{◌≡◌}
 use lib.ListN.{length, drop}
 use Rattle.model.specs.Windows.{between, all_of}
-use Rattle.model.proofs.Windows.{all-next, all_stop, all_done}
 use Rattle.model.proofs.voice.window.each_width_fits.Given as goal
 
 abbrev pub invariant-loop-i : goal.invariant-loop-i

@@ -1,10 +1,7 @@
-use native.Mathlib.Omega.{arith}
-use borrow.Author.Rules.{rules}
 use Prim.Native.Nat.{◌-◌, ◌≤◌, max}
-use mathlib.Core.Path.{◌≡◌, refl, sym, ◌∙◌}
+use mathlib.Core.Path.{◌≡◌}
 use lib.ListN.{length, drop}
 use Rattle.lists.specs.Build.{fold_from}
-use Rattle.lists.proofs.Sums.{fold_more, fold_done}
 use Rattle.model.specs.Windows.{longest}
 use Rattle.model.proofs.voice.window.longest_of.Given as goal
 

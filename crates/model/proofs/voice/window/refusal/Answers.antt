@@ -1,4 +1,3 @@
-use borrow.Author.Rules.{rules}
 use Rattle.model.proofs.Windows.{refused_1, refused_2, refused_4, refused_none}
 use Rattle.std.proofs.Common.{ap}
 use Rattle.std.proofs.Common.{not}

@@ -1,5 +1,4 @@
 use native.Mathlib.Omega.{arith}
-use borrow.Author.Rules.{rules}
 use mathlib.Core.Path.{◌∙◌}
 use Rattle.model.proofs.Windows.{width-at, width-past}
 use Rattle.model.proofs.voice.window.width.Goals as goal

@@ -1,4 +1,3 @@
-use borrow.Author.Rules.{rules}
 use mathlib.Core.Path.{◌∙◌}
 use Rattle.model.proofs.Windows.{fit_none, fit-each}
 use Rattle.std.proofs.Common.{ap}

@@ -1,4 +1,3 @@
-use borrow.Author.Rules.{rules}
 use mathlib.Core.Path.{ap}
 use lib.Ieee.{lt}
 use Rattle.model.proofs.voice.model.Weight.voiced.Goals as goal
