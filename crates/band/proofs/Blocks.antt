@@ -1,5 +1,5 @@
 -- Laws of a block from zeroed rows on, window after window, and of all blocks of a region.
-use mathlib.Core.Path.{◌≡◌, refl, sym, ap, subst, ◌∙◌}
+use mathlib.Core.Path.{◌≡◌, refl, sym, ap, ◌∙◌}
 use mathlib.Core.List.{List, [], ◌∷◌}
 use mathlib.Core.Logic.{◌⊎◌, inl, inr, ⊎_elim}
 use Prim.Native.Nat.{ℕ, zero, suc, ◌+◌, ◌-◌, ◌*◌, ◌<◌, ◌≤◌}
@@ -28,12 +28,12 @@ use Rattle.region.specs.declared.Layout.{Layout}
 use Rattle.region.specs.declared.Places.{Places}
 use Rattle.region.proofs.Readings.{part_elem, part-part, read_under, read-beyond}
 use Rattle.region.proofs.Flats.{flat-read}
-use Rattle.band.specs.Paper.{term, right_term, part_of, entry_sum, right_sum, entry_of, band_rows, right_side}
+use Rattle.band.specs.Paper.{part_of, entry_sum, right_sum, entry_of, band_rows, right_side}
 use Rattle.band.specs.Promise.{rowed_in}
-use Rattle.band.specs.Inner.Passes.{rows_between, Room, entry_at, within, Moved, Cleared, window_in, window_entry, window_side, Set, set_in, window_at, windows_entry, windows_side, whole_entry, whole_side}
+use Rattle.band.specs.Inner.Passes.{Room, entry_at, within, Moved, Cleared, window_in, window_entry, window_side, Set, set_in, window_at, windows_entry, windows_side, whole_entry, whole_side}
 use Rattle.band.specs.declared.passes.Block.{Block}
 use Rattle.band.proofs.Terms.{either_way}
-use Rattle.band.proofs.Moves.{within_on, within-off, by_span, moved_none, moved_then, moved_same, moved-next, part-kept}
+use Rattle.band.proofs.Moves.{within_on, within-off, by_span, moved_none, moved_then, moved-next, part-kept}
 
 -- ---- a block's rows are cleared
 

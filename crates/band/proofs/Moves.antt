@@ -11,7 +11,6 @@ use lib.Ieee.{Float, nan}
 use Rattle.lists.specs.Parts.{part}
 use Rattle.lists.proofs.Numbers.{le-or-lt}
 use Rattle.lists.proofs.Regions.{cut-length}
-use Rattle.region.specs.Rows.{elem}
 use Rattle.region.proofs.Readings.{part_elem}
 use Rattle.band.specs.Inner.Passes.{rows_between, within, Moved, still}
 use Rattle.band.specs.declared.passes.Block.{Block}

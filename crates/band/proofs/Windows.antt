@@ -1,13 +1,12 @@
 -- Laws of a row that is built window by window and frame by frame: only the frames that a window's taps reach have a term.
 use mathlib.Core.Path.{◌≡◌, refl, sym, ap, ◌∙◌}
-use mathlib.Core.Bool.{true}
 use mathlib.Core.List.{List}
 use Prim.Native.Nat.{ℕ, ◌+◌, ◌-◌, ◌*◌, ◌/◌, ◌<◌, ◌≤◌, min}
 use native.Mathlib.Numerals.{add-one}
 use native.Mathlib.Omega.{arith}
 use lib.ListN.{length, get_or, take, drop, replicate, length-replicate, get_or-replicate, take-append-drop}
 use lib.Seq.{sets}
-use lib.Ieee.{Float, nan, eq}
+use lib.Ieee.{Float, nan}
 use Rattle.lists.specs.Totals.{total}
 use Rattle.lists.specs.Build.{build}
 use Rattle.model.specs.Windows.{window_of}
@@ -18,7 +17,7 @@ use Rattle.lists.proofs.Rows.{row_fits}
 use Rattle.lists.specs.Build.{over}
 use Rattle.floats.specs.Numbers.{nought}
 use Rattle.lists.specs.Parts.{part}
-use Rattle.band.specs.Paper.{W, term, right_term, part_of, entry_sum, right_sum, entry_of}
+use Rattle.band.specs.Paper.{term, right_term, part_of, entry_sum, right_sum, entry_of}
 use Rattle.band.specs.Inner.Fits.{on_row, Taps, Fits}
 use Rattle.lists.proofs.Builds.{build-same}
 use Rattle.band.proofs.Terms.{on_row-idle, on_row-same, on_row-then, frames-before, frames-behind, term-idle, right-idle}

@@ -1,5 +1,6 @@
 // The rows of the band and the right side of the paper's normal equations: as a call of their own, and from the pairs that regions of a work space hold.
 #![tactic(auto)]
+
 ghost use Rattle.std.specs.Prelude.{◌≡◌, ◌*◌, ◌/◌, ◌<◌, length};
 ghost use Rattle.lists.specs.Build.{build};
 ghost use Rattle.band.specs.Paper.{right_sum, entry_of, band_rows, right_side};

@@ -73,16 +73,16 @@ unfolding of_bits nearest_half
 nought-rounded = refl
 
 -- it is rounded to what is left of the chapter's
-left_of : (x y : Float) (frames : ℕ) → T (fits binary64 x) → PartEnd x frames y → end_rounded y ≡ end_rounded x - frames
-left_of x y frames held (ahead a c q small under) =
+left_of : (x : Float) (frames : ℕ) (y : Float) → T (fits binary64 x) → PartEnd x frames y → end_rounded y ≡ end_rounded x - frames
+left_of x frames y held (ahead a c q small under) =
     let C = q.some in
     let few : frames ≤ 2 ^ 53 = le_of_lt (lt_of_mul-lt-mul_right c (lt_of_le_of_lt under small)) in
     let v = exact-less x (number frames) a c frames held C q.is (number-value frames few) small under in
     half-same (num y) (den y) (a - frames * c) c (den_pos y) C (value→cross y (a - frames * c) c v)
     ∙ half-less a c frames C under
     ∙ ap (λ (n : ℕ). n - frames) (half-same a c (num x) (den x) C (den_pos x) (sym (value→cross x a c q.is)))
-left_of x y frames held (behind h) = omega (arith, nought-rounded, half-few frames (num x) (den x) (den_pos x) (le_of_lt h))
+left_of x frames y held (behind h) = omega (arith, nought-rounded, half-few frames (num x) (den x) (den_pos x) (le_of_lt h))
 
 -- A total that is on time in a part is, with the frames of all parts before it, what it would be in the whole chapter.
 pub part-total : (x y : Float) (frames before low reached : ℕ) → T (fits binary64 x) → PartEnd x frames y → OnTime y before low reached → frames + reached ≡ max (end_rounded x) (frames + before + low)
-part-total x y frames before low reached held e o = omega (arith, left_of x y frames held e, o.larger)
+part-total x y frames before low reached held e o = omega (arith, left_of x frames y held e, o.larger)

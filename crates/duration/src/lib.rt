@@ -1,4 +1,5 @@
 // The durations of states: fitted to a length, to a speed, or to given ends.
+#![tactic(auto)]
 ghost use Rattle.std.specs.Prelude.{◌≡◌, ◌≤◌, length, take, replicate};
 ghost use Rattle.std.proofs.lemmas.List.Edits.{sets};
 ghost use Rattle.lists.specs.Sizes.{most_states};

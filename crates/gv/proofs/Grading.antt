@@ -63,4 +63,7 @@ module _ (p : Places) (n w : ℕ) (d : List Float) (room : p.values + n ≤ leng
       → (m ≡ sets d p.factors (gradient w r.matrix r.values)) × (h ≡ hmm_obj v r.side (gradient w r.matrix r.values) r.values)
   unfolding hmm_obj
   graded-all weight v m h e q =
-      (q.rows ∙ rw gradient-is, q.sum ∙ rw (gradient-is, cut-length p.values n d room, e) (over-same _ _ n nought (λ i z l. rw (build-at (gradient_at w r.matrix r.values) n i nan l))))
+      let D : List Float = gradient w r.matrix r.values in
+      let term : (ℕ → Float) → ℕ → Float → Float = λ x t y. add binary64 y (hmm_term v (elem r.side t) (x t) (elem r.values t)) in
+      let at_row : (t : ℕ) → t < n → elem D t ≡ gradient_at w r.matrix r.values t = λ t l. rw gradient-is (build-at (gradient_at w r.matrix r.values) n t nan l) in
+      (q.rows ∙ rw gradient-is, q.sum ∙ rw (cut-length p.values n d room, e) (over-same (term (gradient_at w r.matrix r.values)) (term (elem D)) n nought (λ t z l. rw (at_row t l))))

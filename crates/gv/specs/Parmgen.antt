@@ -1,8 +1,7 @@
 -- The global variance: rescaled values, then five steps (`parmgen` of `mlpg.rs`).
-use Rattle.std.specs.Prelude.{Bool, false, List, ℕ, zero, suc, length, get_or, eqb, Float}
-use Rattle.std.proofs.Math.Bool.{cond}
-use Rattle.std.specs.Float.{nan}
-use Rattle.std.specs.Float.Ieee.{binary64, add, sub, mul, neg}
+use Rattle.std.specs.Prelude.{Bool, false, cond, List, ℕ, zero, suc, length, get_or, eqb, Float}
+use Rattle.std.specs.Float.{nan, binary64}
+use Rattle.std.specs.Float.Ieee.{add, sub, mul, neg}
 use Rattle.lists.specs.Build.{build}
 use Rattle.lists.specs.Frames.{count}
 use Rattle.region.specs.Rows.{elem, entry}

@@ -1,5 +1,6 @@
 // `MlpgGlobalVariance`: the solved values of each component are drawn towards its global variance, in its region of the work space.
 #![tactic(auto)]
+
 ghost use Rattle.std.specs.Prelude.{◌≡◌, map, ◌*◌, ◌<◌, ◌≤◌, length};
 ghost use Rattle.std.proofs.lemmas.List.Edits.{sets};
 ghost use Rattle.std.specs.Float.{binary64};

@@ -1,8 +1,8 @@
 -- A slot that was cleared, set or used.
-use mathlib.Core.Path.{◌≡◌, refl, sym, ap, ◌∙◌}
+use mathlib.Core.Path.{◌≡◌, sym, ap, ◌∙◌}
 use mathlib.Core.Bool.{true, false}
 use mathlib.Core.List.{List, [], ◌++◌}
-use Prim.Native.Nat.{ℕ, zero, suc, ◌+◌, ◌*◌, ◌≤◌, ◌<◌}
+use Prim.Native.Nat.{ℕ, ◌*◌, ◌≤◌, ◌<◌}
 use native.Mathlib.Omega.{arith}
 use borrow.Author.Tests.{le-ltb}
 use lib.ListN.{length, take, drop}
@@ -10,7 +10,6 @@ use lib.Seq.{take-take, take_at}
 use lib.Ieee.{Float}
 use Rattle.lists.specs.Ends.{changed_of}
 use Rattle.lists.specs.Parts.{part}
-use Rattle.lists.specs.Refusals.{or_else}
 use Rattle.lists.specs.Sizes.{most_windows, most_set_taps, slot_count}
 use Rattle.lists.specs.Totals.{total}
 use Rattle.lists.specs.declared.Changed.{Changed}

@@ -3,7 +3,6 @@ use mathlib.Core.Path.{◌≡◌, refl}
 use mathlib.Core.List.{List, []}
 use Prim.Native.Nat.{ℕ, ◌*◌, ◌<◌}
 use native.Mathlib.Omega.{arith}
-use lib.ListN.{drop}
 use lib.Ieee.{Float}
 use Rattle.lists.specs.Sizes.{most_windows, most_set_taps, slot_count}
 use Rattle.lists.specs.declared.Changed.{Changed}

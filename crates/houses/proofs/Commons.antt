@@ -1,11 +1,9 @@
 -- Laws of how a table is started: rows of widths that are looked at, and slots that are written row after row.
 use mathlib.Core.Path.{◌≡◌, refl, sym, ap, ◌∙◌}
-use mathlib.Core.Bool.{Bool, true, false, not, ◌&&◌}
-use mathlib.Core.List.{List, [], ◌∷◌, ◌++◌}
-use mathlib.Core.Logic.{⊎_elim}
-use Prim.Native.Nat.{ℕ, zero, suc, ◌+◌, ◌*◌, ◌/◌, ◌^◌, ◌≤◌, ◌<◌, zero-le}
+use mathlib.Core.Bool.{Bool, true, false, not}
+use mathlib.Core.List.{List, [], ◌++◌}
+use Prim.Native.Nat.{ℕ, ◌+◌, ◌*◌, ◌^◌, ◌≤◌, ◌<◌, zero-le}
 use native.Mathlib.Nat.{mul-le-mul, div-zero}
-use native.Mathlib.Numerals.{add-one}
 use native.Mathlib.Omega.{arith}
 use borrow.Author.Tests.{leb-true, le-leb, lt-leb, eq-eqb, ne_eqb, not-true, not-false}
 use lib.Dec.{leb, eqb}
@@ -16,7 +14,6 @@ use Rattle.lists.specs.Build.{build, rows}
 use Rattle.lists.specs.Sizes.{most_windows, most_set_taps, most_common, slot_count}
 use Rattle.lists.specs.Totals.{total}
 use Rattle.lists.proofs.Flags.{both}
-use Rattle.lists.proofs.Numbers.{le-or-lt}
 use Rattle.lists.proofs.Joins.{rows_none, rows-length, rows-stored}
 use Rattle.lists.proofs.Stores.{sets-next}
 use Rattle.lists.proofs.Sums.{total-whole}

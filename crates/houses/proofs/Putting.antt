@@ -1,21 +1,18 @@
 -- Laws of a slot that is put into a table.
-use mathlib.Core.Path.{◌≡◌, refl, ap, ◌∙◌}
-use mathlib.Core.List.{List, [], ◌∷◌, ◌++◌}
-use mathlib.Core.Logic.{⊎_elim, ◌≢◌}
-use Prim.Native.Nat.{ℕ, suc, ◌+◌, ◌*◌, ◌≤◌, ◌<◌}
+use mathlib.Core.Path.{◌≡◌}
+use mathlib.Core.List.{List, ◌++◌}
+use mathlib.Core.Logic.{◌≢◌}
+use Prim.Native.Nat.{ℕ, ◌*◌, ◌≤◌, ◌<◌}
 use native.Mathlib.Omega.{arith}
 use borrow.Author.Tests.{ltb-false}
 use lib.Dec.{ltb}
-use lib.ListN.{length, set, replicate, length-append, length-replicate}
-use lib.Seq.{sets, length-sets, length-take-le, set-set, set_comm}
+use lib.ListN.{length, replicate, length-append, length-replicate}
+use lib.Seq.{sets, length-sets, length-take-le}
 use lib.Ieee.{Float}
-use Rattle.lists.specs.Parts.{part}
 use Rattle.lists.specs.Sizes.{most_windows, most_set_taps, slot_count}
 use Rattle.lists.proofs.Flags.{neither}
-use Rattle.lists.proofs.Numbers.{less-or-more}
 use Rattle.lists.proofs.Refusals.{then-none}
-use Rattle.lists.proofs.Regions.{sets-within, stored-whole, stored-behind, stored-before, sets_aside}
-use Rattle.lists.proofs.Rows.{row_fits}
+use Rattle.lists.proofs.Regions.{sets-within, stored-whole, sets_aside}
 use Rattle.floats.specs.Numbers.{nought}
 use Rattle.lists.proofs.Stores.{sets_over}
 use Rattle.houses.specs.Slots.{Table, Slot, slot, slot_at}

@@ -1,10 +1,10 @@
 -- Laws of what a slot holds, and of whose it is.
-use mathlib.Core.Path.{◌≡◌, refl, sym, ap, ◌∙◌}
+use mathlib.Core.Path.{◌≡◌, sym, ap, ◌∙◌}
 use mathlib.Core.Bool.{Bool, true, false, not, ◌&&◌, ◌||◌}
 use mathlib.Core.List.{List, [], ◌∷◌}
-use Prim.Native.Nat.{ℕ, zero, suc, ◌+◌, ◌-◌, ◌*◌, ◌^◌, ◌≤◌, ◌<◌, min}
+use Prim.Native.Nat.{ℕ, zero, suc, ◌+◌, ◌-◌, ◌*◌, ◌^◌, ◌≤◌, ◌<◌}
 use native.Mathlib.Omega.{arith}
-use borrow.Author.Tests.{ltb-true, ltb-false, leb-true, eq-eqb, ne_eqb, not-true, not-false}
+use borrow.Author.Tests.{ltb-true, ne_eqb, not-true, not-false}
 use lib.Dec.{ltb, leb, eqb}
 use lib.ListN.{length, take, drop, get_or, length-take}
 use lib.Seq.{take_all}
@@ -12,11 +12,10 @@ use lib.Ieee.{Float}
 use Rattle.lists.specs.Build.{build}
 use Rattle.lists.specs.Frames.{count}
 use Rattle.lists.specs.Parts.{part}
-use Rattle.lists.specs.Sizes.{most_windows, most_set_taps, most_common, most_own, house_count, slot_count}
+use Rattle.lists.specs.Sizes.{most_windows, most_set_taps, most_common, most_own, house_count}
 use Rattle.lists.specs.Totals.{total}
-use Rattle.lists.proofs.Flags.{both}
 use Rattle.lists.proofs.Sums.{total-whole}
-use Rattle.model.specs.Windows.{between, window_refusal}
+use Rattle.model.specs.Windows.{window_refusal}
 use Rattle.houses.specs.Slots.{Table, table, slot_at, up_to_last, trimmed, is_empty, is_common, first_own, owns, may_use, free_of}
 
 -- ---- a loop from the back has seen zeros alone behind the first n numbers

@@ -1,29 +1,27 @@
 -- A table that was started.
 use mathlib.Core.Path.{◌≡◌, refl, sym, ap, ◌∙◌}
-use mathlib.Core.Bool.{Bool, true, false}
-use mathlib.Core.List.{List, [], ◌∷◌, ◌++◌}
+use mathlib.Core.Bool.{true, false}
+use mathlib.Core.List.{List, []}
 use mathlib.Core.Logic.{⊎_elim}
 use Prim.Native.Nat.{ℕ, zero, suc, ◌+◌, ◌*◌, ◌≤◌, ◌<◌}
 use native.Mathlib.Nat.{mul-le-mul_right, zero-mul, suc-mul}
 use native.Mathlib.Omega.{arith}
 use borrow.Author.Tests.{le-ltb}
-use lib.ListN.{length, take, drop, length-append, length-take, drop_of_length-le, take-append-drop}
+use lib.ListN.{length, take, drop, length-append, length-take, drop_of_length-le}
 use lib.Seq.{take-nil, drop_at}
 use lib.Ieee.{Float}
 use Rattle.lists.specs.Build.{build, rows}
 use Rattle.lists.specs.Frames.{count}
-use Rattle.lists.specs.Parts.{part}
 use Rattle.lists.specs.Sizes.{most_windows, most_set_taps, slot_count, house_count, most_own}
 use Rattle.lists.specs.Totals.{total}
 use Rattle.lists.specs.declared.Changed.TheVariants.{Done}
 use Rattle.lists.proofs.Builds.{build-same}
-use Rattle.lists.proofs.Flags.{both}
 use Rattle.lists.proofs.Joins.{rows-length, rows-part}
-use Rattle.lists.proofs.Numbers.{le-or-lt, by_place}
+use Rattle.lists.proofs.Numbers.{le-or-lt}
 use Rattle.lists.proofs.Regions.{cut-length}
 use Rattle.lists.proofs.Sums.{total-part, total-front}
 use Rattle.floats.specs.Numbers.{nought}
-use Rattle.model.specs.Windows.{all_of, finite, widths_fit, all_finite, window_refusal}
+use Rattle.model.specs.Windows.{finite, widths_fit, all_finite, window_refusal}
 use Rattle.model.proofs.Windows.{all-part, all_built}
 use Rattle.houses.specs.Slots.{Table, slot_at, trimmed, widths_in, coefficients_in, is_empty, first_own, free_of}
 use Rattle.houses.specs.Changes.{padded, holding, cleared, row_length, row_of, taps_of, started, SameSets}

@@ -4,7 +4,7 @@ use mathlib.Core.Bool.{Bool, true, false, not}
 use mathlib.Core.List.{List}
 use Prim.Native.Nat.{ℕ, zero, suc, ◌*◌, ◌^◌, ◌≤◌, ◌<◌}
 use native.Mathlib.Omega.{arith}
-use borrow.Author.Tests.{ltb-true, ltb-false, lt-ltb, le-ltb, not-true, not-false}
+use borrow.Author.Tests.{ltb-true, lt-ltb, le-ltb, not-true, not-false}
 use lib.Dec.{ltb}
 use lib.ListN.{length, take, drop, length-drop, length-take}
 use lib.Seq.{sets, take_all, length-take-le}
@@ -16,8 +16,7 @@ use Rattle.lists.specs.declared.Changed.TheVariants.{Done, Refused as Changed-as
 use Rattle.lists.specs.declared.Counted.TheVariants.{Number, Refused as Counted-as-Refused}
 use Rattle.lists.proofs.Answers.{given-none, untouched, in_front}
 use Rattle.lists.proofs.Ends.{refused_with, not-counted}
-use Rattle.lists.proofs.Flags.{neither}
-use Rattle.lists.proofs.Refusals.{or-first, or-none, none_then, then-none}
+use Rattle.lists.proofs.Refusals.{or-first, or-none, none_then}
 use Rattle.lists.proofs.Stores.{copied}
 use Rattle.lists.proofs.Sums.{total-whole}
 use Rattle.model.specs.Windows.{window_refusal}

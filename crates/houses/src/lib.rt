@@ -1,4 +1,6 @@
 // A table of window sets that two houses share, in two lists that the caller lends. Every content of them has a meaning.
+#![tactic(auto)]
+
 ghost use Rattle.std.specs.Prelude.{◌≡◌};
 ghost use Rattle.houses.specs.Slots.{table};
 ghost use Rattle.houses.specs.Promise.{StartSays, SetSays, ClearSays, UseSays, FreeSays};

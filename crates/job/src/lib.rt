@@ -1,4 +1,5 @@
 // The job file: what its bytes say, and the answer of the job.
+#![tactic(auto)]
 ghost use Rattle.std.specs.Prelude.{◌≡◌, ◌≤◌, length};
 ghost use Rattle.lists.specs.Sizes.{most_job_states};
 ghost use Rattle.job.specs.Format.{floats_at, numbers_behind, shortest_at, job_at};

@@ -1,4 +1,6 @@
 // When each word of an utterance sounds, which one sounds at a frame, and its part of a trajectory. It rests on what `spool` and `lists` promise.
+#![tactic(auto)]
+
 ghost use Rattle.std.specs.Prelude.{◌≡◌, map, ◌+◌, ◌*◌, ◌≤◌, ◌<◌, length};
 ghost use Rattle.std.proofs.lemmas.List.Edits.{sets};
 ghost use Rattle.read_along.specs.Words.{span, spans_of, times};

@@ -26,7 +26,6 @@ use Rattle.settings.specs.Store.{Store, store_settings, store_of, free, is_held,
 use Rattle.settings.specs.Changes.{empty, place_for, set_in, remove_in}
 use Rattle.settings.specs.Format.{format_refusal, read_refusal, entries_of, settled, read_in}
 use Rattle.lists.proofs.Ends.{refused_with}
-use Rattle.lists.specs.Ends.{changed_of}
 use Rattle.settings.specs.Promise.{got_of, store_refusal, voice_refusal, set_refusal, held_refusal, ChangesTo, ClearSays, SetSays, GetSays, RemoveSays, ReadSays}
 use Rattle.settings.specs.Inner.Steps.{Gathered, full_refusal, Replaced}
 use Rattle.settings.proofs.Refusing.{has_places, placed}

@@ -25,7 +25,6 @@ use Rattle.settings.specs.Store.{Store, store_settings, store_of, free, is_held,
 use Rattle.settings.specs.Changes.{empty, place_for, set_in, remove_in}
 use Rattle.settings.specs.Laws.{Full}
 use Rattle.lists.proofs.Ends.{done_none}
-use Rattle.lists.specs.Ends.{changed_of}
 use Rattle.settings.specs.Promise.{got_of, store_refusal, voice_refusal, set_refusal, held_refusal, ChangesTo, ClearSays, SetSays, GetSays, RemoveSays}
 use Rattle.settings.proofs.Refusing.{placed}
 use Rattle.settings.proofs.Places.{place-within, no_place, holding-long, free-place}

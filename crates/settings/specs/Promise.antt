@@ -1,5 +1,5 @@
 -- What the calls promise.
-use Rattle.std.specs.Prelude.{◌≡◌, cond, ◌||◌, List, [], ◌∷◌, ℕ, zero, suc, ltb, length, take}
+use Rattle.std.specs.Prelude.{◌≡◌, cond, ◌||◌, List, ℕ, zero, suc, ltb, length, take}
 use Rattle.lists.specs.Sizes.{most_voices, most_voice}
 use Rattle.lists.specs.Refusals.{or_else}
 use Rattle.lists.specs.Answers.{written}
@@ -7,11 +7,9 @@ use Rattle.lists.specs.Ends.{changed_of, counted_of}
 use Rattle.lists.specs.Firsts.{first_at}
 use Rattle.settings.specs.declared.Settings.{Settings}
 use Rattle.lists.specs.declared.Changed.{Changed}
-use Rattle.lists.specs.declared.Changed.TheVariants.{Done, Refused as Changed-as-Refused}
 use Rattle.settings.specs.declared.Got.{Got}
 use Rattle.settings.specs.declared.Got.TheVariants.{Held, Refused as Got-as-Refused}
 use Rattle.lists.specs.declared.Counted.{Counted}
-use Rattle.lists.specs.declared.Counted.TheVariants.{Number, Refused as Counted-as-Refused}
 use Rattle.settings.specs.Store.{Store, store_settings, store_of, is_held, held_in, settings_at, entries_in}
 use Rattle.settings.specs.Changes.{empty, set_in, remove_in}
 use Rattle.settings.specs.Format.{read_refusal, read_in, bytes_of_file}

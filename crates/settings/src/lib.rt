@@ -1,4 +1,6 @@
 // A store of voices' settings, in two lists that the caller lends. Every content of them has a meaning.
+#![tactic(auto)]
+
 ghost use Rattle.std.specs.Prelude.{◌≡◌, ◌*◌, ◌+◌, ◌<◌, ◌≤◌, length};
 ghost use Rattle.std.proofs.lemmas.List.Edits.{sets};
 ghost use Rattle.lists.specs.Sizes.{most_voices};

@@ -1,5 +1,6 @@
 // Where a trajectory's numbers stand in the spool, and the part of a trajectory that one state has.
 #![tactic(auto)]
+
 ghost use Rattle.std.specs.Prelude.{◌≡◌, ◌*◌, ◌^◌, ◌≤◌, ◌<◌, length};
 ghost use Rattle.spool.specs.Place.{number_of};
 ghost use Rattle.lists.specs.Sizes.{outside};

@@ -1,6 +1,5 @@
 -- Columns of a trajectory: what stands at each place after several are stored side by side.
 use mathlib.Core.Path.{◌≡◌, refl, sym, ap, ◌∙◌}
-use mathlib.Core.Bool.{Bool, cond}
 use mathlib.Core.Logic.{◌≢◌, ⊎_elim}
 use mathlib.Core.List.{List, [], ◌∷◌}
 use Prim.Native.Nat.{ℕ, zero, suc, ◌+◌, ◌-◌, ◌*◌, ◌/◌, ◌%◌, ◌<◌, ◌≤◌}
@@ -12,7 +11,7 @@ use lib.Seq.{get_or-set_same, get_or-set_other}
 use lib.Ieee.{Float, nan}
 use Rattle.lists.specs.Totals.{total}
 use Rattle.lists.specs.Build.{build}
-use Rattle.lists.specs.Frames.{fill, count}
+use Rattle.lists.specs.Frames.{fill}
 use Rattle.lists.proofs.Builds.{build-is}
 use Rattle.lists.proofs.Numbers.{le-or-lt}
 use Rattle.region.specs.Rows.{elem}

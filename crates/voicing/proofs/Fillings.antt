@@ -18,7 +18,7 @@ use Rattle.voicing.specs.Mask.{mask_in}
 use Rattle.voicing.specs.Inner.Fits.{goes_on}
 use Rattle.voicing.specs.Inner.Lanes.{sets_by, sets_lanes}
 use Rattle.voicing.proofs.Masks.{mask_end}
-use Rattle.voicing.proofs.Passes.{Passed, passed_none, passed-fits, passed-run, passed-room, passed-next}
+use Rattle.voicing.proofs.Passes.{Passed, passed_none, passed-fits, passed-run, passed-next}
 
 -- ---- the places of a column: j of d are done, and q is the next
 

@@ -5,7 +5,7 @@ use mathlib.Core.List.{List, [], ◌++◌, append_assoc, append-nil, map}
 use Prim.Native.Nat.{ℕ, ◌+◌, ◌-◌, ◌*◌, ◌<◌, ◌≤◌}
 use native.Mathlib.Nat.{zero-add, add-zero, add-mul, mul_comm}
 use native.Mathlib.Omega.{arith}
-use lib.ListN.{length, take, drop, get_or, replicate}
+use lib.ListN.{length, take, drop, get_or}
 use lib.Ieee.{Float, nan}
 use Rattle.lists.specs.Totals.{total}
 use Rattle.lists.specs.Build.{rows}
@@ -14,11 +14,10 @@ use Rattle.lists.specs.Parts.{part}
 use Rattle.lists.proofs.Counts.{count-all, count_none}
 use Rattle.lists.proofs.Expansions.{expand-length}
 use Rattle.lists.proofs.Joins.{part-joined, part-last}
-use Rattle.lists.proofs.Regions.{cut-length}
 use Rattle.lists.proofs.Rows.{row_fits}
 use Rattle.model.specs.Pair.{ivar_of}
 use Rattle.model.specs.Record.{pair_number}
-use Rattle.region.specs.Region.{Region, ivars_at, rows_at, right_at, factors_at, values_at, size_of, region_in, flat, region_of, each_region}
+use Rattle.region.specs.Region.{ivars_at, rows_at, right_at, factors_at, values_at, size_of, region_in, flat, region_of, each_region}
 use Rattle.region.specs.declared.Layout.{Layout}
 use Rattle.region.specs.declared.Group.{Group}
 use Rattle.region.specs.Inner.Passes.{Across}

@@ -13,10 +13,8 @@ use lib.Seq.{sets, length-take-le, length-sets, drop-length, drop-drop, take-nil
 use lib.Dec.{ltb}
 use lib.Ieee.{Float, nan}
 use Rattle.lists.specs.Totals.{total}
-use Rattle.lists.specs.Build.{build}
 use Rattle.lists.specs.Parts.{part}
 use Rattle.lists.proofs.Builds.{build-is}
-use Rattle.lists.proofs.Expansions.{part_length}
 use Rattle.lists.proofs.Fills.{build-length}
 use Rattle.lists.proofs.Numbers.{le-or-lt}
 use Rattle.lists.proofs.Regions.{returned, lent_filled, read-within}

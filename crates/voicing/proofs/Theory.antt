@@ -14,7 +14,7 @@ use Rattle.model.specs.declared.voice.model.Weight.TheVariants.{Given, Absent}
 use Rattle.model.specs.Weight.{voiced_at}
 use Rattle.model.specs.Record.{from_linear}
 use Rattle.lists.specs.Frames.{expand}
-use Rattle.lists.specs.Flags.{flag, is_on}
+use Rattle.lists.specs.Flags.{flag}
 use Rattle.voicing.specs.Mask.{mask_of, weight_at, weights_of, stream_mask}
 use Rattle.voicing.specs.Boundaries.{lefts, rights}
 use Rattle.lists.proofs.Builds.{build-at}

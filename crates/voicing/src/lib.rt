@@ -1,5 +1,6 @@
 // Which frames of a stream are voiced, and what follows: the voiced frames are closed up for the solver, and their values are filled back.
 #![tactic(auto)]
+
 ghost use Rattle.std.specs.Prelude.{◌≡◌, length};
 ghost use Rattle.voicing.specs.Space.{components_fit, grouped, MarkSays, SwitchesSay, CloseSays, FillSays};
 ghost use Rattle.voicing.specs.Inner.Fits.{pairs_fit};

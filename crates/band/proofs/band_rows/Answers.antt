@@ -8,14 +8,10 @@ use Rattle.band.specs.Promise.{frame_count, set_refusal}
 use Rattle.lists.specs.declared.Filled.TheVariants.{Done}
 use Rattle.lists.proofs.Ends.{passed}
 use Rattle.band.proofs.Ways.{agree, band-narrow, set-taps, band-stops, band_rows-short, band-right-short, band-finished}
-use borrow.Author.Rules.{rules}
 use Rattle.band.proofs.band_rows.Goals as goal
-use Rattle.band.proofs.band_rows.Goals.{After-wide-n, Start}
+use Rattle.band.proofs.band_rows.Goals.{After-wide-n}
 
 module _ (c : After-wide-n) where
-  abbrev entry : Start
-  entry = c.before.before.before.before.before.before.before.before.before.before.before.before
-
   -- nothing of 1, 2, 4 and 5 is given
   ok : (set_refusal c.args.widths.now c.args.coefficients.now (length c.args.means.now) (length c.args.ivars.now) ≡ 0) × (frame_count c.args.widths.now (length c.args.means.now) ≡ c.in-Done.frames)
   ok = passed _ _ _ (sym c.frames_of-framed.ensures ∙ c.in-Done.is)

@@ -1,27 +1,20 @@
 use mathlib.Core.Path.{◌≡◌, sym, subst, ap, ◌∙◌}
 use mathlib.Core.Bool.{true}
-use mathlib.Core.List.{List}
-use Prim.Native.Nat.{ℕ, ◌+◌, ◌-◌, ◌*◌, ◌≤◌}
+use Prim.Native.Nat.{ℕ, ◌+◌, ◌*◌, ◌≤◌}
 use native.Mathlib.Omega.{arith}
 use borrow.Author.Tests.{not-false}
 use lib.ListN.{length}
-use lib.Ieee.{Float}
-use Rattle.region.specs.Region.{size_of, region_in, flat}
-use Rattle.region.specs.declared.Layout.{Layout}
+use Rattle.region.specs.Region.{size_of}
 use Rattle.region.specs.declared.Places.{Places}
-use Rattle.region.proofs.Across.{Passing, passing-none, passing-fits, passing-long, passing-next, passing-done}
-use Rattle.band.specs.Promise.{opens, rowed_in}
+use Rattle.region.proofs.Across.{passing-none, passing-fits, passing-long, passing-next, passing-done}
+use Rattle.band.specs.Promise.{opens}
 use Rattle.band.proofs.Door.{Opened, opened, all-rowed, none-rowed}
-use borrow.Author.Rules.{rules}
 use Rattle.std.proofs.Common.{not}
 use Rattle.band.proofs.calc_rows.Goals as goal
-use Rattle.band.proofs.calc_rows.Goals.{After-places-p, In-loop-l, Start}
+use Rattle.band.proofs.calc_rows.Goals.{After-places-p, In-loop-l}
 
 -- behind the door
 module _ (c : After-places-p) where
-  abbrev entry : Start
-  entry = c.before.before.before.before.before.before.before
-
   open-so : opens c.args.widths.now c.args.coefficients.now c.args.g c.args.lanes (length c.args.work.now) ≡ true
   open-so = sym c.opens.ensures ∙ not-false _ (ap not c.if-not-opens.false)
 

@@ -1,5 +1,4 @@
 use Rattle.band.proofs.Door.{shut-widths, shut-taps, shut-count, shut-narrow, open_last}
-use borrow.Author.Rules.{rules}
 use Rattle.std.proofs.Common.{ap}
 use Rattle.std.proofs.Common.{not}
 use Rattle.band.proofs.opens.Goals as goal

@@ -1,12 +1,9 @@
-use mathlib.Core.Path.{◌≡◌, ◌∙◌}
+use mathlib.Core.Path.{◌≡◌}
 use Prim.Native.Nat.{◌-◌, ◌≤◌}
-use native.Mathlib.Omega.{arith}
-use lib.ListN.{length, length-set}
-use lib.Seq.{set-get_or}
-use lib.Ieee.{nan}
-use borrow.Author.Rules.{rules}
+use lib.ListN.{length}
 use Rattle.band.proofs.settle.Given as goal
 
+-- every number is as it was
 abbrev pub invariant-loop-j : goal.invariant-loop-j
 invariant-loop-j l = (l.j ≤ length l.row) × (length l.row ≡ length l.initial.row) × (l.row ≡ l.initial.row)
 

@@ -1,5 +1,4 @@
 use mathlib.Core.Path.{◌∙◌}
-use borrow.Author.Rules.{rules}
 use Rattle.band.proofs.settled_row.Goals as goal
 
 pub returns : goal.returns

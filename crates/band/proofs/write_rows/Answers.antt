@@ -1,5 +1,4 @@
 use mathlib.Core.Path.{◌≡◌, refl, sym, ◌∙◌}
-use mathlib.Core.List.{◌++◌}
 use Prim.Native.Nat.{◌+◌, ◌-◌, ◌*◌, ◌≤◌}
 use native.Mathlib.Nat.{zero-mul, suc-mul, add-sub_cancel_left}
 use native.Mathlib.Numerals.{add-one}
@@ -16,12 +15,9 @@ use Rattle.band.specs.Paper.{entry_of, right_sum, band_rows, right_side}
 use Rattle.band.proofs.Ways.{row_written}
 use borrow.Author.Rules.{rules}
 use Rattle.band.proofs.write_rows.Goals as goal
-use Rattle.band.proofs.write_rows.Goals.{In-loop-t, Start}
+use Rattle.band.proofs.write_rows.Goals.{In-loop-t}
 
 module _ (c : In-loop-t) where
-  abbrev entry : Start
-  entry = c.before.before.before.before.before.before.before.before.before
-
   -- row t lies within the rows
   fits : c.loop-t.b + c.args.w ≤ length c.loop-t.rows
   fits = let l = c.loop-t in omega (arith, c.requires.1, l.invariant.1, l.invariant.2, row_fits c.args.w l.t c.args.n (omega arith))
@@ -66,7 +62,7 @@ pub offset_bounds-rows-b : goal.offset_bounds-rows-b
 offset_bounds-rows-b c = omega (arith, c.well_formed, fits (goal.at.offset_bounds-rows-b c).In-loop-t)
 
 pub offset_bounds-right-t : goal.offset_bounds-right-t
-offset_bounds-right-t c = let s = entry (goal.at.offset_bounds-right-t c).In-loop-t in omega (arith, s.good, c.requires.2)
+offset_bounds-right-t c = omega (arith, c.well_formed, c.requires.2)
 
 pub bounds-right-t : goal.bounds-right-t
 bounds-right-t c = omega (arith, c.requires.2, c.loop-t.invariant.3)

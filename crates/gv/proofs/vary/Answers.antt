@@ -5,17 +5,13 @@ use borrow.Author.Tests.{not-false}
 use lib.ListN.{length}
 use Rattle.gv.specs.Promise.{opens}
 use Rattle.gv.proofs.Door.{Opened, opened, suited, none-varied, all-varied}
-use borrow.Author.Rules.{rules}
 use Rattle.std.proofs.Common.{ap}
 use Rattle.std.proofs.Common.{not}
 use Rattle.gv.proofs.vary.Goals as goal
-use Rattle.gv.proofs.vary.Goals.{Else-not-opens, Start}
+use Rattle.gv.proofs.vary.Goals.{Else-not-opens}
 
 -- behind the door
 module _ (c : Else-not-opens) where
-  abbrev entry : Start
-  entry = c.before.before.before.before.before.before.before
-
   open-so : opens c.args.g (length c.args.on.now) (length c.args.means.now) (length c.args.varis.now) (length c.args.work.now) ≡ true
   open-so = sym c.opens.ensures ∙ not-false _ (ap not c.if-not-opens.false)
 

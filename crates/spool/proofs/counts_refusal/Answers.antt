@@ -1,5 +1,4 @@
 use mathlib.Core.Path.{sym, ◌∙◌}
-use borrow.Author.Rules.{rules}
 use Rattle.spool.specs.Refusal.Steps.{counts_3, counts-states}
 use Rattle.spool.proofs.counts_refusal.Goals as goal
 

@@ -1,5 +1,4 @@
 use mathlib.Core.Path.{◌≡◌, sym, ap, ◌∙◌}
-use borrow.Author.Rules.{rules}
 use Rattle.spool.specs.Refusal.{states_refusal, frames_refusal}
 use Rattle.spool.specs.Refusal.Steps.{none-few, durations-first, durations-then}
 use lib.ListN.{length}

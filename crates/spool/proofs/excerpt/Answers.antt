@@ -1,7 +1,6 @@
 use mathlib.Core.Path.{refl}
 use Prim.Native.Nat.{◌+◌, ◌≤◌}
 use native.Mathlib.Omega.{arith}
-use borrow.Author.Rules.{rules}
 use lib.ListN.{length}
 use Rattle.spool.proofs.Spans.{span_fits}
 use Rattle.spool.proofs.Ways.{part_says, empty-says}
@@ -32,3 +31,6 @@ returns c =
     let s = c.excerpt_span in
     let a = c.args in
     part_says a.trajectory a.durations.now a.v a.state s.result s.ensures _ _ c.in-Numbers.is _ refl refl
+
+pub slice_bounds-result-end-2 : goal.slice_bounds-result-end-2
+slice_bounds-result-end-2 c = omega (arith, fits (goal.at.slice_bounds-result-end-2 c).In-Numbers)

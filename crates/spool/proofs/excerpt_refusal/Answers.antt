@@ -1,5 +1,4 @@
 use mathlib.Core.Path.{sym}
-use borrow.Author.Rules.{rules}
 use Rattle.spool.proofs.Spans.{span_none, span-refused}
 use Rattle.spool.proofs.excerpt_refusal.Goals as goal
 

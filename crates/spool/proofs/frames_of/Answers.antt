@@ -1,5 +1,4 @@
 use native.Mathlib.Omega.{arith}
-use borrow.Author.Rules.{rules}
 use Rattle.spool.proofs.Sums.{summed}
 use Rattle.spool.proofs.frames_of.Goals as goal
 

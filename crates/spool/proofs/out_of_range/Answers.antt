@@ -1,5 +1,4 @@
 use borrow.Author.Tests.{lt-ltb, le-ltb}
-use Rattle.lists.specs.Sizes.{outside}
 use Rattle.spool.proofs.out_of_range.Goals as goal
 
 pub returns-then-v-lt1 : goal.returns-then-v-lt1

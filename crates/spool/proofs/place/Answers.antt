@@ -2,7 +2,6 @@ use mathlib.Core.Path.{◌≡◌, sym, ◌∙◌}
 use mathlib.Core.Bool.{false}
 use Prim.Native.Nat.{◌≤◌}
 use native.Mathlib.Omega.{arith}
-use borrow.Author.Rules.{rules}
 use Rattle.spool.specs.Place.{place_of}
 use Rattle.lists.specs.Sizes.{outside}
 use Rattle.spool.specs.Refusal.Laws.{in_range, place_3, place_10, place_0}

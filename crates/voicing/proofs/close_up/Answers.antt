@@ -3,14 +3,10 @@ use mathlib.Core.Bool.{◌&&◌}
 use lib.ListN.{length}
 use Rattle.voicing.specs.Space.{closes}
 use Rattle.voicing.proofs.Doors.{closes-both, closes-is, close_shut, close_done}
-use borrow.Author.Rules.{rules}
 use Rattle.voicing.proofs.close_up.Goals as goal
-use Rattle.voicing.proofs.close_up.Goals.{After-pairs_fit, Start}
+use Rattle.voicing.proofs.close_up.Goals.{After-pairs_fit}
 
 module _ (c : After-pairs_fit) where
-  abbrev entry : Start
-  entry = c.before.before.before.before.before.before.before.before
-
   door : let a = c.args in closes a.size a.records.now a.widths.now a.durations.now a.flags.now a.g a.c (length a.work.now) ≡ (c.grouped-lies.result && c.pairs_fit.result)
   door = let a = c.args in closes-both a.size a.records.now a.widths.now a.durations.now a.flags.now a.g a.c _ c.grouped-lies.ensures c.pairs_fit.ensures
 

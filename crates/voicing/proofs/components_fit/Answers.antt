@@ -1,5 +1,4 @@
 use Rattle.voicing.proofs.Doors.{components-is}
-use borrow.Author.Rules.{rules}
 use Rattle.voicing.proofs.components_fit.Goals as goal
 
 pub returns : goal.returns

@@ -9,30 +9,23 @@ use Rattle.lists.specs.Totals.{total}
 use Rattle.voicing.specs.Space.{grouped}
 use Rattle.voicing.specs.Inner.Fits.{Grouped}
 use Rattle.voicing.proofs.Doors.{grouped-is, fill-shut, fill-uneven, fill_done}
-use borrow.Author.Rules.{rules}
 use Rattle.std.proofs.Common.{not}
 use Rattle.voicing.proofs.fill_back.Goals as goal
-use Rattle.voicing.proofs.fill_back.Goals.{After-frames_in, Else-not-grouped, Start}
+use Rattle.voicing.proofs.fill_back.Goals.{After-frames_in, Else-not-grouped}
 
 module _ (c : Else-not-grouped) where
-  abbrev entry : Start
-  entry = c.before.before.before.before.before.before.before
-
   opened : grouped c.args.durations.now c.args.flags.now c.args.g c.args.c (length c.args.work.now) ≡ true
   opened = sym c.grouped.ensures ∙ not-false _ (ap not c.if-not-grouped.false)
 
   fits : Grouped c.args.durations.now c.args.flags.now c.args.g c.args.c (length c.args.work.now)
   fits = grouped-is _ _ _ _ _ opened
 
-abbrev else_not_grouped_of_after_frames_in : After-frames_in → Else-not-grouped
-else_not_grouped_of_after_frames_in c = record { before = c.before.before; type_inv = search rules }
-
 module _ (c : After-frames_in) where
   numbers : c.frames_in.result * c.args.c.v ≡ total c.args.durations.now * c.args.c.v
   numbers = ap (λ (n : ℕ). n * c.args.c.v) c.frames_in.ensures
 
-  few : c.frames_in.result * c.args.c.v ≤ 65536 * 64
-  few = let h : c.frames_in.result ≤ 65536 = omega (arith, c.frames_in.ensures, (fits (else_not_grouped_of_after_frames_in c)).framed.frames) in mul-le-mul h (fits (else_not_grouped_of_after_frames_in c)).most-v
+  few : Grouped c.args.durations.now c.args.flags.now c.args.g c.args.c (length c.args.work.now) → c.frames_in.result * c.args.c.v ≤ 65536 * 64
+  few f = let h : c.frames_in.result ≤ 65536 = omega (arith, c.frames_in.ensures, f.framed.frames) in mul-le-mul h f.most-v
 
 pub returns-then-not-grouped : goal.returns-then-not-grouped
 returns-then-not-grouped c = let a = c.args in fill-shut a.none _ _ a.g a.c a.work.now _ (sym c.grouped.ensures ∙ not-true _ (ap not c.if-not-grouped.true))
@@ -47,7 +40,7 @@ pub frames_in-requires : goal.frames_in-requires
 frames_in-requires c = (fits (goal.at.frames_in-requires c).Else-not-grouped).framed.few
 
 pub overflow_mul-frames_in : goal.overflow_mul-frames_in
-overflow_mul-frames_in c = record { fits = omega (arith, few (goal.at.overflow_mul-frames_in c).After-frames_in) }
+overflow_mul-frames_in c = record { fits = omega (arith, few (goal.at.overflow_mul-frames_in c).After-frames_in (fits (goal.at.overflow_mul-frames_in c).Else-not-grouped)) }
 
 pub fill_group-requires : goal.fill_group-requires
 fill_group-requires c = (fits (goal.at.fill_group-requires c).Else-not-grouped, c.if-out-frames_in.false ∙ numbers (goal.at.fill_group-requires c).After-frames_in)

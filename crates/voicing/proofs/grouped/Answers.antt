@@ -4,7 +4,6 @@ use borrow.Author.Tests.{not-true, not-false}
 use lib.ListN.{length}
 use Rattle.voicing.specs.Space.{flagged}
 use Rattle.voicing.proofs.Doors.{flagged-is}
-use borrow.Author.Rules.{rules}
 use Rattle.std.proofs.Common.{ap}
 use Rattle.std.proofs.Common.{not}
 use Rattle.voicing.proofs.grouped.Goals as goal

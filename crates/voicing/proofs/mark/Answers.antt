@@ -8,16 +8,12 @@ use lib.Seq.{length_front, length-take-le}
 use Rattle.voicing.specs.Space.{marks}
 use Rattle.voicing.specs.Inner.Fits.{Flagged}
 use Rattle.voicing.proofs.Doors.{marks-is, mark-refuses, mark-done}
-use borrow.Author.Rules.{rules}
 use Rattle.std.proofs.Common.{ap}
 use Rattle.std.proofs.Common.{not}
 use Rattle.voicing.proofs.mark.Goals as goal
-use Rattle.voicing.proofs.mark.Goals.{After-frames_in-n, Else-not-flagged-recorded, Start}
+use Rattle.voicing.proofs.mark.Goals.{After-frames_in-n, Else-not-flagged-recorded}
 
 module _ (c : Else-not-flagged-recorded) where
-  abbrev entry : Start
-  entry = c.before.before.before.before.before.before.before
-
   -- the door stands open
   opened : marks c.args.u c.args.records.now c.args.durations.now (length c.args.flags.now) ≡ true
   opened = rw (sym c.flagged.ensures, sym c.has_room-recorded.ensures) (not-false _ (ap not c.if-not-flagged-recorded.false))
@@ -25,11 +21,8 @@ module _ (c : Else-not-flagged-recorded) where
   fits : Flagged c.args.durations.now (length c.args.flags.now) × (length c.args.durations.now * c.args.u.size ≤ length c.args.records.now)
   fits = marks-is c.args.u c.args.records.now c.args.durations.now c.args.flags.now opened
 
-abbrev else_not_flagged_recorded_of_after_frames_in_n : After-frames_in-n → Else-not-flagged-recorded
-else_not_flagged_recorded_of_after_frames_in_n c = record { before = c.before.before; type_inv = search rules }
-
-room : (c : After-frames_in-n) → c.frames_in-n.result ≤ length c.args.flags.now
-room c = omega (arith, c.frames_in-n.ensures, (fits (else_not_flagged_recorded_of_after_frames_in_n c)).0.room)
+room : (c : After-frames_in-n) → Flagged c.args.durations.now (length c.args.flags.now) → c.frames_in-n.result ≤ length c.args.flags.now
+room c f = omega (arith, c.frames_in-n.ensures, f.room)
 
 pub returns-then-not-flagged-recorded : goal.returns-then-not-flagged-recorded
 returns-then-not-flagged-recorded c = let a = c.args in mark-refuses a.u a.records.now a.durations.now a.flags.now (rw (sym c.flagged.ensures, sym c.has_room-recorded.ensures) (not-true _ (ap not c.if-not-flagged-recorded.true)))
@@ -41,10 +34,12 @@ pub frames_in-n-requires : goal.frames_in-n-requires
 frames_in-n-requires c = (fits (goal.at.frames_in-n-requires c).Else-not-flagged-recorded).0.few
 
 pub slice_bounds-mark_states-end-2 : goal.slice_bounds-mark_states-end-2
-slice_bounds-mark_states-end-2 c = sym (length-take-le _ _ (room (goal.at.slice_bounds-mark_states-end-2 c).After-frames_in-n))
+slice_bounds-mark_states-end-2 c = sym (length-take-le _ _ (room (goal.at.slice_bounds-mark_states-end-2 c).After-frames_in-n (fits (goal.at.slice_bounds-mark_states-end-2 c).Else-not-flagged-recorded).0))
 
 pub mark_states-requires : goal.mark_states-requires
-mark_states-requires c = ((fits (goal.at.mark_states-requires c).Else-not-flagged-recorded).1, sym c.frames_in-n.ensures ∙ sym (length-take-le _ _ (room (goal.at.mark_states-requires c).After-frames_in-n)))
+mark_states-requires c =
+    let f = fits (goal.at.mark_states-requires c).Else-not-flagged-recorded in
+    (f.1, sym c.frames_in-n.ensures ∙ sym (length-take-le _ _ (room (goal.at.mark_states-requires c).After-frames_in-n f.0)))
 
 pub count_voiced-requires : goal.count_voiced-requires
 count_voiced-requires c = let f = (fits (goal.at.count_voiced-requires c).Else-not-flagged-recorded).0 in record { few = f.few; frames = f.frames; room = rw (length_front _ _ _ c.mark_states.auto.out) f.room }

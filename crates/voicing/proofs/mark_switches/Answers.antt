@@ -7,16 +7,12 @@ use Rattle.voicing.specs.Space.{flagged}
 use Rattle.voicing.specs.Inner.Fits.{Flagged}
 use Rattle.voicing.proofs.Masks.{mask-voiced}
 use Rattle.voicing.proofs.Doors.{flagged-is, switches-shut, switches-uneven, switches-fit, switches-done}
-use borrow.Author.Rules.{rules}
 use Rattle.std.proofs.Common.{ap}
 use Rattle.std.proofs.Common.{not}
 use Rattle.voicing.proofs.mark_switches.Goals as goal
-use Rattle.voicing.proofs.mark_switches.Goals.{Else-not-flagged, Start}
+use Rattle.voicing.proofs.mark_switches.Goals.{Else-not-flagged}
 
 module _ (c : Else-not-flagged) where
-  abbrev entry : Start
-  entry = c.before.before.before.before.before.before
-
   opened : flagged c.args.durations.now (length c.args.flags.now) ≡ true
   opened = sym c.flagged.ensures ∙ not-false _ (ap not c.if-not-flagged.false)
 

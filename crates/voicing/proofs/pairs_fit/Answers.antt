@@ -1,5 +1,4 @@
 use Rattle.voicing.proofs.Doors.{half_room}
-use borrow.Author.Rules.{rules}
 use Rattle.voicing.proofs.pairs_fit.Goals as goal
 
 pub returns : goal.returns

@@ -1,5 +1,5 @@
 -- What only the contracts of closing up say: one state's pairs at the closed-up places of its frames.
-use Rattle.std.specs.Prelude.{◌≡◌, List, length, get_or, replicate, Float}
+use Rattle.std.specs.Prelude.{◌≡◌, List, get_or, replicate, Float}
 use Prim.Native.Nat.{ℕ, zero, suc, ◌+◌, ◌-◌, ◌*◌, ◌≤◌}
 use Rattle.std.proofs.lemmas.List.Edits.{sets}
 use Rattle.std.specs.Float.{nan}

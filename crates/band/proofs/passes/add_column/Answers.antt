@@ -1,54 +1,35 @@
 use mathlib.Core.Path.{◌≡◌, refl, ap, ◌∙◌}
-use Prim.Native.Nat.{ℕ, ◌+◌, ◌-◌, ◌*◌, ◌<◌, ◌≤◌, min, max}
+use Prim.Native.Nat.{◌+◌, ◌-◌, ◌<◌, ◌≤◌, max}
 use native.Mathlib.Nat.{zero-mul, suc-mul}
 use native.Mathlib.Numerals.{add-one}
 use native.Mathlib.Omega.{arith}
 use lib.ListN.{length, length-set}
 use Rattle.lists.specs.Build.{over}
-use Rattle.band.specs.declared.passes.Block.{Block}
-use Rattle.band.proofs.Runs.{scaled, scaled-next}
+use Rattle.band.proofs.Runs.{scaled-next}
 use Rattle.band.proofs.Columns.{column_at, column_in, row_in-all, column-done}
-use borrow.Author.Rules.{rules}
 use Rattle.band.proofs.passes.add_column.Goals as goal
-use Rattle.band.proofs.passes.add_column.Goals.{After-struct_known-4-1, In-loop-t, Start}
+use Rattle.band.proofs.passes.add_column.Goals.{In-loop-t, Start}
 
--- before the loop
-module _ (c : After-struct_known-4-1) where
-  abbrev entry : Start
-  entry = c.before.before.before.before.before.before.before.before.before.before.before
-
-  abbrev B : Block
-  B = c.args.b
-
-  abbrev to : ℕ
-  to = c.larger-to.result
-
-  to-so : to ≡ max B.from (min B.to (B.n - c.args.j))
-  to-so = c.larger-to.ensures ∙ ap (max B.from) c.least.ensures
-
-  ends : to ≤ B.to
-  ends = omega (arith, to-so, c.requires.2.some)
-
--- the place of column j in row from + t
-place : (s : Start) (t : ℕ) → s.args.b.from + t < s.args.b.to → column_at s.args.taps.now s.args.u s.args.b s.args.j + t * s.args.b.w < s.args.b.right
-place s t h = column_in _ _ s.args.b (length s.args.m.now) s.args.j t s.requires.2 s.requires.0 h
-
+-- the place of column j in the first row
 first : (s : Start) → column_at s.args.taps.now s.args.u s.args.b s.args.j < s.args.b.right
-first s = omega (arith, zero-mul s.args.b.w, place s 0 (omega (arith, s.requires.2.some)))
+first s = omega (arith, zero-mul s.args.b.w, column_in _ _ s.args.b (length s.args.m.now) s.args.j 0 s.requires.2 s.requires.0 (omega (arith, s.requires.2.some)))
 
+-- the places that a turn reads
 module _ (c : In-loop-t) where
-  abbrev q : After-struct_known-4-1
-  q = record { before = c.before.before.before; type_inv = search rules }
+  ends : c.larger-to.result ≤ c.args.b.to
+  ends = omega (arith, c.larger-to.ensures, c.least.ensures, c.requires.2.some)
 
   here : c.loop-t.q < length c.loop-t.m
-  here = omega (arith, c.loop-t.invariant.1, c.loop-t.invariant.2, c.requires.2.fit.room, place (entry q) c.loop-t.t (omega (arith, c.loop-t-test.true, ends q)))
+  here =
+      let k = column_in _ _ c.args.b (length c.args.m.now) c.args.j c.loop-t.t c.requires.2 c.requires.0 (omega (arith, c.loop-t-test.true, ends)) in
+      omega (arith, c.loop-t.invariant.1, c.loop-t.invariant.2, c.requires.2.fit.room, k)
 
   there : c.args.u + c.loop-t.t < length c.loop-t.m
-  there = omega (arith, c.loop-t-test.true, ends q, c.requires.2.pairs, c.requires.2.fit.right-at, c.requires.2.fit.room, c.loop-t.invariant.2)
+  there = omega (arith, c.loop-t-test.true, ends, c.requires.2.pairs, c.requires.2.fit.right-at, c.requires.2.fit.room, c.loop-t.invariant.2)
 
 pub loop-t-init : goal.loop-t-init
 unfolding over
-loop-t-init c = (omega arith, omega (arith, zero-mul (B (goal.at.loop-t-init c).After-struct_known-4-1).w), refl, refl)
+loop-t-init c = (omega arith, omega (arith, zero-mul c.args.b.w), refl, refl)
 
 pub loop-t-preserved : goal.loop-t-preserved
 loop-t-preserved c =
@@ -58,8 +39,8 @@ loop-t-preserved c =
 pub returns : goal.returns
 returns c =
     let l = c.loop-t in
-    let e : l.t ≡ to (goal.at.returns c).After-struct_known-4-1 - (B (goal.at.returns c).After-struct_known-4-1).from = omega (arith, c.loop-t-test.false, l.invariant.0) in
-    column-done c.args.taps.now c.args.u c.args.b c.args.m.now c.requires.2 c.args.j c.requires.0 c.requires.1 (to (goal.at.returns c).After-struct_known-4-1) (to-so (goal.at.returns c).After-struct_known-4-1) _ (rw e at l.invariant.3)
+    let e : l.t ≡ c.larger-to.result - c.args.b.from = omega (arith, c.loop-t-test.false, l.invariant.0) in
+    column-done c.args.taps.now c.args.u c.args.b c.args.m.now c.requires.2 c.args.j c.requires.0 c.requires.1 c.larger-to.result (c.larger-to.ensures ∙ ap (max c.args.b.from) c.least.ensures) _ (rw e at l.invariant.3)
 
 pub overflow_mul-q : goal.overflow_mul-q
 overflow_mul-q c = omega (arith, first (goal.at.overflow_mul-q c).Start)
@@ -68,7 +49,7 @@ pub overflow_add-q : goal.overflow_add-q
 overflow_add-q c = omega (arith, first (goal.at.overflow_add-q c).Start)
 
 pub overflow_add-q-2 : goal.overflow_add-q-2
-overflow_add-q-2 c = omega (arith, first (entry (goal.at.overflow_add-q-2 c).After-struct_known-4-1))
+overflow_add-q-2 c = omega (arith, first (goal.at.overflow_add-q-2 c).Start)
 
 pub offset_bounds-m-q : goal.offset_bounds-m-q
 offset_bounds-m-q c = record { fits = omega (arith, here (goal.at.offset_bounds-m-q c).In-loop-t) }
@@ -92,7 +73,7 @@ pub bounds-m-q-in-loop-t : goal.bounds-m-q-in-loop-t
 bounds-m-q-in-loop-t c = here (goal.at.bounds-m-q-in-loop-t c).In-loop-t
 
 pub overflow_add-q-in-loop-t : goal.overflow_add-q-in-loop-t
-overflow_add-q-in-loop-t c = omega (arith, here (goal.at.overflow_add-q-in-loop-t c).In-loop-t, c.loop-t.invariant.2, row_in-all _ _ (B (goal.at.overflow_add-q-in-loop-t c).After-struct_known-4-1) _ c.requires.2, c.requires.2.fit.room)
+overflow_add-q-in-loop-t c = omega (arith, here (goal.at.overflow_add-q-in-loop-t c).In-loop-t, c.loop-t.invariant.2, row_in-all _ _ c.args.b _ c.requires.2, c.requires.2.fit.room)
 
 pub loop-t-smaller : goal.loop-t-smaller
 loop-t-smaller c = omega (arith, c.loop-t-test.true)

@@ -1,16 +1,11 @@
-use mathlib.Core.Path.{◌≡◌, refl, ap, ◌∙◌}
-use Prim.Native.Nat.{ℕ, ◌+◌, ◌-◌, ◌*◌, ◌<◌, ◌≤◌, min, max}
-use native.Mathlib.Nat.{zero-mul, suc-mul}
-use native.Mathlib.Numerals.{add-one}
-use native.Mathlib.Omega.{arith}
-use lib.ListN.{length, length-set}
+use mathlib.Core.Path.{◌≡◌}
+use Prim.Native.Nat.{◌+◌, ◌-◌, ◌*◌, ◌≤◌}
+use lib.ListN.{length}
 use Rattle.lists.specs.Build.{over}
-use Rattle.band.specs.declared.passes.Block.{Block}
-use Rattle.band.proofs.Runs.{scaled, scaled-next}
-use Rattle.band.proofs.Columns.{column_at, column_in, row_in-all, column-done}
-use borrow.Author.Rules.{rules}
+use Rattle.band.proofs.Runs.{scaled}
 use Rattle.band.proofs.passes.add_column.Given as goal
 
+-- t rows are done
 abbrev pub invariant-loop-t : goal.invariant-loop-t
 invariant-loop-t l = (l.t ≤ l.count) × (l.q ≡ l.initial.q + l.t * l.w) × (length l.m ≡ length l.initial.m) × (l.m ≡ over (scaled l.initial.q l.w l.u l.c l.d) l.t l.initial.m)
 

@@ -1,21 +1,12 @@
-use mathlib.Core.Path.{◌≡◌, refl, sym, subst, ◌∙◌}
-use mathlib.Core.Bool.{false}
-use Prim.Native.Nat.{ℕ, ◌-◌, ◌<◌, ◌≤◌}
+use mathlib.Core.Path.{refl, sym, subst}
 use native.Mathlib.Omega.{arith}
 use lib.ListN.{length}
-use lib.Ieee.{eq}
-use Rattle.floats.specs.Numbers.{nought}
-use Rattle.region.specs.Rows.{elem}
-use Rattle.band.specs.Inner.Passes.{Moved, Ready, still, in_columns, tap_column}
+use Rattle.band.specs.Inner.Passes.{Ready}
 use Rattle.band.proofs.Columns.{columns_none, columns_next, columns_all}
-use borrow.Author.Rules.{rules}
 use Rattle.band.proofs.passes.add_columns.Goals as goal
-use Rattle.band.proofs.passes.add_columns.Goals.{In-loop-j, Start}
+use Rattle.band.proofs.passes.add_columns.Goals.{In-loop-j}
 
 module _ (c : In-loop-j) where
-  abbrev entry : Start
-  entry = c.before.before.before.before.before.before.before.before
-
   ready : Ready c.args.taps.now c.args.u c.args.b (length c.loop-j.m)
   ready = subst (Ready c.args.taps.now c.args.u c.args.b) (sym c.loop-j.invariant.2) c.requires
 

@@ -1,40 +1,26 @@
-use mathlib.Core.Path.{◌≡◌, refl, ap, ◌∙◌}
-use Prim.Native.Nat.{ℕ, ◌+◌, ◌-◌, ◌*◌, ◌<◌, ◌≤◌}
+use mathlib.Core.Path.{◌≡◌, refl, ◌∙◌}
+use Prim.Native.Nat.{◌+◌, ◌-◌, ◌<◌}
 use native.Mathlib.Nat.{zero-mul, suc-mul}
 use native.Mathlib.Numerals.{add-one}
 use native.Mathlib.Omega.{arith}
 use lib.ListN.{length, set, length-set}
-use lib.Seq.{get_or-set_other}
-use lib.Ieee.{nan}
 use Rattle.lists.specs.Build.{over}
-use Rattle.lists.proofs.Orders.{over-step}
-use Rattle.band.specs.declared.passes.Block.{Block}
-use Rattle.band.proofs.Runs.{both, both-next, fused-run}
+use Rattle.band.proofs.Runs.{both-next, fused-run}
 use Rattle.band.proofs.Columns.{column_at, column_in, row_in-all, pair-done}
-use borrow.Author.Rules.{rules}
 use Rattle.band.proofs.passes.add_pair.Goals as goal
 use Rattle.band.proofs.passes.add_pair.Goals.{In-loop-t, Start}
 
-module _ (s : Start) where
-  abbrev B : Block
-  B = s.args.b
+-- the place of column j in the first row
+first : (s : Start) → column_at s.args.taps.now s.args.u s.args.b s.args.j < s.args.b.right
+first s =
+    let k = column_in _ _ s.args.b (length s.args.m.now) s.args.i 0 s.requires.4 s.requires.2 (omega (arith, s.requires.4.some)) in omega (arith, zero-mul s.args.b.w, s.requires.1.behind, k)
 
-  before : s.args.j < s.args.i
-  before = omega (arith, s.requires.1.behind)
-
-  -- the place of column i in row from + t
-  place : (t : ℕ) → B.from + t < B.to → column_at s.args.taps.now s.args.u B s.args.i + t * B.w < B.right
-  place t h = column_in _ _ B (length s.args.m.now) s.args.i t s.requires.4 s.requires.2 h
-
-  first : column_at s.args.taps.now s.args.u B s.args.j < B.right
-  first = omega (arith, zero-mul B.w, before, place 0 (omega (arith, s.requires.4.some)))
-
+-- the places that a turn reads, that of column i the last
 module _ (c : In-loop-t) where
-  abbrev entry : Start
-  entry = c.before.before.before.before.before.before.before.before.before
-
   here : c.loop-t.q + (c.args.i - c.args.j) < length c.loop-t.m
-  here = omega (arith, c.loop-t.invariant.1, c.loop-t.invariant.2, before entry, c.requires.4.fit.room, place entry c.loop-t.t (omega (arith, c.loop-t-test.true)))
+  here =
+      let k = column_in _ _ c.args.b (length c.args.m.now) c.args.i c.loop-t.t c.requires.4 c.requires.2 (omega (arith, c.loop-t-test.true)) in
+      omega (arith, c.loop-t.invariant.1, c.loop-t.invariant.2, c.requires.1.behind, c.requires.4.fit.room, k)
 
   there : c.args.u + c.loop-t.t < length c.loop-t.m
   there = omega (arith, c.loop-t-test.true, c.requires.4.pairs, c.requires.4.fit.right-at, c.requires.4.fit.room, c.loop-t.invariant.2)
@@ -54,10 +40,10 @@ returns c =
     let l = c.loop-t in
     let e : l.t ≡ c.args.b.to - c.args.b.from = omega (arith, c.loop-t-test.false, l.invariant.0) in
     pair-done c.args.taps.now c.args.u c.args.b c.args.m.now _ c.requires.4 c.args.j c.args.i c.requires.1 c.requires.2 c.requires.3 c.requires.0
-    (rw e at l.invariant.3 ∙ fused-run _ (c.args.i - c.args.j) c.args.b.w c.args.u _ _ _ _ (omega (arith, before (goal.at.returns c).Start)) (omega (arith, c.requires.2, c.requires.4.narrow)) (omega (arith, c.requires.4.pairs)) c.args.m.now)
+    (rw e at l.invariant.3 ∙ fused-run _ (c.args.i - c.args.j) c.args.b.w c.args.u _ _ _ _ (omega (arith, c.requires.1.behind)) (omega (arith, c.requires.2, c.requires.4.narrow)) (omega (arith, c.requires.4.pairs)) c.args.m.now)
 
 pub overflow_sub-gap : goal.overflow_sub-gap
-overflow_sub-gap c = omega (arith, before (goal.at.overflow_sub-gap c).Start)
+overflow_sub-gap c = omega (arith, c.requires.1.behind)
 
 pub overflow_mul-q : goal.overflow_mul-q
 overflow_mul-q c = omega (arith, first (goal.at.overflow_mul-q c).Start)

@@ -6,14 +6,10 @@ use Rattle.lists.specs.Build.{over}
 use Rattle.lists.proofs.Orders.{over-step}
 use Rattle.band.specs.Inner.Passes.{Ready}
 use Rattle.band.proofs.Columns.{multiplied, side-done, terms_done}
-use borrow.Author.Rules.{rules}
 use Rattle.band.proofs.passes.add_terms.Goals as goal
-use Rattle.band.proofs.passes.add_terms.Goals.{In-loop-t, Start}
+use Rattle.band.proofs.passes.add_terms.Goals.{In-loop-t}
 
 module _ (c : In-loop-t) where
-  abbrev entry : Start
-  entry = c.before.before.before.before.before.before.before.before
-
   -- the places that a turn reads
   side : c.args.b.right + c.args.b.from + c.loop-t.t < length c.loop-t.m
   side = omega (arith, c.loop-t-test.true, c.loop-t.invariant.1, c.requires.2.fit.most, c.requires.2.fit.room)
@@ -42,7 +38,7 @@ add_columns-requires c =
 
 pub returns : goal.returns
 returns c =
-    let t = c.before.before.before.before.before in let l = c.loop-t in
+    let l = c.loop-t in
     let e : l.t ≡ c.args.b.to - c.args.b.from = omega (arith, c.loop-t-test.false, l.invariant.0) in
     terms_done c.args.taps.now c.args.u c.args.mean c.args.b c.args.m.now c.requires.2 c.requires.1 l.m _
     (side-done c.args.taps.now c.args.u c.args.mean c.args.b c.args.m.now c.requires.2 c.requires.1 l.m (rw e at l.invariant.2)) c.add_columns.ensures

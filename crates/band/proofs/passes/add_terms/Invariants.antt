@@ -1,14 +1,11 @@
-use mathlib.Core.Path.{◌≡◌, refl, sym, ap, subst, ◌∙◌}
-use Prim.Native.Nat.{ℕ, ◌+◌, ◌-◌, ◌<◌, ◌≤◌}
-use native.Mathlib.Omega.{arith}
-use lib.ListN.{length, length-set}
+use mathlib.Core.Path.{◌≡◌}
+use Prim.Native.Nat.{◌-◌, ◌≤◌}
+use lib.ListN.{length}
 use Rattle.lists.specs.Build.{over}
-use Rattle.lists.proofs.Orders.{over-step}
-use Rattle.band.specs.Inner.Passes.{Ready}
-use Rattle.band.proofs.Columns.{multiplied, side-done, terms_done}
-use borrow.Author.Rules.{rules}
+use Rattle.band.proofs.Columns.{multiplied}
 use Rattle.band.proofs.passes.add_terms.Given as goal
 
+-- the right side has the terms of t rows
 abbrev pub invariant-loop-t : goal.invariant-loop-t
 invariant-loop-t l = (l.t ≤ l.count) × (length l.m ≡ length l.initial.m) × (l.m ≡ over (multiplied l.at l.u l.mean l.c) l.t l.initial.m)
 

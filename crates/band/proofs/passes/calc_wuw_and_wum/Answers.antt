@@ -1,18 +1,12 @@
 use mathlib.Core.Path.{◌≡◌, refl}
-use Prim.Native.Nat.{◌-◌, ◌≤◌}
 use native.Mathlib.Omega.{arith}
 use lib.ListN.{length}
-use Rattle.band.specs.Inner.Passes.{Moved, set_in, whole_entry, whole_side}
-use Rattle.band.proofs.Blocks.{block_of, Lies, lies, blocks_none, blocks_next, region-done}
-use borrow.Author.Rules.{rules}
+use Rattle.band.proofs.Blocks.{Lies, lies, blocks_none, blocks_next, region-done}
 use Rattle.band.proofs.passes.calc_wuw_and_wum.Goals as goal
-use Rattle.band.proofs.passes.calc_wuw_and_wum.Goals.{After-small-w, Start}
+use Rattle.band.proofs.passes.calc_wuw_and_wum.Goals.{After-small-w}
 
 -- where the region's lists lie
 module _ (c : After-small-w) where
-  abbrev entry : Start
-  entry = c.before.before.before.before.before.before.before
-
   lie : Lies c.places-p.result (length c.args.widths.now) c.wide-n.result c.small-w.result (length c.args.m.now)
   lie = lies c.args.g _ _ _ _ _ c.places-p.ensures c.requires.1 c.wide-n.ensures c.small-w.ensures c.requires.2
 

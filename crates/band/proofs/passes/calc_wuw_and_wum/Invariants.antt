@@ -1,12 +1,11 @@
-use mathlib.Core.Path.{◌≡◌, refl}
+use mathlib.Core.Path.{◌≡◌}
 use Prim.Native.Nat.{◌-◌, ◌≤◌}
-use native.Mathlib.Omega.{arith}
 use lib.ListN.{length}
 use Rattle.band.specs.Inner.Passes.{Moved, set_in, whole_entry, whole_side}
-use Rattle.band.proofs.Blocks.{block_of, Lies, lies, blocks_none, blocks_next, region-done}
-use borrow.Author.Rules.{rules}
+use Rattle.band.proofs.Blocks.{block_of}
 use Rattle.band.proofs.passes.calc_wuw_and_wum.Given as goal
 
+-- the rows before row `from` are done
 abbrev pub invariant-loop-from : goal.invariant-loop-from
 invariant-loop-from l =
     (l.from ≤ l.n) × (length l.m ≡ length l.initial.m) × Moved (block_of l.p l.n l.w 0 l.from) (whole_entry (set_in l.widths l.coefficients l.p.ivars l.n l.initial.m)) (whole_side (set_in l.widths l.coefficients l.p.ivars l.n l.initial.m)) l.initial.m l.m

@@ -1,5 +1,4 @@
 use Rattle.band.proofs.Blocks.{cleared}
-use borrow.Author.Rules.{rules}
 use Rattle.band.proofs.passes.clear.Goals as goal
 
 pub returns : goal.returns

@@ -1,13 +1,7 @@
-use mathlib.Core.Path.{◌≡◌}
-use mathlib.Core.Bool.{true}
-use Prim.Native.Nat.{ℕ, ◌-◌, ◌<◌, ◌≤◌}
 use native.Mathlib.Omega.{arith}
 use borrow.Author.Count.{below_more}
 use borrow.Author.Tests.{not-true, not-false}
-use lib.ListN.{length}
-use lib.Ieee.{eq, ne}
-use Rattle.floats.specs.Numbers.{nought}
-use Rattle.region.specs.Rows.{elem}
+use lib.Ieee.{ne}
 use borrow.Author.Rules.{rules}
 use Rattle.band.proofs.passes.next_tap.Goals as goal
 

@@ -1,16 +1,13 @@
 use mathlib.Core.Path.{◌≡◌}
 use mathlib.Core.Bool.{true}
 use Prim.Native.Nat.{ℕ, ◌-◌, ◌<◌, ◌≤◌}
-use native.Mathlib.Omega.{arith}
-use borrow.Author.Count.{below_more}
-use borrow.Author.Tests.{not-true, not-false}
 use lib.ListN.{length}
-use lib.Ieee.{eq, ne}
+use lib.Ieee.{eq}
 use Rattle.floats.specs.Numbers.{nought}
 use Rattle.region.specs.Rows.{elem}
-use borrow.Author.Rules.{rules}
 use Rattle.band.proofs.passes.next_tap.Given as goal
 
+-- all before place i are zero
 abbrev pub invariant-loop-i : goal.invariant-loop-i
 invariant-loop-i l = (l.from ≤ l.i) × (l.i ≤ length l.taps) × ((c : ℕ) → c < l.i → l.from ≤ c → eq (elem l.taps c) nought ≡ true)
 

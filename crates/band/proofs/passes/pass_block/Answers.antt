@@ -3,12 +3,8 @@ use Prim.Native.Nat.{◌+◌, ◌*◌, ◌≤◌}
 use native.Mathlib.Omega.{arith}
 use Rattle.band.specs.Inner.Passes.{Room}
 use Rattle.band.proofs.Blocks.{rows_end, rows-cleared, block_done}
-use borrow.Author.Rules.{rules}
 use Rattle.band.proofs.passes.pass_block.Goals as goal
-use Rattle.band.proofs.passes.pass_block.Goals.{After-clear, Start}
-
-abbrev entry : After-clear → Start
-entry c = c.before.before.before.before.before.before.before.before.before.before
+use Rattle.band.proofs.passes.pass_block.Goals.{Start}
 
 -- the block's rows lie before the right side
 ends : (s : Start) → (s.args.b.from * s.args.b.w ≤ s.args.b.to * s.args.b.w) × (s.args.b.rows + s.args.b.to * s.args.b.w ≤ s.args.b.right)

@@ -1,10 +1,8 @@
 use mathlib.Core.Path.{◌≡◌, refl, sym, subst}
-use Prim.Native.Nat.{◌-◌, ◌≤◌}
+use Prim.Native.Nat.{◌-◌}
 use native.Mathlib.Omega.{arith}
-use lib.ListN.{length}
-use Rattle.band.specs.Inner.Passes.{Room, Moved}
-use Rattle.band.proofs.Taps.{entries_to, sides_to, taps-none, taps-next, taps-all}
-use borrow.Author.Rules.{rules}
+use Rattle.band.specs.Inner.Passes.{Room}
+use Rattle.band.proofs.Taps.{taps-none, taps-next, taps-all}
 use Rattle.band.proofs.passes.pass_window.Goals as goal
 
 pub pass_tap-requires : goal.pass_tap-requires

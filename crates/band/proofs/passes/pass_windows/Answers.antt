@@ -1,24 +1,20 @@
 use mathlib.Core.Path.{◌≡◌, refl, sym, subst}
-use Prim.Native.Nat.{◌+◌, ◌-◌, ◌*◌, ◌≤◌}
+use Prim.Native.Nat.{◌+◌, ◌≤◌}
 use native.Mathlib.Nat.{zero-mul, suc-mul}
 use native.Mathlib.Numerals.{add-one}
 use native.Mathlib.Omega.{arith}
-use lib.ListN.{length, get_or, take}
+use lib.ListN.{length, get_or}
 use Rattle.lists.specs.Totals.{total}
 use Rattle.lists.proofs.Rows.{row_fits}
 use Rattle.lists.proofs.Sums.{total-more}
-use Rattle.band.specs.Inner.Passes.{Room, Moved, set_in, windows_entry, windows_side}
+use Rattle.band.specs.Inner.Passes.{Room}
 use Rattle.band.proofs.Windows.{taps_in}
 use Rattle.band.proofs.Blocks.{windows-none, windows-next}
-use borrow.Author.Rules.{rules}
 use Rattle.band.proofs.passes.pass_windows.Goals as goal
-use Rattle.band.proofs.passes.pass_windows.Goals.{In-loop-i, Start}
+use Rattle.band.proofs.passes.pass_windows.Goals.{In-loop-i}
 
 -- window i's taps and frames lie within the lists
 module _ (c : In-loop-i) where
-  abbrev entry : Start
-  entry = c.before.before.before.before.before.before
-
   taps : c.loop-i.o + get_or c.args.widths.now c.loop-i.i 0 ≤ length c.args.coefficients.now
   taps = omega (arith, c.loop-i.invariant.1, taps_in _ _ _ c.requires.0 c.loop-i.i c.loop-i-test.true)
 

@@ -1,18 +1,11 @@
-use mathlib.Core.Path.{◌≡◌, refl, sym, subst}
-use Prim.Native.Nat.{◌+◌, ◌-◌, ◌*◌, ◌≤◌}
-use native.Mathlib.Nat.{zero-mul, suc-mul}
-use native.Mathlib.Numerals.{add-one}
-use native.Mathlib.Omega.{arith}
-use lib.ListN.{length, get_or, take}
+use mathlib.Core.Path.{◌≡◌}
+use Prim.Native.Nat.{◌-◌, ◌*◌, ◌≤◌}
+use lib.ListN.{length, take}
 use Rattle.lists.specs.Totals.{total}
-use Rattle.lists.proofs.Rows.{row_fits}
-use Rattle.lists.proofs.Sums.{total-more}
-use Rattle.band.specs.Inner.Passes.{Room, Moved, set_in, windows_entry, windows_side}
-use Rattle.band.proofs.Windows.{taps_in}
-use Rattle.band.proofs.Blocks.{windows-none, windows-next}
-use borrow.Author.Rules.{rules}
+use Rattle.band.specs.Inner.Passes.{Moved, set_in, windows_entry, windows_side}
 use Rattle.band.proofs.passes.pass_windows.Given as goal
 
+-- i windows are done
 abbrev pub invariant-loop-i : goal.invariant-loop-i
 invariant-loop-i l =
     (l.i ≤ length l.widths) × (l.o ≡ total (take l.i l.widths)) × (l.f ≡ l.i * l.b.n) × (length l.m ≡ length l.initial.m)

@@ -1,5 +1,4 @@
 use Rattle.band.proofs.Taps.{stands}
-use borrow.Author.Rules.{rules}
 use Rattle.band.proofs.passes.standing.Goals as goal
 
 pub returns : goal.returns

@@ -1,5 +1,4 @@
 use Rattle.band.proofs.Terms.{frame-zero, frame_row, frame_right}
-use borrow.Author.Rules.{rules}
 use Rattle.band.proofs.row.add_frame.Goals as goal
 
 pub returns-then-c : goal.returns-then-c

@@ -1,12 +1,5 @@
-use mathlib.Core.Path.{◌≡◌}
-use mathlib.Core.List.{◌++◌}
-use Prim.Native.Nat.{◌≤◌, ◌-◌}
 use native.Mathlib.Omega.{arith}
-use lib.ListN.{length, get_or, drop}
 use Rattle.lists.specs.Build.{build}
-use Rattle.floats.specs.Numbers.{nought}
-use Rattle.region.specs.Rows.{elem}
-use Rattle.band.specs.Paper.{plus_term}
 use Rattle.band.proofs.Terms.{add-next, add_done}
 use borrow.Author.Rules.{rules}
 use Rattle.band.proofs.row.add_taps.Goals as goal

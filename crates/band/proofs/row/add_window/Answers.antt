@@ -1,8 +1,5 @@
-use mathlib.Core.Path.{◌≡◌}
-use Prim.Native.Nat.{◌+◌, ◌-◌, ◌/◌, ◌≤◌, min}
 use native.Mathlib.Omega.{arith}
-use lib.ListN.{length}
-use Rattle.band.proofs.Windows.{Added, added-first, added_next, added-last}
+use Rattle.band.proofs.Windows.{added-first, added_next, added-last}
 use borrow.Author.Rules.{rules}
 use Rattle.band.proofs.row.add_window.Goals as goal
 

@@ -11,7 +11,7 @@ pub switched_sum-requires : goal.switched_sum-requires
 switched_sum-requires c = let k = sampled c.args.on.now c.args.self _ c.requires in (k.0, k.1, k.2)
 
 pub squares_sum-requires : goal.squares_sum-requires
-squares_sum-requires c = switched-sum-requires c.before κs
+squares_sum-requires c = let k = sampled c.args.on.now c.args.self _ c.requires in (k.0, k.1, k.2)
 
 pub returns : goal.returns
 unfolding mean_of vari_of

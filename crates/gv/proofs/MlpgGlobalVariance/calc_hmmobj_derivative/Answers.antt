@@ -1,19 +1,17 @@
 use native.Mathlib.Omega.{arith}
-use borrow.Author.Tests.{leb-true}
 use Rattle.gv.proofs.Grading.{graded-none, graded-all}
-use borrow.Author.Rules.{rules}
 use Rattle.gv.proofs.MlpgGlobalVariance.calc_hmmobj_derivative.Goals as goal
 
 pub rows_by_entries-first-requires : goal.rows_by_entries-first-requires
 rows_by_entries-first-requires c =
-    (c.requires.some, c.requires.narrow, c.requires.spaced, omega arith, omega (arith, leb-true 5 c.args.self.length c.if-n-ge5.true))
+    (c.requires.some, c.requires.narrow, c.requires.spaced, omega arith, omega (arith, c.if-n-ge5.true))
 
 pub inner_rows_of_three-inner-requires : goal.inner_rows_of_three-inner-requires
 inner_rows_of_three-inner-requires c =
-    (omega (arith, leb-true 5 c.args.self.length c.if-n-ge5.true), rw (c.rows_by_entries-first.auto.m, ← c.if-w-eq3.true) c.requires.spaced)
+    (omega (arith, c.if-n-ge5.true), rw (c.rows_by_entries-first.auto.m, ← c.if-w-eq3.true) c.requires.spaced)
 
 pub overflow_sub-n : goal.overflow_sub-n
-overflow_sub-n c = omega (arith, leb-true 5 c.args.self.length c.if-n-ge5.true)
+overflow_sub-n c = omega (arith, c.if-n-ge5.true)
 
 pub returns-then-n-ge5 : goal.returns-then-n-ge5
 returns-then-n-ge5 c =

@@ -1,6 +1,5 @@
 use Rattle.gv.specs.Gv.{conv_gv}
 use Rattle.gv.proofs.Switched.{sampled}
-use borrow.Author.Rules.{rules}
 use Rattle.gv.proofs.MlpgGlobalVariance.conv_gv.Goals as goal
 
 pub rescale-requires : goal.rescale-requires

@@ -1,12 +1,10 @@
-use mathlib.Core.Path.{◌≡◌, refl, ◌∙◌}
+use mathlib.Core.Path.{◌≡◌}
 use mathlib.Core.List.{map}
 use Prim.Native.Nat.{◌-◌, ◌≤◌}
-use native.Mathlib.Omega.{arith}
 use lib.ListN.{length}
 use Rattle.lists.specs.Flags.{is_on}
 use Rattle.gv.specs.Inner.Turns.{lists_in}
-use Rattle.gv.proofs.Turns.{lists-factors, lists-values, Turning, turning_none, turning_next}
-use borrow.Author.Rules.{rules}
+use Rattle.gv.proofs.Turns.{Turning}
 use Rattle.gv.proofs.MlpgGlobalVariance.five_turns.Given as goal
 
 abbrev pub invariant-loop-k : goal.invariant-loop-k

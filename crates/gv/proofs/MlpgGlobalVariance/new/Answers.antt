@@ -1,5 +1,4 @@
 use Rattle.gv.proofs.Switched.{bools-length}
-use borrow.Author.Rules.{rules}
 use Rattle.gv.proofs.MlpgGlobalVariance.new.Goals as goal
 
 pub returns : goal.returns
@@ -8,5 +7,4 @@ returns c = record {
   width = c.small-width.ensures;
   length = c.requires;
   counted = record { frames = bools-length c.args.on.now; number = c.count_on-switched.ensures; begin = c.first_on-first.ensures };
-
 }

@@ -1,12 +1,9 @@
 use mathlib.Core.Path.{◌≡◌, refl}
 use mathlib.Core.List.{map}
-use Prim.Native.Nat.{◌-◌, ◌≤◌}
 use native.Mathlib.Omega.{arith}
-use lib.ListN.{length, length-set}
-use lib.Seq.{sets}
+use lib.ListN.{length-set}
 use Rattle.lists.specs.Build.{build}
 use Rattle.lists.specs.Flags.{is_on}
-use Rattle.gv.specs.Inner.Turns.{moved_in}
 use Rattle.gv.proofs.Turns.{step-next}
 use borrow.Author.Rules.{rules}
 use Rattle.gv.proofs.MlpgGlobalVariance.next_step.Goals as goal

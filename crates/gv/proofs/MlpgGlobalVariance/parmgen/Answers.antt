@@ -6,17 +6,16 @@ use Rattle.lists.specs.Frames.{count}
 use Rattle.lists.specs.Flags.{is_on}
 use Rattle.lists.proofs.Expansions.{part_length}
 use Rattle.gv.proofs.Turns.{rescaled-long, five-turned}
-use borrow.Author.Rules.{rules}
 use Rattle.gv.proofs.MlpgGlobalVariance.parmgen.Goals as goal
 
 pub returns-then-self-eq0 : goal.returns-then-self-eq0
 returns-then-self-eq0 c = rw (eq-eqb (count (map is_on c.args.on.now)) 0 (sym c.requires.1.number ∙ c.if-self-eq0.true))
 
 pub overflow_add-values_end : goal.overflow_add-values_end
-overflow_add-values_end c = let s = c.before.before.before.before.before in omega (arith, s.well_formed, c.requires.0.spaced)
+overflow_add-values_end c = omega (arith, c.well_formed, c.requires.0.spaced)
 
 pub offset_bounds-m-values : goal.offset_bounds-m-values
-offset_bounds-m-values c = let s = c.before.before.before.before.before in omega (arith, s.well_formed, c.requires.0.spaced)
+offset_bounds-m-values c = omega (arith, c.well_formed, c.requires.0.spaced)
 
 pub slice_bounds-conv_gv-end : goal.slice_bounds-conv_gv-end
 slice_bounds-conv_gv-end c = c.requires.0.spaced.room
@@ -28,10 +27,10 @@ conv_gv-requires c =
 pub five_turns-requires : goal.five_turns-requires
 five_turns-requires c =
     let a = c.args in
-    (rw (rescaled-long a.self a.p (map is_on a.on.now) a.gv-mean a.gv-vari a.m.now c.requires.0 _ c.conv_gv.ensures) c.requires.0, c.requires.1, omega (arith, c.if-self-eq0.false))
+    (rw (rescaled-long a.self a.p (map is_on a.on.now) a.gv_mean a.gv_vari a.m.now c.requires.0 _ c.conv_gv.ensures) c.requires.0, c.requires.1, omega (arith, c.if-self-eq0.false))
 
 pub returns : goal.returns
 returns c =
     let a = c.args in
     rw (ne_eqb (count (map is_on a.on.now)) 0 (rw c.requires.1.number at c.if-self-eq0.false))
-    (five-turned a.self a.p (map is_on a.on.now) a.gv-mean a.gv-vari a.m.now c.requires.0 _ c.conv_gv.ensures _ c.five_turns.ensures)
+    (five-turned a.self a.p (map is_on a.on.now) a.gv_mean a.gv_vari a.m.now c.requires.0 _ c.conv_gv.ensures _ c.five_turns.ensures)

@@ -1,21 +1,11 @@
-use mathlib.Core.Path.{◌≡◌}
-use mathlib.Core.List.{map}
-use Prim.Native.Nat.{◌+◌, ◌-◌, ◌≤◌}
+use Prim.Native.Nat.{◌+◌, ◌≤◌}
 use native.Mathlib.Omega.{arith}
 use lib.ListN.{length}
-use lib.Ieee.{binary64, mul}
-use Rattle.lists.specs.Flags.{is_on}
-use Rattle.region.specs.Rows.{elem}
-use Rattle.region.proofs.Across.{Passing, passing-none, passing-fits, passing-long, passing-next, passing-done}
-use Rattle.gv.specs.Inner.Turns.{lists_in, parmgen_in}
-use borrow.Author.Rules.{rules}
+use Rattle.region.proofs.Across.{passing-none, passing-fits, passing-long, passing-next, passing-done}
 use Rattle.gv.proofs.MlpgGlobalVariance.parmgen_each.Goals as goal
-use Rattle.gv.proofs.MlpgGlobalVariance.parmgen_each.Goals.{In-loop-l, Start}
+use Rattle.gv.proofs.MlpgGlobalVariance.parmgen_each.Goals.{In-loop-l}
 
 module _ (c : In-loop-l) where
-  abbrev entry : Start
-  entry = c.before.before.before.before.before.before.before
-
   -- the region lies within the list
   fits : c.loop-l.o + c.args.p.size ≤ length c.loop-l.work
   fits = passing-fits c.loop-l.invariant c.loop-l-test.true
@@ -26,7 +16,7 @@ parmgen-requires c = (rw (passing-long c.loop-l.invariant c.loop-l-test.true) c.
 pub loop-l-preserved : goal.loop-l-preserved
 loop-l-preserved c =
     let r = c.parmgen in
-    passing-next c.loop-l.invariant c.loop-l-test.true _ r.auto.1.0 r.ensures
+    passing-next c.loop-l.invariant c.loop-l-test.true _ r.auto.m r.ensures
 
 pub loop-l-init : goal.loop-l-init
 loop-l-init c = passing-none c.requires.3

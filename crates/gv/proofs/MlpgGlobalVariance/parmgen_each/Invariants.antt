@@ -1,14 +1,11 @@
 use mathlib.Core.Path.{◌≡◌}
 use mathlib.Core.List.{map}
-use Prim.Native.Nat.{◌+◌, ◌-◌, ◌≤◌}
-use native.Mathlib.Omega.{arith}
-use lib.ListN.{length}
+use Prim.Native.Nat.{◌-◌}
 use lib.Ieee.{binary64, mul}
 use Rattle.lists.specs.Flags.{is_on}
 use Rattle.region.specs.Rows.{elem}
-use Rattle.region.proofs.Across.{Passing, passing-none, passing-fits, passing-long, passing-next, passing-done}
+use Rattle.region.proofs.Across.{Passing}
 use Rattle.gv.specs.Inner.Turns.{lists_in, parmgen_in}
-use borrow.Author.Rules.{rules}
 use Rattle.gv.proofs.MlpgGlobalVariance.parmgen_each.Given as goal
 
 abbrev pub invariant-loop-l : goal.invariant-loop-l

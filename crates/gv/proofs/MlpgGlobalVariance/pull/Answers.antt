@@ -1,7 +1,6 @@
 use native.Mathlib.Nat.{mul-le-mul_right}
 use native.Mathlib.Omega.{arith}
 use Rattle.floats.proofs.Casts.{exact}
-use borrow.Author.Rules.{rules}
 use Rattle.gv.proofs.MlpgGlobalVariance.pull.Goals as goal
 
 pub int_to_float-dv : goal.int_to_float-dv

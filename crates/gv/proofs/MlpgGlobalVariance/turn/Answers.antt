@@ -8,7 +8,6 @@ use Rattle.lists.proofs.Counts.{count_most}
 use Rattle.lists.proofs.Expansions.{part_length}
 use Rattle.gv.proofs.Switched.{bools-length}
 use Rattle.gv.proofs.Turns.{turned}
-use borrow.Author.Rules.{rules}
 use Rattle.gv.proofs.MlpgGlobalVariance.turn.Goals as goal
 
 pub calc_gv-gv-requires : goal.calc_gv-gv-requires
@@ -28,5 +27,5 @@ returns c =
     let a = c.args in
     let moments = rw (add-sub_cancel_left a.p.values a.self.length) at c.calc_gv-gv.ensures in
     let hmm = c.calc_hmmobj_derivative-hmm in
-    turned a.self a.p a.m.now c.requires.0 _ hmm.ensures.0 (map is_on a.on.now) a.gv-mean a.gv-vari _ _ _ _ c.pull-pull.ensures _ _ _ a.s.step a.s.prev _ c.next_step.ensures
+    turned a.self a.p a.m.now c.requires.0 _ hmm.ensures.0 (map is_on a.on.now) a.gv_mean a.gv_vari _ _ _ _ c.pull-pull.ensures _ _ _ a.s.step a.s.prev _ c.next_step.ensures
     moments.0 moments.1 hmm.ensures.1 (ap (λ (x : Float). neg (add binary64 hmm.result x)) c.gv_obj.ensures) c.size_after-step.ensures refl

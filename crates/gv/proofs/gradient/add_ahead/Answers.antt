@@ -4,7 +4,6 @@ use borrow.Author.Tests.{lt-ltb, le-ltb}
 use lib.ListN.{length}
 use Rattle.lists.proofs.Rows.{row_fits}
 use Rattle.gv.specs.Gv.{plus_right}
-use borrow.Author.Rules.{rules}
 use Rattle.gv.proofs.gradient.add_ahead.Goals as goal
 
 pub at-requires : goal.at-requires

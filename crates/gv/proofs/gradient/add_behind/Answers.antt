@@ -4,7 +4,6 @@ use borrow.Author.Tests.{le-leb, lt-leb}
 use lib.ListN.{length}
 use Rattle.lists.proofs.Rows.{row_fits}
 use Rattle.gv.specs.Gv.{plus_left}
-use borrow.Author.Rules.{rules}
 use Rattle.gv.proofs.gradient.add_behind.Goals as goal
 
 pub at-requires : goal.at-requires

@@ -1,5 +1,4 @@
 use mathlib.Core.Path.{refl}
-use borrow.Author.Rules.{rules}
 use Rattle.gv.proofs.gradient.add_row.Goals as goal
 
 pub returns : goal.returns

@@ -2,7 +2,6 @@ use Prim.Native.Nat.{◌*◌}
 use native.Mathlib.Nat.{le_refl, add-sub_cancel_left}
 use native.Mathlib.Omega.{arith}
 use Rattle.lists.proofs.Expansions.{part_length}
-use borrow.Author.Rules.{rules}
 use Rattle.gv.proofs.gradient.gradient_at.Goals as goal
 
 pub gradient_by_entries-requires : goal.gradient_by_entries-requires

@@ -1,14 +1,9 @@
 use mathlib.Core.Path.{◌≡◌}
 use Prim.Native.Nat.{◌-◌, ◌≤◌}
-use native.Mathlib.Omega.{arith}
-use lib.ListN.{length}
 use lib.Ieee.{binary64, mul}
-use Rattle.lists.proofs.Rows.{row_fits}
 use Rattle.lists.specs.Build.{over}
 use Rattle.region.specs.Rows.{elem, entry}
-use Rattle.gv.specs.Gv.{beside, gradient_at}
-use Rattle.gv.proofs.Grading.{beside-next}
-use borrow.Author.Rules.{rules}
+use Rattle.gv.specs.Gv.{beside}
 use Rattle.gv.proofs.gradient.gradient_by_entries.Given as goal
 
 abbrev pub invariant-loop-k : goal.invariant-loop-k

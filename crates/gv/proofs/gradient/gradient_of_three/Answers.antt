@@ -1,5 +1,4 @@
 use Rattle.gv.proofs.Three.{three-gradient}
-use borrow.Author.Rules.{rules}
 use Rattle.gv.proofs.gradient.gradient_of_three.Goals as goal
 
 pub returns : goal.returns

@@ -1,10 +1,7 @@
 use mathlib.Core.Path.{◌≡◌, refl, ◌∙◌}
-use mathlib.Core.List.{List}
-use Prim.Native.Nat.{◌-◌, ◌≤◌}
+use Prim.Native.Nat.{◌-◌}
 use native.Mathlib.Omega.{arith}
 use lib.ListN.{length}
-use lib.Ieee.{Float}
-use Rattle.gv.specs.Inner.Turns.{Graded}
 use Rattle.gv.proofs.Grading.{graded-next}
 use borrow.Author.Rules.{rules}
 use Rattle.gv.proofs.gradient.inner_rows_of_three.Goals as goal
@@ -18,7 +15,7 @@ loop-t-preserved c =
     let q = c.requires in
     let l = c.loop-t in
     let r = c.add_row-sum in
-    (search rules, search rules, r.auto.0 ∙ l.invariant.2, λ d k. graded-next s.p s.n 3 (length s.m.now) (omega arith) q.1 s.weight d l.m _ l.t l.sum _ _ (omega arith) c.gradient_of_three-g.ensures r.ensures.0 r.ensures.1 (l.invariant.3 d k))
+    (search rules, search rules, r.auto.m ∙ l.invariant.2, λ d k. graded-next s.p s.n 3 (length s.m.now) (omega arith) q.1 s.weight d l.m _ l.t l.sum _ _ (omega arith) c.gradient_of_three-g.ensures r.ensures.0 r.ensures.1 (l.invariant.3 d k))
 
 pub returns : goal.returns
 returns c = let e : c.loop-t.t ≡ c.args.n - 2 = omega arith in λ d k. rw e at (c.loop-t.invariant.3 d k)

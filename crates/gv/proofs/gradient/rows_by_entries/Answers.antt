@@ -1,11 +1,7 @@
 use mathlib.Core.Path.{◌≡◌, refl, ◌∙◌}
-use mathlib.Core.List.{List}
-use Prim.Native.Nat.{◌-◌, ◌≤◌}
 use native.Mathlib.Nat.{mul-le-mul_left}
 use native.Mathlib.Omega.{arith}
 use lib.ListN.{length}
-use lib.Ieee.{Float}
-use Rattle.gv.specs.Inner.Turns.{Graded}
 use Rattle.gv.proofs.Grading.{graded-next}
 use borrow.Author.Rules.{rules}
 use Rattle.gv.proofs.gradient.rows_by_entries.Goals as goal
@@ -22,7 +18,7 @@ loop-t-preserved c =
     let q = c.requires in
     let l = c.loop-t in
     let r = c.add_row-sum in
-    (search rules, r.auto.0 ∙ l.invariant.1, λ d k. graded-next s.p s.n s.w (length s.m.now) q.0 q.2 s.weight d l.m _ l.t l.sum _ _ (omega arith) c.gradient_at-g.ensures r.ensures.0 r.ensures.1 (l.invariant.2 d k))
+    (search rules, r.auto.m ∙ l.invariant.1, λ d k. graded-next s.p s.n s.w (length s.m.now) q.0 q.2 s.weight d l.m _ l.t l.sum _ _ (omega arith) c.gradient_at-g.ensures r.ensures.0 r.ensures.1 (l.invariant.2 d k))
 
 pub returns : goal.returns
 returns c = let e : c.loop-t.t ≡ c.args.end = omega arith in λ d k. rw e at (c.loop-t.invariant.2 d k)

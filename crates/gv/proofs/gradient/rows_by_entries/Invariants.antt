@@ -1,13 +1,9 @@
-use mathlib.Core.Path.{◌≡◌, refl, ◌∙◌}
+use mathlib.Core.Path.{◌≡◌}
 use mathlib.Core.List.{List}
 use Prim.Native.Nat.{◌-◌, ◌≤◌}
-use native.Mathlib.Nat.{mul-le-mul_left}
-use native.Mathlib.Omega.{arith}
 use lib.ListN.{length}
 use lib.Ieee.{Float}
 use Rattle.gv.specs.Inner.Turns.{Graded}
-use Rattle.gv.proofs.Grading.{graded-next}
-use borrow.Author.Rules.{rules}
 use Rattle.gv.proofs.gradient.rows_by_entries.Given as goal
 
 abbrev pub invariant-loop-t : goal.invariant-loop-t

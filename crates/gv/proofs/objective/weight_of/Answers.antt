@@ -1,7 +1,6 @@
 use native.Mathlib.Nat.{mul-le-mul_right}
 use native.Mathlib.Omega.{arith}
 use Rattle.floats.proofs.Casts.{exact}
-use borrow.Author.Rules.{rules}
 use Rattle.gv.proofs.objective.weight_of.Goals as goal
 
 pub overflow_mul-result : goal.overflow_mul-result

@@ -1,4 +1,3 @@
-use borrow.Author.Rules.{rules}
 use Rattle.gv.proofs.switches.add_square.Goals as goal
 
 pub returns-then-is_switched : goal.returns-then-is_switched

@@ -1,10 +1,5 @@
-use mathlib.Core.Path.{◌≡◌, sym, ◌∙◌}
-use mathlib.Core.List.{map}
-use Prim.Native.Nat.{◌+◌, ◌-◌, ◌≤◌}
+use mathlib.Core.Path.{sym, ◌∙◌}
 use native.Mathlib.Omega.{arith}
-use lib.ListN.{length, drop}
-use Rattle.lists.specs.Frames as frames
-use Rattle.lists.specs.Flags.{is_on}
 use Rattle.gv.proofs.Switched as laws
 use borrow.Author.Rules.{rules}
 use Rattle.gv.proofs.switches.count_on.Goals as goal

@@ -1,12 +1,9 @@
-use mathlib.Core.Path.{◌≡◌, sym, ◌∙◌}
+use mathlib.Core.Path.{◌≡◌}
 use mathlib.Core.List.{map}
 use Prim.Native.Nat.{◌+◌, ◌-◌, ◌≤◌}
-use native.Mathlib.Omega.{arith}
 use lib.ListN.{length, drop}
 use Rattle.lists.specs.Frames as frames
 use Rattle.lists.specs.Flags.{is_on}
-use Rattle.gv.proofs.Switched as laws
-use borrow.Author.Rules.{rules}
 use Rattle.gv.proofs.switches.count_on.Given as goal
 
 abbrev pub invariant-loop-t : goal.invariant-loop-t

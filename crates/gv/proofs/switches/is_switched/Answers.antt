@@ -1,5 +1,4 @@
 use Rattle.gv.proofs.Switched.{switch_on, switch_off}
-use borrow.Author.Rules.{rules}
 use Rattle.gv.proofs.switches.is_switched.Goals as goal
 
 pub returns-then-on-t-eq0 : goal.returns-then-on-t-eq0

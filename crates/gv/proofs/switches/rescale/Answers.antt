@@ -1,8 +1,7 @@
 use mathlib.Core.Path.{◌≡◌}
-use mathlib.Core.List.{◌++◌, map}
-use Prim.Native.Nat.{◌-◌, ◌≤◌}
+use mathlib.Core.List.{map}
 use native.Mathlib.Omega.{arith}
-use lib.ListN.{length, drop}
+use lib.ListN.{length}
 use lib.Ieee.{nan}
 use Rattle.lists.specs.Build.{build}
 use Rattle.lists.specs.Flags.{is_on}

@@ -1,14 +1,10 @@
 use mathlib.Core.Path.{◌≡◌}
 use mathlib.Core.List.{◌++◌, map}
 use Prim.Native.Nat.{◌-◌, ◌≤◌}
-use native.Mathlib.Omega.{arith}
 use lib.ListN.{length, drop}
-use lib.Ieee.{nan}
 use Rattle.lists.specs.Build.{build}
 use Rattle.lists.specs.Flags.{is_on}
-use Rattle.lists.proofs.Fills.{build-next, build-read, build-done}
 use Rattle.gv.specs.Gv.{conv_at}
-use borrow.Author.Rules.{rules}
 use Rattle.gv.proofs.switches.rescale.Given as goal
 
 abbrev pub invariant-loop-t : goal.invariant-loop-t

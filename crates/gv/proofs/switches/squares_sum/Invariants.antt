@@ -1,9 +1,7 @@
 use Prim.Native.Nat.{◌-◌}
-use native.Mathlib.Omega.{arith}
 use lib.ListN.{length}
 use Rattle.gv.specs.Gv.{squared}
-use Rattle.gv.proofs.Switched.{Summing, summing_first, summing_next, summing_done}
-use borrow.Author.Rules.{rules}
+use Rattle.gv.proofs.Switched.{Summing}
 use Rattle.gv.proofs.switches.squares_sum.Given as goal
 
 abbrev pub invariant-loop-t : goal.invariant-loop-t

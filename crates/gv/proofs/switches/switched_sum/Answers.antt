@@ -1,9 +1,6 @@
-use Prim.Native.Nat.{◌-◌}
 use native.Mathlib.Omega.{arith}
-use lib.ListN.{length}
 use lib.Ieee.{Float}
-use Rattle.gv.proofs.Switched.{Summing, summing_first, summing_next, summing_done}
-use borrow.Author.Rules.{rules}
+use Rattle.gv.proofs.Switched.{summing_first, summing_next, summing_done}
 use Rattle.gv.proofs.switches.switched_sum.Goals as goal
 
 pub loop-t-init : goal.loop-t-init

@@ -1,15 +1,6 @@
-use mathlib.Core.Path.{◌≡◌, sym, ◌∙◌}
-use mathlib.Core.Bool.{true}
-use Prim.Native.Nat.{◌+◌, ◌-◌, ◌*◌, ◌<◌, ◌≤◌}
-use native.Mathlib.Omega.{arith}
+use Prim.Native.Nat.{◌-◌}
 use lib.ListN.{length}
-use Rattle.lists.specs.Totals.{total}
-use Rattle.lists.proofs.Counts.{count-all}
-use Rattle.lists.proofs.Rows.{row_fits}
-use Rattle.voicing.specs.Inner.Fits.{goes_on}
-use Rattle.voicing.proofs.Passes.{passed-fits, passed-few}
-use Rattle.voicing.proofs.Groups.{Planned, planned, Gathering, gathering, gathering_unvoiced, gathering-ends, gathering-state, gathering-next, gathered}
-use borrow.Author.Rules.{rules}
+use Rattle.voicing.proofs.Groups.{Gathering}
 use Rattle.voicing.proofs.closing.close_group.Given as goal
 
 abbrev pub invariant-loop-s : goal.invariant-loop-s

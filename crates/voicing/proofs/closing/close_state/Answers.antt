@@ -1,22 +1,18 @@
 use mathlib.Core.Path.{◌≡◌, refl, ◌∙◌}
-use Prim.Native.Nat.{◌+◌, ◌-◌, ◌*◌, ◌≤◌}
+use Prim.Native.Nat.{◌+◌, ◌≤◌}
 use native.Mathlib.Nat.{suc-mul, zero-mul}
 use native.Mathlib.Numerals.{add-one}
 use native.Mathlib.Omega.{arith}
 use lib.ListN.{length}
-use Rattle.region.specs.Inner.Passes.{Across}
 use Rattle.region.proofs.Across.{across-none, across-then}
 use Rattle.voicing.specs.Inner.States.{put_pairs}
 use Rattle.voicing.proofs.States.{window-read, means-room, ivars-room, put_next}
 use borrow.Author.Rules.{rules}
 use Rattle.voicing.proofs.closing.close_state.Goals as goal
-use Rattle.voicing.proofs.closing.close_state.Goals.{In-loop-i, Start}
+use Rattle.voicing.proofs.closing.close_state.Goals.{In-loop-i}
 
 -- window i's numbers are in the state's record, and there is room for them
 module _ (c : In-loop-i) where
-  abbrev entry : Start
-  entry = c.before.before.before.before.before.before
-
   reads : c.loop-i.from + c.args.p.half + c.args.p.lanes ≤ length c.args.records.now
   reads = omega (arith, c.loop-i.invariant.1, window-read c.requires c.loop-i.i c.loop-i-test.true)
 
@@ -29,7 +25,6 @@ loop-i-init c = (search rules, rw zero-mul (omega arith), rw zero-mul (omega ari
 
 pub close_window-requires : goal.close_window-requires
 close_window-requires c =
-    let i = c.before.before in
     let s = c.requires in
     let l = c.loop-i in
     rw c.ends_of-e.ensures (reads (goal.at.close_window-requires c).In-loop-i, omega (arith, next (goal.at.close_window-requires c).In-loop-i, s.voiced), omega (arith, l.invariant.2, ivars-room s l.i c.loop-i-test.true), omega (arith, l.invariant.3.long, s.room))
@@ -46,13 +41,13 @@ loop-i-preserved c =
     )
 
 pub overflow_add-from : goal.overflow_add-from
-overflow_add-from c = let i = c.before.before.before.before.before.before in omega (arith, reads (goal.at.overflow_add-from c).In-loop-i, c.requires.most-v, c.well_formed)
+overflow_add-from c = omega (arith, reads (goal.at.overflow_add-from c).In-loop-i, c.requires.most-v, c.well_formed)
 
 pub overflow_add-at : goal.overflow_add-at
-overflow_add-at c = omega (arith, next (goal.at.overflow_add-at c).In-loop-i, c.good)
+overflow_add-at c = omega (arith, next (goal.at.overflow_add-at c).In-loop-i, c.well_formed)
 
 pub overflow_add-i : goal.overflow_add-i
-overflow_add-i c = omega (arith, c.loop-i-test.true, c.good)
+overflow_add-i c = omega (arith, c.loop-i-test.true, c.well_formed)
 
 pub shape_of-work : goal.shape_of-work
 shape_of-work c = c.loop-i.invariant.3.long

@@ -1,14 +1,8 @@
-use mathlib.Core.Path.{◌≡◌, refl, ◌∙◌}
+use mathlib.Core.Path.{◌≡◌}
 use Prim.Native.Nat.{◌+◌, ◌-◌, ◌*◌, ◌≤◌}
-use native.Mathlib.Nat.{suc-mul, zero-mul}
-use native.Mathlib.Numerals.{add-one}
-use native.Mathlib.Omega.{arith}
 use lib.ListN.{length}
 use Rattle.region.specs.Inner.Passes.{Across}
-use Rattle.region.proofs.Across.{across-none, across-then}
 use Rattle.voicing.specs.Inner.States.{put_pairs}
-use Rattle.voicing.proofs.States.{window-read, means-room, ivars-room, put_next}
-use borrow.Author.Rules.{rules}
 use Rattle.voicing.proofs.closing.close_state.Given as goal
 
 abbrev pub invariant-loop-i : goal.invariant-loop-i

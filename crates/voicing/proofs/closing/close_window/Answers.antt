@@ -1,21 +1,15 @@
-use mathlib.Core.Path.{◌≡◌, ap, ◌∙◌}
+use mathlib.Core.Path.{ap, ◌∙◌}
 use Prim.Native.Nat.{◌+◌, ◌-◌, ◌≤◌}
 use native.Mathlib.Omega.{arith}
 use borrow.Rule.Slice.PartMut.{mid_of}
-use lib.ListN.{length, get_or}
-use lib.Ieee.{nan}
-use Rattle.model.specs.Pair.{ivar_of}
+use lib.ListN.{length}
 use Rattle.model.specs.declared.mean_vari.Inverted.{Inverted}
 use Rattle.voicing.specs.Inner.States.{put_pair}
-use Rattle.region.proofs.Across.{Passing, passing-none, passing-fits, passing-long, passing-next, passing-done}
-use borrow.Author.Rules.{rules}
+use Rattle.region.proofs.Across.{passing-none, passing-fits, passing-long, passing-next, passing-done}
 use Rattle.voicing.proofs.closing.close_window.Goals as goal
-use Rattle.voicing.proofs.closing.close_window.Goals.{In-loop-l, Start}
+use Rattle.voicing.proofs.closing.close_window.Goals.{In-loop-l}
 
 module _ (c : In-loop-l) where
-  abbrev entry : Start
-  entry = c.before.before.before.before.before.before.before
-
   -- the region lies within the list
   fits : c.loop-l.from + c.args.p.size ≤ length c.loop-l.work
   fits = passing-fits c.loop-l.invariant c.loop-l-test.true
@@ -40,7 +34,7 @@ pub overflow_add-to : goal.overflow_add-to
 overflow_add-to c = omega (arith, c.well_formed, c.loop-l.invariant.stepped.long, fits (goal.at.overflow_add-to c).In-loop-l)
 
 pub offset_bounds-work-from : goal.offset_bounds-work-from
-offset_bounds-work-from c = omega (arith, c.good, c.loop-l.invariant.stepped.long, fits (goal.at.offset_bounds-work-from c).In-loop-l)
+offset_bounds-work-from c = omega (arith, c.well_formed, c.loop-l.invariant.stepped.long, fits (goal.at.offset_bounds-work-from c).In-loop-l)
 
 pub slice_bounds-put_pair-end : goal.slice_bounds-put_pair-end
 slice_bounds-put_pair-end c = fits (goal.at.slice_bounds-put_pair-end c).In-loop-l

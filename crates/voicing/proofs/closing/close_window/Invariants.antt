@@ -1,14 +1,10 @@
-use mathlib.Core.Path.{◌≡◌, ap, ◌∙◌}
-use Prim.Native.Nat.{◌+◌, ◌-◌, ◌≤◌}
-use native.Mathlib.Omega.{arith}
-use borrow.Rule.Slice.PartMut.{mid_of}
-use lib.ListN.{length, get_or}
+use mathlib.Core.Path.{◌≡◌}
+use Prim.Native.Nat.{◌+◌, ◌-◌}
+use lib.ListN.{get_or}
 use lib.Ieee.{nan}
 use Rattle.model.specs.Pair.{ivar_of}
-use Rattle.model.specs.declared.mean_vari.Inverted.{Inverted}
 use Rattle.voicing.specs.Inner.States.{put_pair}
-use Rattle.region.proofs.Across.{Passing, passing-none, passing-fits, passing-long, passing-next, passing-done}
-use borrow.Author.Rules.{rules}
+use Rattle.region.proofs.Across.{Passing}
 use Rattle.voicing.proofs.closing.close_window.Given as goal
 
 abbrev pub invariant-loop-l : goal.invariant-loop-l

@@ -1,4 +1,3 @@
-use borrow.Author.Rules.{rules}
 use Rattle.voicing.proofs.closing.ends_of.Goals as goal
 
 pub returns : goal.returns

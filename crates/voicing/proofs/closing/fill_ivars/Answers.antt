@@ -1,5 +1,4 @@
 use Rattle.voicing.proofs.Runs.{filled-same, filled-ends}
-use borrow.Author.Rules.{rules}
 use Rattle.voicing.proofs.closing.fill_ivars.Goals as goal
 
 pub returns-then-first-last-eq0 : goal.returns-then-first-last-eq0

@@ -1,5 +1,4 @@
 use Rattle.voicing.proofs.Runs.{pair_put}
-use borrow.Author.Rules.{rules}
 use Rattle.voicing.proofs.closing.put_pair.Goals as goal
 
 pub returns : goal.returns

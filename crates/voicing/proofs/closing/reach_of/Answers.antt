@@ -1,7 +1,6 @@
 use mathlib.Core.Path.{refl, ap, ◌∙◌}
 use borrow.Author.Tests.{ne_eqb}
 use Rattle.model.specs.Windows.{left_width, right_width}
-use borrow.Author.Rules.{rules}
 use Rattle.voicing.proofs.closing.reach_of.Goals as goal
 
 pub returns-then-i-eq0 : goal.returns-then-i-eq0

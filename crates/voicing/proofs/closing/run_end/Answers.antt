@@ -1,15 +1,9 @@
-use mathlib.Core.Path.{◌≡◌, refl, sym, ap, ◌∙◌}
-use mathlib.Core.Bool.{true}
-use Prim.Native.Nat.{ℕ, ◌+◌, ◌-◌, ◌≤◌}
+use mathlib.Core.Path.{sym, ap, ◌∙◌}
+use Prim.Native.Nat.{◌+◌, ◌≤◌}
 use native.Mathlib.Omega.{arith}
 use borrow.Author.Tests.{not-true, not-false}
-use lib.ListN.{length, drop}
 use Rattle.lists.specs.Totals.{total}
-use Rattle.voicing.specs.Mask.{mask_in}
-use Rattle.voicing.specs.Boundaries.{ahead}
-use Rattle.voicing.specs.Inner.Fits.{frame}
-use Rattle.voicing.proofs.Runs.{Walking, walking, walking-fits, walking_on, walking-off, walked}
-use borrow.Author.Rules.{rules}
+use Rattle.voicing.proofs.Runs.{walking, walking-fits, walking_on, walking-off, walked}
 use Rattle.std.proofs.Common.{not}
 use Rattle.voicing.proofs.closing.run_end.Goals as goal
 use Rattle.voicing.proofs.closing.run_end.Goals.{After-frames_at-d}

@@ -1,16 +1,6 @@
-use mathlib.Core.Path.{◌≡◌, sym, ap, ◌∙◌}
-use mathlib.Core.Bool.{true}
-use Prim.Native.Nat.{ℕ, ◌+◌, ◌-◌, ◌*◌, ◌≤◌}
-use native.Mathlib.Omega.{arith}
+use Prim.Native.Nat.{◌-◌}
 use lib.ListN.{length}
-use Rattle.lists.specs.Totals.{total}
-use Rattle.lists.proofs.Counts.{count-all}
-use Rattle.region.specs.Region.{size_of}
-use Rattle.region.specs.declared.Places.{Places}
-use Rattle.voicing.proofs.Passes.{passed-fits, passed-few, passed-room}
-use Rattle.voicing.proofs.Fillings.{Filling, filling, filled-back, filling-room, filling-voiced, filling_unvoiced}
-use Rattle.voicing.proofs.Columns.{columns_filled}
-use borrow.Author.Rules.{rules}
+use Rattle.voicing.proofs.Fillings.{Filling}
 use Rattle.voicing.proofs.filling.fill_group.Given as goal
 
 abbrev pub invariant-loop-s : goal.invariant-loop-s

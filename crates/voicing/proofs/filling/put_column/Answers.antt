@@ -1,9 +1,8 @@
-use mathlib.Core.Path.{◌≡◌, refl}
-use Prim.Native.Nat.{◌+◌, ◌-◌, ◌*◌, ◌<◌, ◌≤◌}
+use mathlib.Core.Path.{refl}
+use Prim.Native.Nat.{◌<◌}
 use native.Mathlib.Nat.{zero-mul}
 use native.Mathlib.Omega.{arith}
-use lib.ListN.{length, drop}
-use Rattle.voicing.specs.Inner.Lanes.{sets_by}
+use lib.ListN.{length}
 use Rattle.voicing.proofs.Fillings.{column-next, column_in, put_next, put-done}
 use borrow.Author.Rules.{rules}
 use Rattle.voicing.proofs.filling.put_column.Goals as goal

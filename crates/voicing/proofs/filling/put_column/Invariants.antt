@@ -1,11 +1,7 @@
-use mathlib.Core.Path.{◌≡◌, refl}
-use Prim.Native.Nat.{◌+◌, ◌-◌, ◌*◌, ◌<◌, ◌≤◌}
-use native.Mathlib.Nat.{zero-mul}
-use native.Mathlib.Omega.{arith}
+use mathlib.Core.Path.{◌≡◌}
+use Prim.Native.Nat.{◌+◌, ◌-◌, ◌*◌, ◌≤◌}
 use lib.ListN.{length, drop}
 use Rattle.voicing.specs.Inner.Lanes.{sets_by}
-use Rattle.voicing.proofs.Fillings.{column-next, column_in, put_next, put-done}
-use borrow.Author.Rules.{rules}
 use Rattle.voicing.proofs.filling.put_column.Given as goal
 
 abbrev pub invariant-loop-j : goal.invariant-loop-j

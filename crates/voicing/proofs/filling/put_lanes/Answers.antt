@@ -1,5 +1,5 @@
-use mathlib.Core.Path.{◌≡◌, refl, ◌∙◌}
-use Prim.Native.Nat.{◌+◌, ◌-◌, ◌*◌, ◌≤◌}
+use mathlib.Core.Path.{refl, ◌∙◌}
+use Prim.Native.Nat.{◌+◌, ◌*◌, ◌≤◌}
 use native.Mathlib.Nat.{add-sub_cancel_left, suc-mul, zero-mul}
 use native.Mathlib.Numerals.{add-one}
 use native.Mathlib.Omega.{arith}
@@ -16,7 +16,7 @@ use Rattle.voicing.proofs.filling.put_lanes.Goals.{In-loop-l}
 -- the lane's region lies within the list, and so do its values
 module _ (c : In-loop-l) where
   whole : c.loop-l.l * c.args.size + c.args.size ≤ length c.args.work.now
-  whole = let s = c.before.before.before.before in region-fits c.args.size c.args.c.lanes c.loop-l.l c.args.work.now c.loop-l-test.true c.requires.3
+  whole = region-fits c.args.size c.args.c.lanes c.loop-l.l c.args.work.now c.loop-l-test.true c.requires.3
 
   fits : c.loop-l.o + c.args.d ≤ length c.args.work.now
   fits = omega (arith, c.loop-l.invariant.1, c.requires.2, whole)
@@ -44,7 +44,7 @@ put_column-requires c =
     (c.requires.0, rw n (omega (arith, c.requires.4, l.invariant.2, c.loop-l-test.true)))
 
 pub overflow_add-o : goal.overflow_add-o
-overflow_add-o c = let s = c.before.before.before.before.before.before.before.before.before in omega (arith, s.well_formed, c.requires.2, whole (goal.at.overflow_add-o c).In-loop-l, c.loop-l.invariant.1)
+overflow_add-o c = omega (arith, c.well_formed, c.requires.2, whole (goal.at.overflow_add-o c).In-loop-l, c.loop-l.invariant.1)
 
 pub loop-l-preserved : goal.loop-l-preserved
 loop-l-preserved c =

@@ -1,15 +1,8 @@
-use mathlib.Core.Path.{◌≡◌, refl, ◌∙◌}
+use mathlib.Core.Path.{◌≡◌}
 use Prim.Native.Nat.{◌+◌, ◌-◌, ◌*◌, ◌≤◌}
-use native.Mathlib.Nat.{add-sub_cancel_left, suc-mul, zero-mul}
-use native.Mathlib.Numerals.{add-one}
-use native.Mathlib.Omega.{arith}
 use lib.ListN.{length}
 use Rattle.voicing.specs.Inner.Lanes.{sets_lanes}
 use Rattle.lists.specs.Parts.{part}
-use Rattle.region.proofs.Lanes.{region-fits}
-use Rattle.lists.proofs.Expansions.{part_length}
-use Rattle.voicing.proofs.Fillings.{lanes_next, lanes_done}
-use borrow.Author.Rules.{rules}
 use Rattle.voicing.proofs.filling.put_lanes.Given as goal
 
 abbrev pub invariant-loop-l : goal.invariant-loop-l

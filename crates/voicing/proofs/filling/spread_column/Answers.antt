@@ -1,9 +1,8 @@
-use mathlib.Core.Path.{◌≡◌, refl}
-use Prim.Native.Nat.{◌+◌, ◌-◌, ◌*◌, ◌<◌, ◌≤◌}
+use mathlib.Core.Path.{refl}
+use Prim.Native.Nat.{◌<◌}
 use native.Mathlib.Nat.{zero-mul}
 use native.Mathlib.Omega.{arith}
-use lib.ListN.{length, replicate}
-use Rattle.voicing.specs.Inner.Lanes.{sets_by}
+use lib.ListN.{length}
 use Rattle.voicing.proofs.Fillings.{column-next, column_in, spread-start, spread-next, spread-done}
 use borrow.Author.Rules.{rules}
 use Rattle.voicing.proofs.filling.spread_column.Goals as goal

@@ -1,11 +1,7 @@
-use mathlib.Core.Path.{◌≡◌, refl}
-use Prim.Native.Nat.{◌+◌, ◌-◌, ◌*◌, ◌<◌, ◌≤◌}
-use native.Mathlib.Nat.{zero-mul}
-use native.Mathlib.Omega.{arith}
+use mathlib.Core.Path.{◌≡◌}
+use Prim.Native.Nat.{◌+◌, ◌-◌, ◌*◌, ◌≤◌}
 use lib.ListN.{length, replicate}
 use Rattle.voicing.specs.Inner.Lanes.{sets_by}
-use Rattle.voicing.proofs.Fillings.{column-next, column_in, spread-start, spread-next, spread-done}
-use borrow.Author.Rules.{rules}
 use Rattle.voicing.proofs.filling.spread_column.Given as goal
 
 abbrev pub invariant-loop-j : goal.invariant-loop-j

@@ -1,6 +1,5 @@
-use mathlib.Core.Path.{◌≡◌, refl, ◌∙◌}
-use Prim.Native.Nat.{◌-◌, ◌≤◌}
-use lib.ListN.{length, replicate}
+use mathlib.Core.Path.{refl, ◌∙◌}
+use lib.ListN.{replicate}
 use Rattle.voicing.specs.Inner.Lanes.{sets_lanes}
 use Rattle.voicing.proofs.Fillings.{lanes_next, lanes_done}
 use borrow.Author.Rules.{rules}

@@ -1,9 +1,7 @@
-use mathlib.Core.Path.{◌≡◌, refl, ◌∙◌}
+use mathlib.Core.Path.{◌≡◌}
 use Prim.Native.Nat.{◌-◌, ◌≤◌}
 use lib.ListN.{length, replicate}
 use Rattle.voicing.specs.Inner.Lanes.{sets_lanes}
-use Rattle.voicing.proofs.Fillings.{lanes_next, lanes_done}
-use borrow.Author.Rules.{rules}
 use Rattle.voicing.proofs.filling.spread_lanes.Given as goal
 
 abbrev pub invariant-loop-l : goal.invariant-loop-l

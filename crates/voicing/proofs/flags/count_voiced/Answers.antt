@@ -1,9 +1,6 @@
 use mathlib.Core.Path.{refl}
-use Prim.Native.Nat.{◌-◌}
 use native.Mathlib.Omega.{arith}
-use lib.ListN.{length}
-use Rattle.voicing.proofs.Passes.{Passed, passed_none, passed-all, passed-fits, passed-few, passed-next}
-use borrow.Author.Rules.{rules}
+use Rattle.voicing.proofs.Passes.{passed_none, passed-all, passed-fits, passed-few, passed-next}
 use Rattle.voicing.proofs.flags.count_voiced.Goals as goal
 
 pub voiced_in-n-requires : goal.voiced_in-n-requires

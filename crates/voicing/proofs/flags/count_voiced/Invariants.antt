@@ -1,9 +1,6 @@
-use mathlib.Core.Path.{refl}
 use Prim.Native.Nat.{◌-◌}
-use native.Mathlib.Omega.{arith}
 use lib.ListN.{length}
-use Rattle.voicing.proofs.Passes.{Passed, passed_none, passed-all, passed-fits, passed-few, passed-next}
-use borrow.Author.Rules.{rules}
+use Rattle.voicing.proofs.Passes.{Passed}
 use Rattle.voicing.proofs.flags.count_voiced.Given as goal
 
 abbrev pub invariant-loop-s : goal.invariant-loop-s

@@ -1,5 +1,4 @@
 use borrow.Author.Tests.{le-leb, lt-leb}
-use borrow.Author.Rules.{rules}
 use Rattle.voicing.proofs.flags.flagged.Goals as goal
 
 pub returns-then-durations-gt4096 : goal.returns-then-durations-gt4096

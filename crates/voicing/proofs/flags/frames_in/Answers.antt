@@ -1,7 +1,6 @@
 use mathlib.Core.Path.{◌∙◌}
 use native.Mathlib.Omega.{arith}
 use Rattle.lists.proofs.Sums.{total-whole}
-use borrow.Author.Rules.{rules}
 use Rattle.voicing.proofs.flags.frames_in.Goals as goal
 
 pub returns : goal.returns

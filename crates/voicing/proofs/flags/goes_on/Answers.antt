@@ -1,5 +1,4 @@
 use Rattle.voicing.proofs.Masks.{goes_none, goes_off, goes_true}
-use borrow.Author.Rules.{rules}
 use Rattle.voicing.proofs.flags.goes_on.Goals as goal
 
 pub returns-then-d-eq0 : goal.returns-then-d-eq0

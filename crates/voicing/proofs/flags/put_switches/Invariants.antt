@@ -1,11 +1,6 @@
-use mathlib.Core.Path.{◌≡◌, refl, ap}
-use Prim.Native.Nat.{ℕ, ◌+◌, ◌-◌, ◌≤◌}
-use native.Mathlib.Omega.{arith}
+use Prim.Native.Nat.{◌-◌}
 use lib.ListN.{length}
-use Rattle.lists.specs.Totals.{total}
-use Rattle.voicing.proofs.Passes.{passed-fits}
-use Rattle.voicing.proofs.Switches.{Switching, switching, switched, switching-room, switching-next}
-use borrow.Author.Rules.{rules}
+use Rattle.voicing.proofs.Switches.{Switching}
 use Rattle.voicing.proofs.flags.put_switches.Given as goal
 
 abbrev pub invariant-loop-s : goal.invariant-loop-s

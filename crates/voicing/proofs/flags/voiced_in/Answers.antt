@@ -3,7 +3,6 @@ use mathlib.Core.Bool.{Bool}
 use lib.ListN.{replicate}
 use Rattle.lists.specs.Frames.{count}
 use Rattle.lists.proofs.Counts.{count-all, count_none}
-use borrow.Author.Rules.{rules}
 use Rattle.voicing.proofs.flags.voiced_in.Goals as goal
 
 pub returns-then-goes_on : goal.returns-then-goes_on

@@ -4,12 +4,8 @@ use native.Mathlib.Omega.{arith}
 use lib.ListN.{length}
 use lib.Seq.{length-take-le}
 use Rattle.voicing.proofs.Ways.{distances_5, distances_6, distances_done}
-use borrow.Author.Rules.{rules}
 use Rattle.voicing.proofs.mask.boundary_distances.Goals as goal
-use Rattle.voicing.proofs.mask.boundary_distances.Goals.{After-least, Else-least-n, Start}
-
-abbrev entry : After-least → Start
-entry c = c.before.before.before.before.before.before
+use Rattle.voicing.proofs.mask.boundary_distances.Goals.{Else-least-n}
 
 -- both lists are long enough
 long : (c : Else-least-n) → let a = c.args in (length a.voiced.now ≤ length a.left.now) × (length a.voiced.now ≤ length a.right.now)

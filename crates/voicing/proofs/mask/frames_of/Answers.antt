@@ -6,7 +6,6 @@ use lib.ListN.{length}
 use Rattle.lists.specs.Totals.{total}
 use Rattle.lists.proofs.Sums.{total-whole}
 use Rattle.voicing.proofs.Ways.{frames_3, frames_4, frames_5, frames_0}
-use borrow.Author.Rules.{rules}
 use Rattle.voicing.proofs.mask.frames_of.Goals as goal
 use Rattle.voicing.proofs.mask.frames_of.Goals.{After-total_u32-frames}
 

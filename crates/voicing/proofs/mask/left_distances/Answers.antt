@@ -1,7 +1,4 @@
-use Prim.Native.Nat.{◌-◌}
-use lib.ListN.{length}
-use Rattle.voicing.proofs.Distances.{Measuring, measuring, measured, measuring-off, measuring-on}
-use borrow.Author.Rules.{rules}
+use Rattle.voicing.proofs.Distances.{measuring, measured, measuring-off, measuring-on}
 use Rattle.voicing.proofs.mask.left_distances.Goals as goal
 
 pub loop-f-init : goal.loop-f-init

@@ -1,7 +1,6 @@
 use Prim.Native.Nat.{◌-◌}
 use lib.ListN.{length}
-use Rattle.voicing.proofs.Distances.{Measuring, measuring, measured, measuring-off, measuring-on}
-use borrow.Author.Rules.{rules}
+use Rattle.voicing.proofs.Distances.{Measuring}
 use Rattle.voicing.proofs.mask.left_distances.Given as goal
 
 abbrev pub invariant-loop-f : goal.invariant-loop-f

@@ -1,26 +1,22 @@
 use mathlib.Core.Path.{sym, ap, ◌∙◌}
-use Prim.Native.Nat.{◌+◌, ◌-◌, ◌≤◌}
+use Prim.Native.Nat.{◌+◌, ◌≤◌}
 use native.Mathlib.Omega.{arith}
 use lib.ListN.{length}
 use Rattle.lists.proofs.Rows.{row_fits}
 use Rattle.lists.specs.Flags.{flag}
 use Rattle.voicing.specs.Mask.{weights_of}
-use Rattle.lists.proofs.Expansions.{Expanding, expanding, expanding-room, expanding-next, expanded}
-use Rattle.voicing.proofs.Theory.{weights-length, weights-at, state_flags, flag_at, flags_long, mask-flags}
-use borrow.Author.Rules.{rules}
+use Rattle.lists.proofs.Expansions.{expanding, expanding-room, expanding-next, expanded}
+use Rattle.voicing.proofs.Theory.{weights-length, weights-at, flag_at, flags_long, mask-flags}
 use Rattle.voicing.proofs.mask.mark_states.Goals as goal
-use Rattle.voicing.proofs.mask.mark_states.Goals.{After-frames_at-d, Start}
+use Rattle.voicing.proofs.mask.mark_states.Goals.{After-frames_at-d}
 
 module _ (c : After-frames_at-d) where
-  abbrev entry : Start
-  entry = c.before.before.before.before.before.before.before
-
   -- the state's frames lie within the list
   room : c.loop-s.f + c.frames_at-d.result ≤ length c.loop-s.out
   room = omega (arith, c.frames_at-d.ensures, expanding-room _ _ _ _ _ _ c.loop-s.invariant c.loop-s-test.true)
 
 pub voiced_at-requires : goal.voiced_at-requires
-voiced_at-requires c = let s = entry (goal.at.voiced_at-requires c).After-frames_at-d in omega (arith, c.requires.0, row_fits c.args.u.size c.loop-s.s (length c.args.durations.now) c.loop-s-test.true)
+voiced_at-requires c = omega (arith, c.requires.0, row_fits c.args.u.size c.loop-s.s (length c.args.durations.now) c.loop-s-test.true)
 
 pub loop-s-preserved : goal.loop-s-preserved
 loop-s-preserved c =

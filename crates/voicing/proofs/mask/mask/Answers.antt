@@ -7,14 +7,10 @@ use Rattle.lists.specs.Totals.{total}
 use Rattle.lists.proofs.Ends.{passed}
 use Rattle.voicing.specs.Promise.{mask_refusal}
 use Rattle.voicing.proofs.Ways.{mask-stops, mask-framed, mask-room, mask_done}
-use borrow.Author.Rules.{rules}
 use Rattle.voicing.proofs.mask.mask.Goals as goal
-use Rattle.voicing.proofs.mask.mask.Goals.{After-wide-n, Start}
+use Rattle.voicing.proofs.mask.mask.Goals.{After-wide-n}
 
 module _ (c : After-wide-n) where
-  abbrev entry : Start
-  entry = c.before.before.before.before.before.before.before.before.before
-
   -- nothing is refused
   ok : (mask_refusal c.args.weights.now c.args.durations.now c.args.voiced.now ≡ 0) × (total c.args.durations.now ≡ c.in-Done.frames)
   ok = passed _ _ _ (sym c.frames_of-framed.ensures ∙ c.in-Done.is)

@@ -8,38 +8,25 @@ use Rattle.lists.specs.Ends.{filled_of}
 use Rattle.lists.proofs.Ends.{passed}
 use Rattle.voicing.specs.Promise.{masked_distances_refusal}
 use Rattle.voicing.proofs.Ways.{masked_stops, masked_room, masked_long, masked_done}
-use borrow.Author.Rules.{rules}
 use Rattle.voicing.proofs.mask.mask_with_distances.Goals as goal
-use Rattle.voicing.proofs.mask.mask_with_distances.Goals.{After-frames_of-framed, After-slice_known-4-1, After-wide-n, Start}
+use Rattle.voicing.proofs.mask.mask_with_distances.Goals.{After-frames_of-framed, After-wide-n}
 
 -- what is refused is what the shortest list's room refuses
 module _ (c : After-frames_of-framed) where
-  abbrev entry : Start
-  entry = c.before.before.before.before.before.before.before.before.before
-
   answer : let a = c.args in c.frames_of-framed.result ≡ filled_of (masked_distances_refusal a.weights.now a.durations.now a.voiced.now a.left.now a.right.now) (total a.durations.now)
   answer = let a = c.args in c.frames_of-framed.ensures ∙ ap (λ (k : ℕ). filled_of k (total a.durations.now)) (masked_room a.weights.now a.threshold a.durations.now a.voiced.now a.left.now a.right.now _ _ c.least.ensures c.least-room.ensures)
 
-abbrev after_frames_of_framed_of_after_wide_n : After-wide-n → After-frames_of-framed
-after_frames_of_framed_of_after_wide_n c = record { before = c.before.before.before.before.before; type_inv = search rules }
-
 -- nothing is refused
-module _ (c : After-wide-n) where
-  abbrev start : Start
-  start = entry (after_frames_of_framed_of_after_wide_n c)
-
+module _ (c : After-wide-n) (answered : let a = c.args in c.frames_of-framed.result ≡ filled_of (masked_distances_refusal a.weights.now a.durations.now a.voiced.now a.left.now a.right.now) (total a.durations.now)) where
   ok : let a = c.args in (masked_distances_refusal a.weights.now a.durations.now a.voiced.now a.left.now a.right.now ≡ 0) × (total a.durations.now ≡ c.in-Done.frames)
-  ok = passed _ _ _ (sym (answer (after_frames_of_framed_of_after_wide_n c)) ∙ c.in-Done.is)
+  ok = passed _ _ _ (sym answered ∙ c.in-Done.is)
 
   frames : c.wide-n.result ≡ total c.args.durations.now
   frames = c.wide-n.ensures ∙ sym ok.1
 
-abbrev after_wide_n_of_after_slice_known_4_1 : After-slice_known-4-1 → After-wide-n
-after_wide_n_of_after_slice_known_4_1 c = record { before = c.before.before.before.before.before; type_inv = search rules }
-
--- and the flags that `mask` leaves are as many as came in
-long : (c : After-slice_known-4-1) → c.wide-n.result ≤ length c.mask.new.voiced
-long c = let a = c.args in omega (arith, (masked_long a.weights.now a.threshold a.durations.now a.voiced.now a.left.now a.right.now (ok (after_wide_n_of_after_slice_known_4_1 c)).0 c.wide-n.result (frames (after_wide_n_of_after_slice_known_4_1 c))).0, c.mask.auto.voiced)
+  -- and the flags that came in are as many
+  room : c.wide-n.result ≤ length c.args.voiced.now
+  room = let a = c.args in (masked_long a.weights.now a.threshold a.durations.now a.voiced.now a.left.now a.right.now ok.0 c.wide-n.result frames).0
 
 pub returns-in_default : goal.returns-in_default
 returns-in_default c = let a = c.args in masked_stops a.weights.now a.threshold a.durations.now a.voiced.now a.left.now a.right.now _ _ (answer (goal.at.returns-in_default c).After-frames_of-framed) c.in_default.is
@@ -47,7 +34,11 @@ returns-in_default c = let a = c.args in masked_stops a.weights.now a.threshold 
 pub returns : goal.returns
 returns c =
     let a = c.args in
-    masked_done a.weights.now a.threshold a.durations.now a.voiced.now a.left.now a.right.now (ok (goal.at.returns c).After-wide-n).0 _ (frames (goal.at.returns c).After-wide-n) _ _ _ _ _ c.mask.ensures c.boundary_distances.ensures
+    let w = (goal.at.returns c).After-wide-n in
+    let e = answer (goal.at.returns c).After-frames_of-framed in
+    masked_done a.weights.now a.threshold a.durations.now a.voiced.now a.left.now a.right.now (ok w e).0 _ (frames w e) _ _ _ _ _ c.mask.ensures c.boundary_distances.ensures
 
 pub slice_bounds-boundary_distances-end-2 : goal.slice_bounds-boundary_distances-end-2
-slice_bounds-boundary_distances-end-2 c = sym (length-take-le _ _ (long (goal.at.slice_bounds-boundary_distances-end-2 c).After-slice_known-4-1))
+slice_bounds-boundary_distances-end-2 c =
+    let h : c.wide-n.result ≤ length c.args.voiced.now = room (goal.at.slice_bounds-boundary_distances-end-2 c).After-wide-n (answer (goal.at.slice_bounds-boundary_distances-end-2 c).After-frames_of-framed) in
+    sym (length-take-le _ _ (omega (arith, h, c.mask.auto.voiced)))

@@ -1,5 +1,4 @@
-use Rattle.voicing.proofs.Distances.{Counting, counting, counted-all, counting-off, counting-on}
-use borrow.Author.Rules.{rules}
+use Rattle.voicing.proofs.Distances.{counting, counted-all, counting-off, counting-on}
 use Rattle.voicing.proofs.mask.right_distances.Goals as goal
 
 pub loop-f-init : goal.loop-f-init

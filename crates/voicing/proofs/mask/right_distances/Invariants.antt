@@ -1,5 +1,4 @@
-use Rattle.voicing.proofs.Distances.{Counting, counting, counted-all, counting-off, counting-on}
-use borrow.Author.Rules.{rules}
+use Rattle.voicing.proofs.Distances.{Counting}
 use Rattle.voicing.proofs.mask.right_distances.Given as goal
 
 abbrev pub invariant-loop-f : goal.invariant-loop-f

@@ -4,7 +4,6 @@ use lib.ListN.{take, drop}
 use native.Mathlib.Nat.{add-sub_cancel_left}
 use Rattle.model.specs.Weight.{voiced_at}
 use Rattle.model.specs.Record.{from_linear}
-use borrow.Author.Rules.{rules}
 use Rattle.voicing.proofs.mask.voiced_at.Goals as goal
 
 pub returns : goal.returns

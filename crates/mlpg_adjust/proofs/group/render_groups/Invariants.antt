@@ -1,0 +1,17 @@
+use mathlib.Core.Path.{◌≡◌, refl, sym, subst, ◌∙◌}
+use Prim.Native.Nat.{ℕ, ◌+◌, ◌-◌, ◌*◌, ◌≤◌}
+use native.Mathlib.Omega.{arith}
+use lib.ListN.{length}
+use Rattle.region.specs.Region.{size_of}
+use Rattle.mlpg_adjust.specs.Inner.Groups.{Columned, column_of}
+use Rattle.mlpg_adjust.proofs.Calls.{lanes_some, lanes_room}
+use Rattle.mlpg_adjust.proofs.Columns.{columned_none}
+use borrow.Author.Rules.{rules}
+use Rattle.mlpg_adjust.proofs.group.render_groups.Given as goal
+
+abbrev pub invariant-loop-first : goal.invariant-loop-first
+invariant-loop-first l =
+    (l.first ≤ l.v) × (length l.work ≡ length l.initial.work) × (length l.out ≡ length l.initial.out) × Columned (column_of l.p.stream l.widths l.coefficients l.records l.durations l.marks l.gv) l.v l.first l.out
+
+abbrev pub decreases-loop-first : goal.decreases-loop-first
+decreases-loop-first l = l.v - l.first

@@ -1,0 +1,6 @@
+use Rattle.mlpg_adjust.proofs.Calls.{group-varied}
+use borrow.Author.Rules.{rules}
+use Rattle.mlpg_adjust.proofs.group.vary_group.Goals as goal
+
+pub returns : goal.returns
+returns c = group-varied _ _ _ _ _ _ c.requires.0 c.requires.1 _ _ c.wide.ensures c.vary.ensures

@@ -1,0 +1,6 @@
+use Rattle.settings.proofs.Writing.{heading-written}
+use Rattle.settings.proofs.file.put_heading.Goals as goal
+
+pub returns : goal.returns
+returns c =
+    heading-written _ _ _ _ _ c.copy_u8.ensures c.put_little_endian.ensures c.put_little_endian-2.ensures
