@@ -10,6 +10,9 @@ use std::fs::Files;
 use std::io::{ErrorKind, Read, Write};
 use std::{fs, io, str};
 
+// The most bytes of a word that a program is given: those of the longest path.
+pub const WORD: usize = 4096;
+
 // How many bytes were read, unless a read failed.
 #[derive(Clone, Copy)]
 pub enum Input {
