@@ -6,4 +6,4 @@ use Rattle.files.specs.declared.Input.TheVariants.{Bytes, Failed}
 -- no more bytes than there was room for
 abbrev pub Within : Input → ℕ → Type 0
 Within (Bytes n) room = n ≤ room
-Within Failed room = Unit {0}
+Within (Failed error) room = Unit {0}

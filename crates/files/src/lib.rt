@@ -1,36 +1,44 @@
 // What the programs share that read a file or standard input. No contract can say what is read or written.
-ghost use Rattle.std.specs.Prelude.{◌≡◌, length};
+#![tactic(auto)]
+
+ghost use Rattle.std.specs.Prelude.{◌≡◌, ◌≤◌, length};
 ghost use Rattle.files.specs.Reading.{Within};
 ghost use Rattle.files.specs.Words.{is_text};
 
-use libc::STDERR_FILENO;
+use std::env::{Env, FillError};
+use std::fs::Files;
+use std::io::{ErrorKind, Read, Write};
+use std::{fs, io, str};
+
+// The most bytes of a word that a program is given: those of the longest path.
+pub const WORD: usize = 4096;
 
 // How many bytes were read, unless a read failed.
 #[derive(Clone, Copy)]
 pub enum Input {
     Bytes(usize),
-    Failed,
+    Failed(io::Error),
 }
 
 // Reads once: no bytes where the input has ended.
-pub fn read_some(fd: i32, room: &mut [u8]) -> Input
+pub fn read_some<R: Read>(from: &mut R, room: &mut [u8]) -> Input
     ensures { Within result (length room.new) }
 {
-    let got = libc::read(fd, room);
-    if got < 0 {
-        return Input::Failed;
+    match from.read(room) {
+        Ok(got) => Input::Bytes(got),
+        Err(error) => Input::Failed(error),
     }
-    Input::Bytes(io::count(got, room))
 }
 
 // Reads until the input ends or there is no room left.
-pub fn read_all(fd: i32, room: &mut [u8]) -> Input
+pub fn read_all<R: Read>(from: &mut R, room: &mut [u8]) -> Input
     ensures { Within result (length room.new) }
 {
     let mut n = 0;
     while n < room.len() {
-        let Input::Bytes(more) = read_some(fd, &mut room[n..]) else {
-            return Input::Failed;
+        let more = match read_some(from, &mut room[n..]) {
+            Input::Bytes(more) => more,
+            Input::Failed(error) => return Input::Failed(error),
         };
         if more == 0 {
             return Input::Bytes(n);
@@ -40,6 +48,42 @@ pub fn read_all(fd: i32, room: &mut [u8]) -> Input
     Input::Bytes(n)
 }
 
+// Opens a file to be read.
+pub fn open<F: Files>(files: &F, path: &[u8]) -> io::Result<F::File> {
+    match str::from_utf8(path) {
+        Ok(path) => fs::open(files, path),
+        Err(_) => Err(io::Error::new(ErrorKind::InvalidFilename, "The name is not UTF-8")),
+    }
+}
+
+// How many words a program is given, its name the first.
+pub fn word_count(env: &impl Env) -> usize {
+    let mut room = [0u8; 1];
+    for i in 0..usize::MAX {
+        if let Err(FillError::NotPresent) = env.arg(i, &mut room) {
+            return i;
+        }
+    }
+    usize::MAX
+}
+
+// The word at a place, if there is room for it.
+pub fn word(env: &impl Env, place: usize, room: &mut [u8]) -> Input
+    ensures { Within result (length room.new) }
+{
+    match env.arg(place, room) {
+        Ok(n) => Input::Bytes(n),
+        Err(FillError::TooLong) => Input::Failed(io::Error::new(
+            ErrorKind::InvalidFilename,
+            "File name too long",
+        )),
+        Err(FillError::NotPresent) => Input::Failed(io::Error::new(
+            ErrorKind::InvalidInput,
+            "Invalid argument",
+        )),
+    }
+}
+
 // Whether a word is this text.
 pub fn is(word: &[u8], text: &[u8]) -> bool
     ensures { result ≡ is_text word.now text.now }
@@ -47,19 +91,37 @@ pub fn is(word: &[u8], text: &[u8]) -> bool
     (word.len() == text.len()) & lists::starts_with(word, text)
 }
 
-// Says on standard error what failed, with errno's text: a write that goes through leaves errno as it was.
-pub fn fail(program: &[u8], what: &[u8]) {
-    io::write_all(STDERR_FILENO, program);
-    io::write_all(STDERR_FILENO, b": ");
-    os::fail(what);
+// How long an error's text is, up to its number or the zeros that are left of its room.
+fn said(text: &[u8]) -> usize
+    ensures { result ≤ length text.now }
+{
+    for i in 0..text.len() {
+        if (text[i] == 0) | lists::starts_with(&text[i..], b" (os error ") {
+            return i;
+        }
+    }
+    text.len()
+}
+
+// Says on standard error what failed, with the system's text.
+pub fn fail(err: &impl io::Print, program: &[u8], what: &[u8], error: &io::Error) {
+    let mut text = [0u8; 128];
+    let _ = write!(&mut text[..], "{error}");
+    let n = said(&text);
+    let _ = err.write_all(program);
+    let _ = err.write_all(b": ");
+    let _ = err.write_all(what);
+    let _ = err.write_all(b": ");
+    let _ = err.write_all(&text[..n]);
+    let _ = err.write_all(b"\n");
 }
 
 // Says on standard error that a program has no such option.
-pub fn refuse_option(program: &[u8], option: &[u8]) {
-    io::write_all(STDERR_FILENO, program);
-    io::write_all(STDERR_FILENO, b": no such option: ");
-    io::write_all(STDERR_FILENO, option);
-    io::write_all(STDERR_FILENO, b"; see ");
-    io::write_all(STDERR_FILENO, program);
-    io::write_all(STDERR_FILENO, b" --help\n");
+pub fn refuse_option(err: &impl io::Print, program: &[u8], option: &[u8]) {
+    let _ = err.write_all(program);
+    let _ = err.write_all(b": no such option: ");
+    let _ = err.write_all(option);
+    let _ = err.write_all(b"; see ");
+    let _ = err.write_all(program);
+    let _ = err.write_all(b" --help\n");
 }

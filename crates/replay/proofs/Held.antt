@@ -11,12 +11,6 @@ use lib.Seq.{drop-nil}
 use borrow.Author.Tests.{ne_eqb, eq-eqb, eqb-true}
 use Rattle.replay.specs.Holds.{holds}
 
--- a place within a list is the same whatever would stand beyond
-pub at_any : {A : Type 0} (l : List A) (i : ℕ) (d e : A) → i < length l → get_or l i d ≡ get_or l i e
-at_any [] i d e h = absurd (omega arith)
-at_any (x ∷ xs) zero d e h = refl
-at_any (x ∷ xs) (suc i) d e h = at_any xs i d e (omega arith)
-
 both : (a b : Bool) → cond a b false ≡ true → (a ≡ true) × (b ≡ true)
 both true b e = (refl, e)
 both false b e = absurd (subst T (sym e) tt)

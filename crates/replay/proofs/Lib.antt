@@ -1,4 +1,3 @@
 -- The laws that the functions' proofs cite.
 mod Held
-mod Places
 mod Fronts

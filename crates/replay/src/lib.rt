@@ -1,4 +1,6 @@
 // What programs that replay stored vectors and cases share: reading one, comparing lists, the tally of those that differ, and the line that says it.
+#![tactic(auto)]
+
 ghost use Rattle.std.specs.Prelude.{◌≡◌, ◌+◌, ◌-◌, ◌^◌, min, false};
 ghost use Rattle.replay.specs.Count.{fresh, counted, closed};
 
@@ -7,6 +9,7 @@ mod input;
 
 pub use compare::{at_f64, at_u32, holds_f64, holds_u32, part_u8, part_u32};
 pub use input::{Came, Listed, read, read_bytes, read_floats, read_numbers, read_section};
+use std::io::{Print, Read};
 
 // What a lent output holds at entry, and still where nothing is written.
 pub const OUT: u32 = 0xa5a5_a5a5;
@@ -39,6 +42,7 @@ impl Tally {
     }
 
     // One case more, that agrees or differs.
+    #[tactic(auto, unfolding(crate::specs::Count::counted))]
     pub fn with(self, agrees: bool) -> Self
         ensures { result ≡ counted self agrees }
     {
@@ -87,30 +91,30 @@ impl Tally {
     }
 
     // `NAME: N ITEMs, M differ`, and which is the first where any does. No contract can say what is written.
-    pub fn print(self, name: &[u8], item: &[u8]) {
-        say(name);
-        say(b": ");
-        say_number(self.seen);
-        say(b" ");
-        say(item);
-        say(b"s, ");
-        say_number(self.differ);
-        say(b" differ\n");
+    pub fn print(self, out: &impl Print, name: &[u8], item: &[u8]) {
+        say(out, name);
+        say(out, b": ");
+        say_number(out, self.seen);
+        say(out, b" ");
+        say(out, item);
+        say(out, b"s, ");
+        say_number(out, self.differ);
+        say(out, b" differ\n");
         if self.differ > 0 {
-            say(b"first: ");
-            say(item);
-            say(b" ");
-            say_number(self.first);
-            say(b"\n");
+            say(out, b"first: ");
+            say(out, item);
+            say(out, b" ");
+            say_number(out, self.first);
+            say(out, b"\n");
         }
     }
 }
 
 // After the last section nothing may come; where anything does, a line says so. No contract can say what is read or written.
-pub fn end() {
+pub fn end<R: Read>(from: &mut R, out: &impl Print) {
     let mut byte = [0u8; 1];
-    let Came::Nothing = input::read(&mut byte) else {
-        say(b"more follows\n");
+    let Came::Nothing = input::read(from, &mut byte) else {
+        say(out, b"more follows\n");
         return;
     };
 }
@@ -125,10 +129,10 @@ fn one_more(n: u64) -> u64
     n + 1
 }
 
-fn say(text: &[u8]) {
-    io::write_all(libc::STDOUT_FILENO, text);
+fn say(out: &impl Print, text: &[u8]) {
+    let _ = out.write_all(text);
 }
 
-fn say_number(n: u64) {
-    io::print_decimal(libc::STDOUT_FILENO, n);
+fn say_number(out: &impl Print, n: u64) {
+    let _ = out.print(n);
 }

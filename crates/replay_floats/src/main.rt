@@ -2,7 +2,10 @@
 //
 // A vector is 25 bytes: its kind, the operands a and b, and the answer that is right, each eight bytes, the least first. An operand that is a float
 // stands as its bits. tools/vectors/make writes them, with answers that come from MPFR and none from this code.
+#![tactic(auto)]
+
 use replay::{Came, Tally};
+use std::io::Read;
 
 // The answer's 64 bits for a vector's kind, or that there is no such kind.
 #[derive(Clone, Copy)]
@@ -50,9 +53,9 @@ fn agrees(vector: &[u8; 25]) -> bool {
 }
 
 // The tally with the next vector; one that is cut short agrees with nothing.
-fn next(tally: Tally) -> Tally {
+fn next<R: Read>(from: &mut R, tally: Tally) -> Tally {
     let mut vector = [0u8; 25];
-    match replay::read(&mut vector) {
+    match replay::read(from, &mut vector) {
         Came::Whole => tally.with(agrees(&vector)),
         Came::Cut => tally.with(false),
         Came::Nothing => tally.at_end(),
@@ -60,12 +63,13 @@ fn next(tally: Tally) -> Tally {
 }
 
 // A proved loop has to end, and nothing says that the input does: it counts down from a number that no input uses up.
-fn main() {
+fn main(rt: HostRuntime) {
+    let mut from = rt.stdin();
     let mut tally = Tally::new();
     let mut left = u64::MAX;
     while left > 0 && !tally.ended {
-        tally = next(tally);
+        tally = next(&mut from, tally);
         left -= 1;
     }
-    tally.print(b"floats", b"vector");
+    tally.print(&rt, b"floats", b"vector");
 }

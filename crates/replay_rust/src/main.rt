@@ -1,6 +1,9 @@
 // Replays the Rust's answers of standard input, a section for each kind of call, and says of each how many differ. tools/README.md has the form,
 // tools/store writes them.
+#![tactic(auto)]
+
 use replay::{Listed, Tally};
+use std::io::{Print, Read};
 
 mod alignments;
 mod bands;
@@ -29,21 +32,21 @@ fn agrees(kind: u32, head: &[u32], numbers: &[u32], floats: &[f64], bytes: &[u8]
 }
 
 // The tally with the next case of a kind.
-fn next(kind: u32, tally: Tally) -> Tally {
+fn next<R: Read>(from: &mut R, kind: u32, tally: Tally) -> Tally {
     let mut head = [0; 12];
     let mut numbers = [0; 100];
     let mut floats = [0.0; 500];
     let mut bytes = [0u8; 300];
-    let Listed::Of(h) = replay::read_numbers(&mut head) else {
+    let Listed::Of(h) = replay::read_numbers(from, &mut head) else {
         return tally.cut();
     };
-    let Listed::Of(n) = replay::read_numbers(&mut numbers) else {
+    let Listed::Of(n) = replay::read_numbers(from, &mut numbers) else {
         return tally.cut();
     };
-    let Listed::Of(f) = replay::read_floats(&mut floats) else {
+    let Listed::Of(f) = replay::read_floats(from, &mut floats) else {
         return tally.cut();
     };
-    let Listed::Of(b) = replay::read_bytes(&mut bytes) else {
+    let Listed::Of(b) = replay::read_bytes(from, &mut bytes) else {
         return tally.cut();
     };
     let head = replay::part_u32(&head, 0, h);
@@ -54,25 +57,26 @@ fn next(kind: u32, tally: Tally) -> Tally {
 }
 
 // The cases of a kind's section, and the line that says how many differ.
-fn section(kind: u32, name: &[u8]) {
+fn section<R: Read>(from: &mut R, out: &impl Print, kind: u32, name: &[u8]) {
     let mut tally = Tally::new();
-    let mut left = replay::read_section(kind);
+    let mut left = replay::read_section(from, kind);
     while left > 0 && !tally.ended {
-        tally = next(kind, tally);
+        tally = next(from, kind, tally);
         left -= 1;
     }
-    tally.print(name, b"case");
+    tally.print(out, name, b"case");
 }
 
-fn main() {
-    section(1, b"pair");
-    section(2, b"record");
-    section(3, b"fit");
-    section(4, b"speed");
-    section(5, b"align");
-    section(6, b"mask");
-    section(7, b"band");
-    section(8, b"trajectory");
-    section(11, b"job");
-    replay::end();
+fn main(rt: HostRuntime) {
+    let mut from = rt.stdin();
+    section(&mut from, &rt, 1, b"pair");
+    section(&mut from, &rt, 2, b"record");
+    section(&mut from, &rt, 3, b"fit");
+    section(&mut from, &rt, 4, b"speed");
+    section(&mut from, &rt, 5, b"align");
+    section(&mut from, &rt, 6, b"mask");
+    section(&mut from, &rt, 7, b"band");
+    section(&mut from, &rt, 8, b"trajectory");
+    section(&mut from, &rt, 11, b"job");
+    replay::end(&mut from, &rt);
 }

@@ -3,7 +3,7 @@ use Rattle.std.specs.Prelude.{◌≡◌, cond, ◌||◌, List, ℕ, zero, suc, l
 use Rattle.lists.specs.Sizes.{most_voices, most_voice}
 use Rattle.lists.specs.Refusals.{or_else}
 use Rattle.lists.specs.Answers.{written}
-use Rattle.lists.specs.Ends.{changed_of, counted_of}
+pub use Rattle.lists.specs.Ends.{changed_number, changed_of, counted, counted_of}
 use Rattle.lists.specs.Firsts.{first_at}
 use Rattle.settings.specs.declared.Settings.{Settings}
 use Rattle.lists.specs.declared.Changed.{Changed}

@@ -9,7 +9,8 @@ ghost use Rattle.settings.specs.Changes.{place_for};
 ghost use Rattle.lists.specs.Ends.{changed_number};
 ghost use Rattle.settings.specs.Promise.{store_refusal, voice_refusal, ClearSays, SetSays, GetSays, RemoveSays, CountSays};
 
-use lists::{Changed, Counted};
+// Whether a store was changed, and how many voices are held or bytes written; or the number of why not.
+pub use lists::{Changed, Counted};
 
 pub mod file;
 

@@ -1,7 +1,7 @@
 -- An answered job has no more states than durations stand in the output.
-use mathlib.Core.Path.{◌≡◌, refl, subst}
+use mathlib.Core.Path.{refl}
 use mathlib.Core.List.{List}
-use Prim.Native.Nat.{ℕ, ◌≤◌}
+use Prim.Native.Nat.{ℕ}
 use lib.ListN.{length}
 use Rattle.job.specs.declared.Answered.{Answered}
 use Rattle.job.specs.declared.Answered.TheVariants.{Done, Damaged, Refused}
@@ -18,7 +18,3 @@ states-within k bytes out work (Refused number) out' work' f = tt
 
 pub end-within : (link out work : List ℕ) (r : Answered) (link' out' work' : List ℕ) → LinkEndSays link out work r link' out' work' → StatesWithin r (length out')
 end-within link out work r link' out' work' f = states-within (link_refusal link) (came_in link) out work r out' work' f.job
-
--- and so many are taken of it
-pub done-within : (r : Answered) (s frames c n : ℕ) → r ≡ Done s frames c → StatesWithin r n → s ≤ n
-done-within r s frames c n e h = subst (λ (a : Answered). StatesWithin a n) e h

@@ -1,11 +1,14 @@
 // Prints the settings file that its argument names, or standard input, as a table.
+#![tactic(auto)]
+
 ghost use Rattle.std.specs.Prelude.{◌<◌, ◌≤◌, ◌≡◌, length};
 ghost use Rattle.voices.specs.Scales.{most_scale};
 ghost use Rattle.voices.specs.Reading.{file_room};
 
-use files::Input;
-use libc::{STDERR_FILENO, STDIN_FILENO, STDOUT_FILENO};
+use files::{Input, WORD};
 use settings::Got;
+use std::io;
+use std::io::{Print, Read, Write};
 
 // One byte more than the largest file has.
 const ROOM: usize = 1_703_918;
@@ -14,8 +17,8 @@ const ROOM: usize = 1_703_918;
 const MOST: u64 = 1_000_000_000_000_000;
 
 // Each print answers whether all of it could be written.
-fn print(text: &[u8]) -> bool {
-    io::write_all(STDOUT_FILENO, text)
+fn print(to: &impl Print, text: &[u8]) -> io::Result<()> {
+    to.write_all(text)
 }
 
 // The whole number nearest to a float of these bits, a half upward; 0 from 2 ^ 53 on, which no decimals of 0 say.
@@ -64,76 +67,85 @@ fn scale_of(size: f64) -> u64
 }
 
 // The point and the decimals: the digits of scale + rest are a one, which the point replaces, and those of the rest with the zeros in front of them.
-fn print_decimals(rest: u64, scale: u64) -> bool
+fn print_decimals(to: &impl Print, rest: u64, scale: u64) -> io::Result<()>
     requires { (rest < scale) × (scale ≤ most_scale) }
 {
     let mut text = [0u8; 20];
-    let n = io::decimal(scale + rest, &mut text);
+    let digits = scale + rest;
+    write!(&mut text[..], "{digits}")?;
     text[0] = b'.';
-    print(&text[..n])
+    let n = text.iter().position(|byte| *byte == 0).unwrap_or(20);
+    print(to, &text[..n])
 }
 
-fn print_size(size: f64, scale: u64) -> bool
+fn print_size(to: &impl Print, size: f64, scale: u64) -> io::Result<()>
     requires { (0 < scale) × (scale ≤ most_scale) }
 {
     let n = units(size, scale as f64);
     if scale == 1 {
-        return io::print_decimal(STDOUT_FILENO, n);
+        return to.print(n);
     }
-    io::print_decimal(STDOUT_FILENO, n / scale) && print_decimals(n % scale, scale)
+    to.print(n / scale)?;
+    print_decimals(to, n % scale, scale)
 }
 
 // A setting with as few decimals as say it, or by its bits.
-fn print_setting(bits: u64) -> bool {
+fn print_setting(to: &impl Print, bits: u64) -> io::Result<()> {
     let size = floats::magnitude(floats::of_bits(bits));
     let scale = scale_of(size);
     if scale == 0 {
-        return print(b" 0x") && io::print_hex(STDOUT_FILENO, bits, 16);
+        return print!(to; " 0x{bits:016x}");
     }
     if bits >> 63 == 1 {
-        return print(b" -") && print_size(size, scale);
+        print(to, b" -")?;
+        return print_size(to, size, scale);
     }
-    print(b" ") && print_size(size, scale)
+    print(to, b" ")?;
+    print_size(to, size, scale)
 }
 
 // The line of a voice; none where no voice has the number, as that of a free place.
-fn print_voice(voices: &[u32], settings: &[u64], voice: u32) -> bool {
+fn print_voice(to: &impl Print, voices: &[u32], settings: &[u64], voice: u32) -> io::Result<()> {
     let Got::Held(given) = settings::get(voices, settings, voice) else {
-        return true;
+        return Ok(());
     };
-    io::print_decimal(STDOUT_FILENO, voice as u64)
-        && print_setting(given.speed)
-        && print_setting(given.weight)
-        && print_setting(given.threshold)
-        && print(b"\n")
+    to.print(voice)?;
+    print_setting(to, given.speed)?;
+    print_setting(to, given.weight)?;
+    print_setting(to, given.threshold)?;
+    print(to, b"\n")
 }
 
-fn print_voices(voices: &[u32], settings: &[u64]) -> bool {
+fn print_voices(to: &impl Print, voices: &[u32], settings: &[u64]) -> io::Result<()> {
     let mut i = 0;
     while i < voices.len() {
-        if !print_voice(voices, settings, voices[i]) {
-            return false;
-        }
+        print_voice(to, voices, settings, voices[i])?;
         i += 1;
     }
-    true
+    Ok(())
 }
 
 // The table of a file's bytes, or the refusal.
-fn print_table(bytes: &[u8]) -> bool {
+fn print_table(to: &impl Print, bytes: &[u8]) -> io::Result<()> {
     let mut voices = [0u32; settings::PLACES];
     let mut settings = [0u64; settings::SETTINGS];
     let refusal = settings::file::read(&mut voices, &mut settings, bytes).number();
     if refusal != 0 {
-        return print(b"refused ")
-            && io::print_decimal(STDOUT_FILENO, refusal as u64)
-            && print(b"\n");
+        return println!(to; "refused {refusal}");
     }
-    print(b"voice speed gv_weight threshold\n") && print_voices(&voices, &settings)
+    print(to, b"voice speed gv_weight threshold\n")?;
+    print_voices(to, &voices, &settings)
 }
 
-fn fail(what: &[u8]) {
-    files::fail(b"voices", what);
+fn fail(rt: &HostRuntime, what: &[u8], error: &io::Error) {
+    files::fail(&rt.stderr(), b"voices", what, error);
+}
+
+// Says it where not all could be printed.
+fn end_of_print(rt: &HostRuntime, printed: io::Result<()>) {
+    if let Err(error) = printed {
+        fail(rt, b"standard output", &error);
+    }
 }
 
 // Room for a file: zeros. The prover would count them where they were made in place.
@@ -143,76 +155,66 @@ fn room() -> [u8; ROOM]
     [0; ROOM]
 }
 
-// Prints the file that is read from a descriptor; name is what a message calls it. A file larger than any fills the room, and is refused as that front is.
-fn print_from(fd: i32, name: &[u8]) {
+// Prints the file that is read; name is what a message calls where it comes from. A file larger than any fills the room, and is refused as that front is.
+fn print_from<R: Read>(rt: &HostRuntime, from: &mut R, name: &[u8]) {
     let mut room = room();
-    let Input::Bytes(n) = files::read_all(fd, &mut room) else {
-        fail(name);
-        return;
-    };
-    if !print_table(&room[..n]) {
-        fail(b"standard output");
+    match files::read_all(from, &mut room) {
+        Input::Bytes(n) => end_of_print(rt, print_table(rt, &room[..n])),
+        Input::Failed(error) => fail(rt, name, &error),
     }
 }
 
-fn print_input() {
-    print_from(STDIN_FILENO, b"standard input");
+fn print_input(rt: &HostRuntime) {
+    print_from(rt, &mut rt.stdin(), b"standard input");
 }
 
-fn print_file(path: &[u8]) {
-    let fd = os::open_read(path);
-    if fd < 0 {
-        fail(path);
-        return;
+fn print_file(rt: &HostRuntime, path: &[u8]) {
+    match files::open(rt, path) {
+        Ok(mut file) => print_from(rt, &mut file, path),
+        Err(error) => fail(rt, path, &error),
     }
-    print_from(fd, path);
-    libc::close(fd);
 }
 
-fn print_help() {
+fn print_help(rt: &HostRuntime) {
     let printed = print(
+        rt,
         b"usage: voices [FILE]\n\nPrints a settings file, or standard input where FILE is - or is not given, as a table: a line of\nnames, then a line for each voice with its number, speed, GV weight and voicing threshold. A\nsetting has as few decimals as say it, or is written by its 64 bits, such as\n0x7ff0000000000000, where 15 decimals or 15 digits don't. A file that is refused is one line:\n'refused 16' for another version, 17 for more than 256 voices, 18 for a file that is malformed.\nWhat can't be read or written is said on standard error. The exit status is 0 in any case.\n",
     );
-    if !printed {
-        fail(b"standard output");
-    }
+    end_of_print(rt, printed);
 }
 
 // Does what a word asks: what begins with a dash names no file.
-fn print_word(word: &[u8]) {
+fn print_word(rt: &HostRuntime, word: &[u8]) {
     if files::is(word, b"--help") {
-        print_help();
+        print_help(rt);
         return;
     }
     if files::is(word, b"-") {
-        print_input();
+        print_input(rt);
         return;
     }
     if lists::starts_with(word, b"-") {
-        files::refuse_option(b"voices", word);
+        files::refuse_option(&rt.stderr(), b"voices", word);
         return;
     }
-    print_file(word);
+    print_file(rt, word);
 }
 
-fn main() {
-    let words = os::arg_count();
+fn main(rt: HostRuntime) {
+    let words = files::word_count(&rt);
     if words <= 1 {
-        print_input();
+        print_input(&rt);
         return;
     }
     if words > 2 {
-        io::write_all(
-            STDERR_FILENO,
-            b"voices: one FILE at most; see voices --help\n",
-        );
+        let _ = rt
+            .stderr()
+            .write_all(b"voices: one FILE at most; see voices --help\n");
         return;
     }
-    let mut word = io::buffer();
-    let n = os::arg(1, &mut word);
-    if os::errno() != 0 {
-        fail(b"FILE");
-        return;
+    let mut word = [0u8; WORD];
+    match files::word(&rt, 1, &mut word) {
+        Input::Bytes(n) => print_word(&rt, &word[..n]),
+        Input::Failed(error) => fail(&rt, b"FILE", &error),
     }
-    print_word(&word[..n]);
 }

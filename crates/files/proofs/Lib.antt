@@ -1,2 +1,0 @@
--- The laws that the proofs of reading cite.
-pub mod Reading

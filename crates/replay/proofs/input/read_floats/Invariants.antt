@@ -1,0 +1,10 @@
+-- What was read stands over the first of those that are lent.
+use Rattle.std.proofs.Common.{◌-◌}
+use Rattle.replay.proofs.Fronts.{Begun}
+use Rattle.replay.proofs.input.read_floats.Given as goal
+
+abbrev pub invariant-loop-i : goal.invariant-loop-i
+invariant-loop-i g l = Begun l.initial.into l.n l.into l.i
+
+abbrev pub decreases-loop-i : goal.decreases-loop-i
+decreases-loop-i g l = l.n - l.i
