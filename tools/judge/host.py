@@ -1,6 +1,6 @@
 """The C calls compiled for this machine, for large runs and for timing where the x86-64 archive needs an emulator.
 
-`rt staticlib` hands one LLVM module to the kit's clang. A shadow of the kit, links all through but
+`rt lib` hands one LLVM module to the kit's clang. A shadow of the kit, links all through but
 for a clang that keeps a copy of that module, gives us the very module that the archive is made of.
 """
 
@@ -46,8 +46,7 @@ def compiled(crate: str = "hejmirov") -> Path:
     module.unlink(missing_ok=True)
     shadow_kit(folder, module)
     shadow = {**os.environ, "RATTLE_HOME": str(folder)}
-    build = ["rt", "staticlib", crate]
-    subprocess.run(build, check=True, cwd=programs.ROOT, env=shadow, stdout=subprocess.DEVNULL)
+    subprocess.run(["rt", "lib"], check=True, cwd=programs.ROOT / "crates" / crate, env=shadow, stdout=subprocess.DEVNULL)
     built = programs.BUILT / f"{crate}.o"
     target = f"--target={platform.machine()}-unknown-linux-gnu"
     command = [programs.kit_tools() / "clang", target, "-O3", "-c", "-x", "ir", module, "-o", built]
