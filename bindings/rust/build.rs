@@ -1,5 +1,5 @@
 //! Links `libhejmirov.a`, from the folder that `HEJMIROV_LIB_DIR` names or else from where
-//! `rt staticlib hejmirov` writes it in this repository.
+//! `tools/archive` writes it in this repository.
 
 use std::env;
 use std::path::PathBuf;
@@ -27,7 +27,7 @@ fn main() {
     println!("cargo::rerun-if-changed={}", archive.display());
     if !archive.is_file() {
         println!(
-            "cargo::error=there is no {}: run `rt staticlib hejmirov`, or name the archive's folder in HEJMIROV_LIB_DIR",
+            "cargo::error=there is no {}: run `tools/archive`, or name the archive's folder in HEJMIROV_LIB_DIR",
             archive.display()
         );
         return;

@@ -34,7 +34,7 @@
 //! # Linking
 //!
 //! The archive is found in the folder that the environment variable `HEJMIROV_LIB_DIR` names, else
-//! in this repository's `target/staticlib`, where `rt staticlib hejmirov` writes it. It is for
+//! in this repository's `target/staticlib`, where `tools/archive` writes it. It is for
 //! x86-64 Linux and needs nothing but the C library's `memset` and `memcpy`.
 
 mod durations;

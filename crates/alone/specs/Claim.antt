@@ -1,5 +1,5 @@
 -- One voiced run alone has the full trajectory's values at its frames.
-use Rattle.std.specs.Prelude.{◌≡◌, Bool, List, ℕ, ◌+◌, ◌*◌, ◌<◌, T, length, Float}
+use Rattle.std.specs.Prelude.{Bool, List, ℕ, ◌+◌, ◌*◌, ◌<◌, T, length, Float}
 use Rattle.std.specs.Float.Ieee.Scale.{finite}
 use Rattle.floats.specs.Signs.{Same}
 use Rattle.model.specs.Windows.{band_width}

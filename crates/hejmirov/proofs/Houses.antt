@@ -17,7 +17,7 @@ use Rattle.houses.specs.Apart.{ToldTheSame, ChangesItsOwn, Apart}
 use Rattle.houses.proofs.Unwinding.{told_the_same, changes-its-own}
 use Rattle.houses.proofs.Apart.{apart}
 use Rattle.houses.proofs.Started.{started-alike}
-use Rattle.hejmirov.specs.Houses.{TableStartCallSays, CallAsked, CallTold, number, free_as, CallMakes, set_made, clear_made, use_made, free_made}
+use Rattle.hejmirov.specs.Houses.{TableStartCallSays, CallAsked, CallTold, number, CallMakes, set_made, clear_made, use_made, free_made}
 use Rattle.hejmirov.proofs.One.{hands_one, hands_two}
 use Rattle.hejmirov.proofs.Keeping.{zero-done}
 

@@ -2,6 +2,7 @@
 // were, but for the place of a damaged job.
 // A list is a pointer and a length.
 #![tactic(auto)]
+
 ghost use Rattle.std.specs.Prelude.{◌≡◌};
 ghost use Rattle.steps.specs.Steps.{states};
 ghost use Rattle.duration.specs.Promise.{fitted, aligned};

@@ -1,19 +1,17 @@
 -- What the lower floors' calls leave of a group of components.
 use mathlib.Core.Path.{◌≡◌, refl, sym, ap, ◌∙◌}
-use mathlib.Core.Bool.{Bool, true, false, cond}
-use mathlib.Core.List.{List, map}
+use mathlib.Core.Bool.{true, false}
+use mathlib.Core.List.{List}
 use Prim.Native.Nat.{ℕ, ◌+◌, ◌-◌, ◌*◌, ◌/◌, ◌<◌, ◌≤◌}
 use native.Mathlib.Nat.{add-sub_cancel_left, mul_comm, mul_assoc, mul-le-mul, mul-le-mul_right, le-div_iff_mul-le, div-mul-le_self}
 use native.Mathlib.Omega.{arith}
 use lib.ListN.{length, take, drop}
-use lib.Ieee.{Float, binary64, mul}
+use lib.Ieee.{Float}
 use Rattle.lists.specs.Totals.{total}
 use Rattle.lists.specs.Build.{build}
 use Rattle.lists.specs.Parts.{part}
-use Rattle.lists.specs.Flags.{is_on}
 use Rattle.lists.specs.Frames.{fill, count}
 use Rattle.lists.proofs.Regions.{cut-length}
-use Rattle.region.specs.Rows.{elem}
 use Rattle.region.specs.Region as region
 use Rattle.region.specs.Region.{Region, region_in, region_of, each_region}
 use Rattle.region.specs.declared.Layout.{Layout}
@@ -25,10 +23,9 @@ use Rattle.band.specs.Promise as band
 use Rattle.band.specs.Promise.{rowed_in, RowsSay}
 use Rattle.solve.specs.Promise as solve
 use Rattle.solve.specs.Promise.{solved_in, SolveSays}
-use Rattle.gv.specs.Promise as gv
 use Rattle.gv.specs.Promise.{VarySays}
 use Rattle.mlpg_adjust.specs.Trajectory.{state_size, gv_on, with_gv}
-use Rattle.mlpg_adjust.specs.Inner.Groups.{voiced_in, layout_of, plan_of, Ready, Varying, target_in, column_of, Columned}
+use Rattle.mlpg_adjust.specs.Inner.Groups.{voiced_in, layout_of, Ready, Varying, target_in, column_of, Columned}
 use Rattle.mlpg_adjust.specs.declared.GlobalVariance.{GlobalVariance}
 use Rattle.mlpg_adjust.specs.declared.GlobalVariance.TheVariants.{Off, On}
 use Rattle.mlpg_adjust.specs.declared.Stream.{Stream}

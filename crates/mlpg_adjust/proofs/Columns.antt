@@ -1,13 +1,12 @@
 -- Columns of a trajectory: what filling a group's values back leaves, and what all of them make.
 use mathlib.Core.Path.{◌≡◌, refl, sym, ap, ◌∙◌}
-use mathlib.Core.Bool.{Bool, true, false, cond, ◌&&◌}
+use mathlib.Core.Bool.{Bool, true}
 use mathlib.Core.Logic.{⊎_elim}
 use mathlib.Core.List.{List, map}
 use Prim.Native.Nat.{ℕ, ◌+◌, ◌-◌, ◌*◌, ◌/◌, ◌%◌, ◌<◌, ◌≤◌}
 use native.Mathlib.Nat.{mod-lt}
 use native.Mathlib.Omega.{arith}
 use borrow.Author.Tests.{le-leb, lt-leb, lt-ltb}
-use lib.Dec.{leb, ltb}
 use lib.ListN.{length}
 use lib.Ieee.{Float, nan, binary64, mul}
 use Rattle.lists.specs.Totals.{total}
@@ -24,10 +23,10 @@ use Rattle.region.specs.Region as region
 use Rattle.region.specs.Region.{region_in, region_of}
 use Rattle.region.specs.declared.Layout.{Layout}
 use Rattle.region.specs.declared.Group.{Group}
-use Rattle.voicing.specs.Space.{is_in, filled_at}
+use Rattle.voicing.specs.Space.{filled_at}
 use Rattle.gv.specs.Parmgen.{parmgen}
 use Rattle.mlpg_adjust.specs.Trajectory.{state_size, gv_on, with_gv, matrix, side, solved, varied, trajectory, numbers_of}
-use Rattle.mlpg_adjust.specs.Inner.Groups.{voiced_in, component_values, column_of, Columned}
+use Rattle.mlpg_adjust.specs.Inner.Groups.{voiced_in, column_of, Columned}
 use Rattle.mlpg_adjust.specs.declared.GlobalVariance.{GlobalVariance}
 use Rattle.mlpg_adjust.specs.declared.GlobalVariance.TheVariants.{Off, On}
 use Rattle.mlpg_adjust.specs.declared.Stream.{Stream}

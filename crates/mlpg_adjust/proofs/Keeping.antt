@@ -1,7 +1,7 @@
 -- Each of the lower floors' steps keeps the lengths of a region's lists.
 use mathlib.Core.Path.{refl}
 use mathlib.Core.List.{List, map}
-use Prim.Native.Nat.{ℕ, ◌+◌, ◌<◌}
+use Prim.Native.Nat.{ℕ, ◌+◌}
 use native.Mathlib.Omega.{arith}
 use lib.Ieee.{Float, binary64, mul}
 use Rattle.lists.specs.Parts.{part}

@@ -1,12 +1,11 @@
 -- The marks of a stream's frames: the flags in front, and the voiced frames' switches behind them.
 use mathlib.Core.Path.{◌≡◌, refl, sym, ap, ◌∙◌}
-use mathlib.Core.Bool.{Bool, true, false, cond, ◌&&◌}
-use mathlib.Core.List.{List, [], ◌∷◌, ◌++◌, map}
-use Prim.Native.Nat.{ℕ, zero, suc, ◌+◌, ◌*◌, ◌<◌, ◌≤◌}
+use mathlib.Core.Bool.{Bool, true}
+use mathlib.Core.List.{List, [], ◌++◌, map}
+use Prim.Native.Nat.{ℕ, ◌+◌, ◌*◌, ◌≤◌}
 use native.Mathlib.Nat.{le_of_eq}
 use native.Mathlib.Omega.{arith}
 use borrow.Author.Tests.{le-leb, eq-eqb}
-use lib.Dec.{leb, eqb}
 use lib.ListN.{length, take, drop, length-append, length-map, length-drop, take-append-drop}
 use lib.Seq.{sets, length-sets, take_at}
 use lib.Ieee.{Float}
@@ -18,7 +17,6 @@ use Rattle.lists.proofs.Counts.{select-length}
 use Rattle.lists.proofs.Regions.{stored-behind, stored-whole}
 use Rattle.lists.proofs.Expansions.{expand-length}
 use Rattle.model.specs.Windows.{band_width}
-use Rattle.region.specs.declared.Layout.{Layout}
 use Rattle.voicing.specs.Mask.{mask_in}
 use Rattle.voicing.specs.Space.{marks, switches, MarkSays, SwitchesSay}
 use Rattle.voicing.specs.declared.Voicing.{Voicing}

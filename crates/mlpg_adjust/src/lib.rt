@@ -1,5 +1,6 @@
 // Maximum likelihood parameter generation: the records of a stream become its trajectory.
 #![tactic(auto)]
+
 ghost use Rattle.std.specs.Prelude.{◌≡◌, [], ◌≤◌, length};
 ghost use Rattle.lists.specs.Totals.{total};
 ghost use Rattle.lists.specs.Answers.{written};

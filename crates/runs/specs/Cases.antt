@@ -1,14 +1,13 @@
 -- RULES, One run alone: worked cases of runs and of their refusals, computed from the definitions.
-use Rattle.std.specs.Prelude.{◌≡◌, refl, Bool, true, false, List, [], ◌∷◌, ℕ, replicate, Float}
+use Rattle.std.specs.Prelude.{◌≡◌, refl, true, false, List, [], ◌∷◌, ℕ, replicate, Float}
 use Rattle.std.specs.Float.Ieee.{of_bits, lt}
 use Rattle.floats.specs.Numbers.{nought, one}
 use Rattle.model.specs.Record.{from_linear}
 use Rattle.model.specs.Windows.{widths_fit, all_finite, finite}
 use Rattle.voicing.specs.Mask.{mask_of, weights_of}
-use Rattle.mlpg_adjust.specs.Promise.{stream_refusal, disagree}
+use Rattle.mlpg_adjust.specs.Promise.{disagree}
 use Rattle.mlpg_adjust.specs.declared.GlobalVariance.{GlobalVariance}
 use Rattle.mlpg_adjust.specs.declared.GlobalVariance.TheVariants.{Off, On}
-use Rattle.mlpg_adjust.specs.declared.Stream.{Stream}
 use Rattle.runs.specs.Runs.{runs_from, runs_of, pairs_of}
 use Rattle.runs.specs.Promise.{runs_in, runs_refusal, run_refusal}
 

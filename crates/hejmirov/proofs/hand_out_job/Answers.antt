@@ -1,5 +1,4 @@
 use mathlib.Core.Path.{refl}
-use borrow.Author.Rules.{rules}
 use Rattle.hejmirov.proofs.hand_out_job.Goals as goal
 
 pub returns-in-Done : goal.returns-in-Done

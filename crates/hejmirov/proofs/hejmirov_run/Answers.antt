@@ -1,4 +1,3 @@
-use borrow.Author.Rules.{rules}
 use Rattle.hejmirov.proofs.hejmirov_run.Goals as goal
 
 pub returns : goal.returns

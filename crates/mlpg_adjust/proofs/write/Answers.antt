@@ -7,7 +7,6 @@ use Rattle.lists.specs.Totals.{total}
 use Rattle.mlpg_adjust.specs.Promise.{lengths_of}
 use Rattle.mlpg_adjust.specs.Inner.Groups.{Room}
 use Rattle.mlpg_adjust.proofs.Ways.{frames_are, numbers-written, zeroed}
-use borrow.Author.Rules.{rules}
 use Rattle.mlpg_adjust.proofs.write.Goals as goal
 use Rattle.mlpg_adjust.proofs.write.Goals.{After-total_u32-frames, Start}
 

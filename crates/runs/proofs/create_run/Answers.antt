@@ -1,5 +1,4 @@
 use mathlib.Core.Path.{sym, ◌∙◌}
-use borrow.Author.Rules.{rules}
 use Rattle.runs.proofs.Ways.{inputs-refused}
 use Rattle.runs.proofs.create_run.Goals as goal
 

@@ -1,6 +1,5 @@
 use native.Mathlib.Omega.{arith}
 use Rattle.mlpg_adjust.proofs.Ways.{pairs-few}
-use borrow.Author.Rules.{rules}
 use Rattle.mlpg_adjust.proofs.Stream.record_size.Goals as goal
 
 pub overflow_mul-pairs : goal.overflow_mul-pairs

@@ -2,7 +2,6 @@ use mathlib.Core.Path.{◌≡◌, ap, ◌∙◌}
 use Prim.Native.Nat.{◌≤◌}
 use native.Mathlib.Nat.{mul-le-mul}
 use native.Mathlib.Omega.{arith}
-use borrow.Author.Rules.{rules}
 use Rattle.model.specs.declared.voice.model.Clamps.{Clamps}
 use Rattle.model.specs.Weight.{voiced_at}
 use Rattle.model.specs.Record.{from_linear}

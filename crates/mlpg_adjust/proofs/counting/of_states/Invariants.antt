@@ -1,16 +1,8 @@
-use mathlib.Core.Path.{◌≡◌, ap, ◌∙◌}
-use Prim.Native.Nat.{ℕ, ◌+◌, ◌-◌, ◌*◌, ◌≤◌}
-use native.Mathlib.Nat.{add-sub_cancel_left}
-use native.Mathlib.Omega.{arith}
-use borrow.Author.Rules.{rules}
-use lib.ListN.{length, take, drop, length-take}
-use Rattle.lists.proofs.Rows.{row_fits}
-use Rattle.lists.proofs.Sums.{get_or-le-total}
-use Rattle.model.specs.declared.voice.model.Clamps.{Clamps}
-use Rattle.model.specs.Record.{from_linear}
+use mathlib.Core.Path.{◌≡◌}
+use Prim.Native.Nat.{◌-◌, ◌*◌}
+use lib.ListN.{length}
 use Rattle.model.specs.Clamps.{is_high, is_low}
-use Rattle.mlpg_adjust.specs.Inner.Clamps.{state_clamps}
-use Rattle.mlpg_adjust.proofs.Clamps.{Reached, reached-none, reached-next, reached-all, reached-fits}
+use Rattle.mlpg_adjust.proofs.Clamps.{Reached}
 use Rattle.mlpg_adjust.proofs.counting.of_states.Given as goal
 
 abbrev pub invariant-loop-s : goal.invariant-loop-s

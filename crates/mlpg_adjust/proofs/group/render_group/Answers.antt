@@ -1,7 +1,6 @@
 use mathlib.Core.Path.{◌∙◌}
 use Rattle.mlpg_adjust.proofs.Calls.{varying, group_columned}
 use Rattle.mlpg_adjust.proofs.Keeping.{closed-keeps, rowed-keeps, done-keeps, target_keeps}
-use borrow.Author.Rules.{rules}
 use Rattle.mlpg_adjust.proofs.group.render_group.Goals as goal
 use Rattle.mlpg_adjust.proofs.group.render_group.Goals.{After-solve_group, Start}
 

@@ -1,12 +1,7 @@
-use mathlib.Core.Path.{◌≡◌, refl, sym, subst, ◌∙◌}
-use Prim.Native.Nat.{ℕ, ◌+◌, ◌-◌, ◌*◌, ◌≤◌}
-use native.Mathlib.Omega.{arith}
+use mathlib.Core.Path.{◌≡◌}
+use Prim.Native.Nat.{◌-◌, ◌≤◌}
 use lib.ListN.{length}
-use Rattle.region.specs.Region.{size_of}
 use Rattle.mlpg_adjust.specs.Inner.Groups.{Columned, column_of}
-use Rattle.mlpg_adjust.proofs.Calls.{lanes_some, lanes_room}
-use Rattle.mlpg_adjust.proofs.Columns.{columned_none}
-use borrow.Author.Rules.{rules}
 use Rattle.mlpg_adjust.proofs.group.render_groups.Given as goal
 
 abbrev pub invariant-loop-first : goal.invariant-loop-first

@@ -1,6 +1,5 @@
 use mathlib.Core.Path.{◌∙◌}
 use Rattle.mlpg_adjust.proofs.Calls.{gv_off, gv_on_lem, on-said}
-use borrow.Author.Rules.{rules}
 use Rattle.mlpg_adjust.proofs.group.vary.Goals as goal
 
 pub returns-in_default : goal.returns-in_default

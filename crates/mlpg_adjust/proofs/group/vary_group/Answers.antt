@@ -1,5 +1,4 @@
 use Rattle.mlpg_adjust.proofs.Calls.{group-varied}
-use borrow.Author.Rules.{rules}
 use Rattle.mlpg_adjust.proofs.group.vary_group.Goals as goal
 
 pub returns : goal.returns

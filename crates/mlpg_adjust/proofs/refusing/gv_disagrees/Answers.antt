@@ -1,5 +1,4 @@
 use borrow.Author.Tests.{eq-eqb, ne_eqb}
-use borrow.Author.Rules.{rules}
 use Rattle.mlpg_adjust.proofs.refusing.gv_disagrees.Goals as goal
 
 pub returns-then-n-wide : goal.returns-then-n-wide

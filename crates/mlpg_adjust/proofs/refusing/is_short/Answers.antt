@@ -1,7 +1,6 @@
 use native.Mathlib.Omega.{arith}
 use native.Mathlib.Nat.{mul-le-mul_left}
 use borrow.Author.Tests.{lt-ltb, le-ltb}
-use borrow.Author.Rules.{rules}
 use Rattle.mlpg_adjust.proofs.refusing.is_short.Goals as goal
 
 pub overflow_mul-frames : goal.overflow_mul-frames

@@ -3,7 +3,6 @@ use Prim.Native.Nat.{◌≤◌}
 use native.Mathlib.Nat.{mul-le-mul_left}
 use native.Mathlib.Omega.{arith}
 use Rattle.mlpg_adjust.proofs.Ways.{size_small, disagree-taps, disagree-records, disagree-rest}
-use borrow.Author.Rules.{rules}
 use Rattle.mlpg_adjust.proofs.refusing.lists_disagree.Goals as goal
 
 pub returns-then-coefficients-total_u32 : goal.returns-then-coefficients-total_u32

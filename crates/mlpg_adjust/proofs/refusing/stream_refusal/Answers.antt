@@ -2,7 +2,6 @@ use mathlib.Core.Path.{sym, ◌∙◌}
 use borrow.Author.Tests.{not-false}
 use Rattle.model.proofs.Windows.{fit-few}
 use Rattle.mlpg_adjust.proofs.Ways.{in_range, refused_1, refused_2, refused_3, refused_4, refused_5, refused_none}
-use borrow.Author.Rules.{rules}
 use Rattle.std.proofs.Common.{ap}
 use Rattle.std.proofs.Common.{not}
 use Rattle.mlpg_adjust.proofs.refusing.stream_refusal.Goals as goal

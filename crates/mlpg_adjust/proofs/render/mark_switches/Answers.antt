@@ -1,7 +1,6 @@
 use mathlib.Core.Path.{◌∙◌}
 use Rattle.mlpg_adjust.proofs.Calls.{gv_off, gv_on_lem, on-said}
 use Rattle.mlpg_adjust.proofs.Marks.{switches-written}
-use borrow.Author.Rules.{rules}
 use Rattle.mlpg_adjust.proofs.render.mark_switches.Goals as goal
 
 pub returns-in_default : goal.returns-in_default

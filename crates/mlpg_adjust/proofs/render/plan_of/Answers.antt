@@ -1,9 +1,8 @@
-use mathlib.Core.Path.{◌≡◌, refl}
+use mathlib.Core.Path.{refl}
 use native.Mathlib.Omega.{arith}
 use Rattle.voicing.specs.declared.Voicing.{Voicing}
 use Rattle.mlpg_adjust.proofs.Ways.{frames_are}
 use Rattle.mlpg_adjust.proofs.Marks.{few, flagged_so, planned}
-use borrow.Author.Rules.{rules}
 use Rattle.mlpg_adjust.proofs.render.plan_of.Goals as goal
 
 pub overflow_cast-layout-2 : goal.overflow_cast-layout-2

@@ -1,7 +1,6 @@
 use mathlib.Core.Path.{◌∙◌}
 use native.Mathlib.Omega.{arith}
-use Rattle.mlpg_adjust.proofs.Marks.{switches-room, room-before, ready, all-rendered}
-use borrow.Author.Rules.{rules}
+use Rattle.mlpg_adjust.proofs.Marks.{switches-room, ready, all-rendered}
 use Rattle.mlpg_adjust.proofs.render.render.Goals as goal
 use Rattle.mlpg_adjust.proofs.render.render.Goals.{After-plan_of-arg-1, Start}
 

@@ -1,5 +1,4 @@
 use native.Mathlib.Omega.{arith}
-use borrow.Author.Rules.{rules}
 use Rattle.runs.proofs.Findings.{runs-most, found_all}
 use Rattle.runs.proofs.finding.count.Goals as goal
 

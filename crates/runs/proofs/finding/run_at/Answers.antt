@@ -1,8 +1,4 @@
-use Prim.Native.Nat.{◌-◌, ◌≤◌}
 use native.Mathlib.Omega.{arith}
-use borrow.Author.Rules.{rules}
-use Rattle.voicing.specs.Mask.{stream_mask}
-use Rattle.runs.specs.Inner.Finding.{FoundAt}
 use Rattle.runs.proofs.Findings.{found-next}
 use Rattle.runs.proofs.finding.run_at.Goals as goal
 

@@ -1,9 +1,6 @@
 use Prim.Native.Nat.{◌-◌, ◌≤◌}
-use native.Mathlib.Omega.{arith}
-use borrow.Author.Rules.{rules}
 use Rattle.voicing.specs.Mask.{stream_mask}
 use Rattle.runs.specs.Inner.Finding.{FoundAt}
-use Rattle.runs.proofs.Findings.{found-next}
 use Rattle.runs.proofs.finding.run_at.Given as goal
 
 abbrev pub invariant-loop-found : goal.invariant-loop-found

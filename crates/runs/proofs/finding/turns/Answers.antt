@@ -1,5 +1,4 @@
 use mathlib.Core.Path.{sym, ap, ◌∙◌}
-use borrow.Author.Rules.{rules}
 use Rattle.model.specs.Weight.{voiced_at}
 use Rattle.runs.proofs.Findings.{turns_voiced, turns_unvoiced}
 use Rattle.runs.proofs.finding.turns.Goals as goal

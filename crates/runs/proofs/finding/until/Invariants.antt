@@ -1,15 +1,7 @@
-use mathlib.Core.Path.{◌≡◌, sym, ap, ◌∙◌}
-use Prim.Native.Nat.{ℕ, ◌+◌, ◌-◌, ◌*◌, ◌≤◌}
-use native.Mathlib.Nat.{add-sub_cancel_left}
-use native.Mathlib.Omega.{arith}
-use borrow.Author.Rules.{rules}
-use lib.ListN.{length, take, drop, get_or}
-use Rattle.lists.proofs.Rows.{row_fits}
-use Rattle.model.specs.Weight.{voiced_at}
-use Rattle.model.specs.Record.{from_linear}
-use Rattle.voicing.specs.Mask.{stream_mask, weight_at}
-use Rattle.runs.specs.Inner.Finding.{turns_to}
-use Rattle.runs.proofs.Findings.{Passed, passed_none, passed-all, passed-fits, passed-next, passed-turned}
+use Prim.Native.Nat.{◌-◌}
+use lib.ListN.{length}
+use Rattle.voicing.specs.Mask.{stream_mask}
+use Rattle.runs.proofs.Findings.{Passed}
 use Rattle.runs.proofs.finding.until.Given as goal
 
 abbrev pub invariant-loop-state : goal.invariant-loop-state

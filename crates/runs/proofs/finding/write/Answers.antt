@@ -1,9 +1,7 @@
-use Prim.Native.Nat.{◌+◌, ◌-◌, ◌<◌, ◌≤◌}
+use Prim.Native.Nat.{◌+◌, ◌<◌, ◌≤◌}
 use native.Mathlib.Omega.{arith}
-use borrow.Author.Rules.{rules}
 use lib.ListN.{length, length-set}
-use Rattle.voicing.specs.Mask.{stream_mask}
-use Rattle.runs.proofs.Findings.{runs-most, found-next, Writing, writing, writing-some, writing-room, writing-next, written, stands-most}
+use Rattle.runs.proofs.Findings.{runs-most, found-next, writing, writing-some, writing-room, writing-next, written, stands-most}
 use Rattle.runs.proofs.finding.write.Goals as goal
 use Rattle.runs.proofs.finding.write.Goals.{After-struct_known-1, Start}
 

@@ -1,9 +1,7 @@
-use Prim.Native.Nat.{◌+◌, ◌-◌, ◌<◌, ◌≤◌}
-use native.Mathlib.Omega.{arith}
-use borrow.Author.Rules.{rules}
-use lib.ListN.{length, length-set}
+use Prim.Native.Nat.{◌-◌}
+use lib.ListN.{length}
 use Rattle.voicing.specs.Mask.{stream_mask}
-use Rattle.runs.proofs.Findings.{runs-most, found-next, Writing, writing, writing-some, writing-room, writing-next, written, stands-most}
+use Rattle.runs.proofs.Findings.{Writing}
 use Rattle.runs.proofs.finding.write.Given as goal
 
 abbrev pub invariant-loop-at : goal.invariant-loop-at

@@ -1,6 +1,5 @@
 use Prim.Native.Nat.{◌*◌, ◌≤◌}
 use native.Mathlib.Omega.{arith}
-use borrow.Author.Rules.{rules}
 use Rattle.mlpg_adjust.proofs.Ways.{pairs-few}
 use Rattle.runs.proofs.refusing.record_size.Goals as goal
 use Rattle.runs.proofs.refusing.record_size.Goals.{After-wide}

@@ -4,7 +4,6 @@ use native.Mathlib.Omega.{arith}
 use lib.Dec.{ltb}
 use lib.ListN.{length}
 use borrow.Author.Tests.{ltb-false}
-use borrow.Author.Rules.{rules}
 use Rattle.lists.proofs.Flags.{neither}
 use Rattle.mlpg_adjust.proofs.Ways.{InRange, in_range, size_small}
 use Rattle.runs.proofs.Ways.{refused_1, refused_3, refused_4, refused_5, refused_none}

@@ -1,5 +1,4 @@
 use borrow.Author.Tests.{lt-ltb, le-ltb, eq-eqb, ne_eqb}
-use borrow.Author.Rules.{rules}
 use Rattle.runs.proofs.refusing.refusal_of_run.Goals as goal
 
 pub returns-then-frames-eq0 : goal.returns-then-frames-eq0

@@ -1,4 +1,3 @@
-use borrow.Author.Rules.{rules}
 use Rattle.runs.proofs.refusing.room_refusal.Goals as goal
 
 pub returns-then-numbers-floats : goal.returns-then-numbers-floats

@@ -1,7 +1,4 @@
-use mathlib.Core.Path.{sym, ap, ◌∙◌}
-use Prim.Native.Nat.{ℕ}
-use borrow.Author.Rules.{rules}
-use Rattle.lists.specs.Refusals.{or_else}
+use mathlib.Core.Path.{sym}
 use Rattle.lists.proofs.Refusals.{or-first}
 use Rattle.runs.proofs.refusing.run_refusal.Goals as goal
 

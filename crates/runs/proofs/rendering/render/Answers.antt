@@ -1,6 +1,5 @@
 use native.Mathlib.Omega.{arith}
 use lib.ListN.{length}
-use borrow.Author.Rules.{rules}
 use Rattle.runs.proofs.Parts.{Placed, run-placed, run-said}
 use Rattle.runs.proofs.rendering.render.Goals as goal
 use Rattle.runs.proofs.rendering.render.Goals.{After-record_size-size, Start}
