@@ -89,7 +89,7 @@ enum hejmirov_refusal {
     HEJMIROV_BAD_SIZE = 3,            /* states, states a label, v or a voice out of range */
     HEJMIROV_LISTS_DISAGREE = 4,      /* list lengths disagree */
     HEJMIROV_TOO_MANY_FRAMES = 5,     /* given durations total above 65,536 */
-    HEJMIROV_TOO_LITTLE_ROOM = 6,     /* output, work space, link, store or table too short */
+    HEJMIROV_TOO_LITTLE_ROOM = 6,     /* output, work space, link's memory or store too short */
     HEJMIROV_TARGET_TOO_LONG = 7,     /* a rounded target length above 65,536 */
     HEJMIROV_ESTIMATE_TOO_LONG = 8,   /* an estimate's or an alignment's total above 65,536 */
     HEJMIROV_JOB_LENGTH = 9,          /* job file too short or too long */
@@ -123,7 +123,7 @@ static inline const char *hejmirov_refusal_text(uint32_t refusal) {
     case HEJMIROV_BAD_SIZE: return "states, states a label, v or a voice out of range";
     case HEJMIROV_LISTS_DISAGREE: return "list lengths disagree";
     case HEJMIROV_TOO_MANY_FRAMES: return "given durations total above 65,536";
-    case HEJMIROV_TOO_LITTLE_ROOM: return "output, work space, link, store or table too short";
+    case HEJMIROV_TOO_LITTLE_ROOM: return "output, work space, link's memory or store too short";
     case HEJMIROV_TARGET_TOO_LONG: return "a rounded target length above 65,536";
     case HEJMIROV_ESTIMATE_TOO_LONG: return "an estimate's or an alignment's total above 65,536";
     case HEJMIROV_JOB_LENGTH: return "job file too short or too long";

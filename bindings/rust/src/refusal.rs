@@ -42,7 +42,7 @@ pub enum Refusal {
     ListsDisagree,
     /// 5: given durations total above 65,536.
     TooManyFrames,
-    /// 6: output, work space, link, store or table too short; only where the caller lends them.
+    /// 6: output, work space, link's memory or store too short; only where the caller lends them.
     TooLittleRoom,
     /// 7: a rounded target length above 65,536.
     TargetTooLong,
@@ -168,7 +168,7 @@ impl Refusal {
             Refusal::BadSize => "states, states a label, v or a voice out of range",
             Refusal::ListsDisagree => "list lengths disagree",
             Refusal::TooManyFrames => "given durations total above 65,536",
-            Refusal::TooLittleRoom => "output, work space, link, store or table too short",
+            Refusal::TooLittleRoom => "output, work space, link's memory or store too short",
             Refusal::TargetTooLong => "a rounded target length above 65,536",
             Refusal::EstimateTooLong => "an estimate's or an alignment's total above 65,536",
             Refusal::JobDamaged { damage, .. } => damage.text(),
