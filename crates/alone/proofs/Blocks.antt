@@ -100,10 +100,10 @@ pub record Fine (w n : ℕ) (f : Rows) (g c : Row) : Type 0 where
 
 -- ---- the factors' entries that reach past row n are zeros, where the rows' are
 module _ (w n N : ℕ) (x : System w N) (le : n ≤ N) (fin : (t j : ℕ) → t < n → j < w → t + j < n → T (finite (x.f t j))) (piv : (t : ℕ) → t < n → T (nonzero (x.f t 0))) (apart : Apart w n x.a) where
-  apart-to : (m : ℕ) → m ≤ n → (t j : ℕ) → t < m → j < w → n ≤ t + j → Zero (x.f t j)
-  apart-to zero h t j b l c = absurd (omega arith)
-  apart-to (suc m) h t zero b l c = absurd (omega arith)
-  apart-to (suc m) h t (suc i) b l c =
+  apart_to : (m : ℕ) → m ≤ n → (t j : ℕ) → t < m → j < w → n ≤ t + j → Zero (x.f t j)
+  apart_to zero h t j b l c = absurd (omega arith)
+  apart_to (suc m) h t zero b l c = absurd (omega arith)
+  apart_to (suc m) h t (suc i) b l c =
       let f = x.f in
       let in-first : t < n = omega arith in
       ap plain (x.other t i (omega arith) l)
@@ -112,12 +112,12 @@ module _ (w n N : ℕ) (x : System w N) (le : n ≤ N) (fin : (t j : ℕ) → t 
       (λ j d.
       let p = t - (j + 1) in
       mul-zero-left binary64 (mul binary64 (f p (j + 1)) (f p (suc i + (j + 1)))) (f p 0)
-      (mul-zero-right binary64 (f p (j + 1)) (f p (suc i + (j + 1))) (fin p (j + 1) (omega arith) (omega arith) (omega arith)) (apart-to m (omega arith) p (suc i + (j + 1)) (omega arith) (omega arith) (omega arith)))
+      (mul-zero-right binary64 (f p (j + 1)) (f p (suc i + (j + 1))) (fin p (j + 1) (omega arith) (omega arith) (omega arith)) (apart_to m (omega arith) p (suc i + (j + 1)) (omega arith) (omega arith) (omega arith)))
       (fin p 0 (omega arith) (omega arith) (omega arith))))
       (piv t in-first) (fin t 0 in-first (omega arith) (omega arith))
 
   rows_apart : Apart w n x.f
-  rows_apart t j h = apart-to n (le_refl n) t j h
+  rows_apart t j h = apart_to n (le_refl n) t j h
 
 -- ---- the k rows from row m on are those of y, and no row before them reaches them
 record Block (w m k N : ℕ) (x : System w N) (y : System w k) : Type 0 where
@@ -166,16 +166,16 @@ module _ (w m k N : ℕ) (x : System w N) (y : System w k) (b : Block w m k N x 
       ∙ quotient-same (reduced w x.a x.f (m + t) (suc i)) (reduced w y.a y.f t (suc i)) t h (reduced-same t (suc i) h l ih) (pivot-same t h ih)
       ∙ sym (ap plain (y.other t i h l))
 
-  factors-to : (u : ℕ) → u ≤ k → SameFactors u
-  factors-to zero h t j c l = absurd (omega arith)
-  factors-to (suc u) h t j c l = row_same t j (omega arith) l (λ p i d. factors-to u (omega arith) p i (omega arith))
+  factors_to : (u : ℕ) → u ≤ k → SameFactors u
+  factors_to zero h t j c l = absurd (omega arith)
+  factors_to (suc u) h t j c l = row_same t j (omega arith) l (λ p i d. factors_to u (omega arith) p i (omega arith))
 
   factors-same : SameFactors k
-  factors-same = factors-to k (le_refl k)
+  factors-same = factors_to k (le_refl k)
 
-  forwards-to : (u : ℕ) → u ≤ k → (t : ℕ) → t < u → Same (x.g (m + t)) (y.g t)
-  forwards-to zero h t c = absurd (omega arith)
-  forwards-to (suc u) h t c =
+  forwards_to : (u : ℕ) → u ≤ k → (t : ℕ) → t < u → Same (x.g (m + t)) (y.g t)
+  forwards_to zero h t c = absurd (omega arith)
+  forwards_to (suc u) h t c =
       let f = x.f in
       let g = x.g in
       ap plain (x.forward (m + t) (omega (arith, b.inside)))
@@ -187,17 +187,17 @@ module _ (w m k N : ℕ) (x : System w N) (y : System w k) (b : Block w m k N x 
       (λ j d.
       let p = t - (j + 1) in
       let e : m + t - (j + 1) ≡ m + p = omega arith in
-      rw e (mul-same binary64 (f (m + p) (j + 1)) (y.f p (j + 1)) (g (m + p)) (y.g p) (factors-same p (j + 1) (omega arith) (omega arith)) (forwards-to u (omega arith) p (omega arith))))
+      rw e (mul-same binary64 (f (m + p) (j + 1)) (y.f p (j + 1)) (g (m + p)) (y.g p) (factors-same p (j + 1) (omega arith) (omega arith)) (forwards_to u (omega arith) p (omega arith))))
       ∙ sym (ap plain (y.forward t (omega arith)))
 
   forwards-same : (t : ℕ) → t < k → Same (x.g (m + t)) (y.g t)
-  forwards-same = forwards-to k (le_refl k)
+  forwards-same = forwards_to k (le_refl k)
 
   -- the last rows first; what the rows behind take off is zero
   module _ (behind : (t j : ℕ) → t < k → j + 1 < w → k ≤ t + (j + 1) → m + t + (j + 1) < N → Zero (backward_term x.f x.c (m + t) j)) where
-    values-to : (u t : ℕ) → t < k → k ≤ t + u → Same (x.c (m + t)) (y.c t)
-    values-to zero t h d = absurd (omega arith)
-    values-to (suc u) t h d =
+    values_to : (u t : ℕ) → t < k → k ≤ t + u → Same (x.c (m + t)) (y.c t)
+    values_to zero t h d = absurd (omega arith)
+    values_to (suc u) t h d =
         let f = x.f in
         let c = x.c in
         let q = div binary64 (x.g (m + t)) (f (m + t) 0) in
@@ -209,11 +209,11 @@ module _ (w m k N : ℕ) (x : System w N) (y : System w k) (b : Block w m k N x 
         (λ j l.
         let p = t + (j + 1) in
         let e : m + t + (j + 1) ≡ m + p = omega arith in
-        rw e (mul-same binary64 (f (m + t) (j + 1)) (y.f t (j + 1)) (c (m + p)) (y.c p) (factors-same t (j + 1) h (omega arith)) (values-to u p (omega arith) (omega arith))))
+        rw e (mul-same binary64 (f (m + t) (j + 1)) (y.f t (j + 1)) (c (m + p)) (y.c p) (factors-same t (j + 1) h (omega arith)) (values_to u p (omega arith) (omega arith))))
         ∙ sym (ap plain (y.backward t h))
 
     values_same : (t : ℕ) → t < k → Same (x.c (m + t)) (y.c t)
-    values_same t h = values-to k t h (omega arith)
+    values_same t h = values_to k t h (omega arith)
 
 -- ---- two systems joined
 
@@ -320,8 +320,8 @@ module _ (w n : ℕ) (x : System w n) (apart : Apart w n x.a) (fine : (t : ℕ) 
   within t zero h l b = fine t h
   within t (suc j) h l b = rw (← add-one j) (mul-finite binary64 (x.f t (j + 1)) (x.c (t + (j + 1))) ((made_of w n x t h (vals t h)).1 j (omega arith)))
 
-  pub fine-from : Fine w n x.f x.g x.c
-  fine-from = record {
+  pub fine_from : Fine w n x.f x.g x.c
+  fine_from = record {
     factors = λ t j h l. elim (dec_le n (t + j)) [ yes b ↦ zero-finite (x.f t j) (rows_apart w n n x (le_refl n) within piv apart t j h l b) | no b ↦ within t j h l (omega arith) ];
     divisors = piv;
     forwards = λ t h. div-finite binary64 (x.g t) (x.f t 0) (fine t h) (made_of w n x t h (vals t h)).0;

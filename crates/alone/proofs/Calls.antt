@@ -13,8 +13,8 @@ use Rattle.lists.specs.Ends.{filled}
 use Rattle.lists.specs.declared.Filled.{Filled}
 use Rattle.lists.proofs.Rows.{row_in}
 use Rattle.lists.proofs.Fills.{build-length}
-use Rattle.lists.proofs.Answers.{written_at, accepted-is}
-use Rattle.lists.proofs.Refusals.{or-none, none_then, then-none}
+use Rattle.lists.proofs.Answers.{written_at, accepted_is}
+use Rattle.lists.proofs.Refusals.{or_none, none_then, then-none}
 use Rattle.floats.specs.Signs.{plain}
 use Rattle.model.specs.Windows.{all_finite, window_refusal, width_of}
 use Rattle.model.proofs.Windows.{fit-some}
@@ -48,10 +48,10 @@ module _ (s : Stream) (widths : List ℕ) (coefs records : List Float) (ds : Lis
     unfolding run_refusal
     passed =
         let r : Run = asked s widths coefs records ds gv switches k in
-        let (a, y) = or-none (stream_refusal s widths coefs ds (lengths_of records gv switches [] [] [])) _ z in
-        let (_, x) = or-none (cond (has_room s.v r.frames (length out) (length work) (length marks)) 0 6) _ y in
-        let (b, u) = or-none (cond (gv_on s.gv) 20 0) _ x in
-        let (c, d) = or-none (cond (ltb k (count s widths coefs records ds)) 0 21) _ u in
+        let (a, y) = or_none (stream_refusal s widths coefs ds (lengths_of records gv switches [] [] [])) _ z in
+        let (_, x) = or_none (cond (has_room s.v r.frames (length out) (length work) (length marks)) 0 6) _ y in
+        let (b, u) = or_none (cond (gv_on s.gv) 20 0) _ x in
+        let (c, d) = or_none (cond (ltb k (count s widths coefs records ds)) 0 21) _ u in
         (a, then-none (gv_on s.gv) 19 b, ltb-true k (count s widths coefs records ds) (none_then (ltb k (count s widths coefs records ds)) 20 c), then-none (ltb 1 (width_of widths 0)) 21 d)
 
     shaped : Shaped s widths coefs records ds
@@ -75,7 +75,7 @@ module _ (s : Stream) (widths : List ℕ) (coefs records : List Float) (ds : Lis
   calls_alone k out work marks r out' work' marks' out₂ work₂ marks₂ q out₂' work₂' marks₂' created accepted says accepted₂ premise t c l b =
       let bs : List Bool = mask s widths coefs records ds in
       let own : Run = run s widths coefs records ds k in
-      let z : run_refusal s widths coefs records ds gv switches k out₂ work₂ marks₂ ≡ 0 = (accepted-is (filled q) _ _ says.answer accepted₂).0 in
+      let z : run_refusal s widths coefs records ds gv switches k out₂ work₂ marks₂ ≡ 0 = (accepted_is (filled q) _ _ says.answer accepted₂).0 in
       let h : k < count s widths coefs records ds = (passed k out₂ work₂ marks₂ z).2 in
       let within : own.first + t < total ds = omega (arith, run_lies bs k h, mask-long s widths records ds) in
       ap plain (written_at (created_number r) (total ds * s.v) (numbers_of s widths coefs records ds gv switches) out out' ((own.first + t) * s.v + c) nan created.numbers accepted numbers-long (row_in s.v (own.first + t) (total ds) c within b))

@@ -13,7 +13,7 @@ use lib.Ieee.Bits.{of_bits-fits}
 use lib.Ieee.Scale.{finite}
 use Rattle.lists.specs.Totals.{total}
 use Rattle.lists.specs.Build.{build, rows, over}
-use Rattle.lists.proofs.Numbers.{le-or-lt}
+use Rattle.lists.proofs.Numbers.{le_or_lt}
 use Rattle.lists.proofs.Builds.{build-at}
 use Rattle.lists.proofs.Fills.{build-length}
 use Rattle.lists.proofs.Flags.{either}
@@ -174,7 +174,7 @@ module _ (widths : List ℕ) (coefs : List Float) (n k : ℕ) (x y : ℕ → Lis
   entry_first t j b = ⊎_elim
       (λ (l : n ≤ t + j). either Zero (ltb (t + j) (n + k)) _ nought (across t (t + j) b l) nought-zero ∙ sym (entry_past widths coefs n (rows x m) t j l))
       (λ (l : t + j < n). rw (lt-ltb (t + j) (n + k) (omega arith), lt-ltb (t + j) n l) (summed-first (λ c. eq c nought) (λ i f. W (taps i) f (t + j)) (λ i f. W (taps i) f (t + j)) t b (λ i f h l. refl) (λ i f h l. (cut_at i h).fine (n + f) (t + j))).same)
-      (le-or-lt n (t + j))
+      (le_or_lt n (t + j))
 
   pub entry-second : (t j : ℕ) → t < k → Same (entry_of widths coefs (n + k) both (n + t) j) (entry_of widths coefs k (rows y (length widths)) t j)
   unfolding entry_of entry_sum term
@@ -184,7 +184,7 @@ module _ (widths : List ℕ) (coefs : List Float) (n k : ℕ) (x y : ℕ → Lis
       (λ (l : k ≤ t + j). rw (le-ltb (n + t + j) (n + k) (omega arith), le-ltb (t + j) k l))
       (λ (l : t + j < k). rw (lt-ltb (n + t + j) (n + k) (omega arith), lt-ltb (t + j) k l)
       (summed_second (λ c. eq c nought) (λ i f. W (taps i) f (n + t + j)) (λ i f. W (taps i) f (t + j)) t (λ i f h l. rw e (W-further (taps i) n f (t + j))) (λ i f h l. (cut_at i h).fine f (n + t + j))).same)
-      (le-or-lt k (t + j))
+      (le_or_lt k (t + j))
 
   -- the means are p i and then q i
   module _ (p q : ℕ → List Float) (long-p : (i : ℕ) → i < length widths → length (p i) ≡ n) (long-q : (i : ℕ) → i < length widths → length (q i) ≡ k)

@@ -19,7 +19,7 @@ use Rattle.solve.specs.Solve.{reach, factor_at, factor, forward_at, forward, bac
 use Rattle.solve.proofs.Orders.{less-same}
 use Rattle.solve.proofs.Factors.{factor-length, factor-next, forward-length, forward-next, backward-length}
 use Rattle.alone.specs.Premise.{Sound}
-use Rattle.alone.proofs.Blocks.{System, Fine, Join, reduced, factor_term, forward_term, fine-from, values-first, values-second, values-fine}
+use Rattle.alone.proofs.Blocks.{System, Fine, Join, reduced, factor_term, forward_term, fine_from, values-first, values-second, values-fine}
 use Rattle.alone.proofs.Blocks as blocks
 
 -- ---- the factors
@@ -37,29 +37,29 @@ module _ (w : ℕ) (a : List Float) (n t : ℕ) (h : t < n) where
   before : (p j : ℕ) → p < t → j < w → entry w P p j ≡ entry w F p j
   before p j b l = sym (grown-at (factor w a) new (factor-next w a) t n (p * w + j) nan (omega arith) (omega (arith, factor-length w a t, row_in w p t j b l)))
 
-  entry-is : (j : ℕ) → j < w → entry w F t j ≡ factor_at w (row w a t) P t j
-  entry-is j l =
+  entry_is : (j : ℕ) → j < w → entry w F t j ≡ factor_at w (row w a t) P t j
+  entry_is j l =
       grown-at (factor w a) new (factor-next w a) (t + 1) n (t * w + j) nan (omega arith) (omega (arith, factor-length w a (t + 1), row_in w t (t + 1) j (omega arith) l))
       ∙ rw (factor-next w a t) (ap (λ (u : ℕ). elem (P ++ new t) (u + j)) (sym (factor-length w a t)) ∙ get_or-append-add P (new t) j nan)
       ∙ build-at (factor_at w (row w a t) P t) w j nan l
 
-  reduced-is : (i : ℕ) → i < w → less (elem (row w a t) i) (factor_term (entry w P) t i) (reach (w - i) t) ≡ reduced w (entry w a) (entry w F) t i
-  reduced-is i l =
+  reduced_is : (i : ℕ) → i < w → less (elem (row w a t) i) (factor_term (entry w P) t i) (reach (w - i) t) ≡ reduced w (entry w a) (entry w F) t i
+  reduced_is i l =
       rw (← part_elem (t * w) w i a l)
       (less-same (entry w a t i) (factor_term (entry w P) t i) (factor_term (entry w F) t i) (reach (w - i) t)
       (λ j b. let p = t - (j + 1) in cc (before p (j + 1) (omega arith) (omega arith), before p (i + (j + 1)) (omega arith) (omega arith), before p 0 (omega arith) (omega arith))))
 
-  pub pivot-is : 0 < w → entry w F t 0 ≡ reduced w (entry w a) (entry w F) t 0
+  pub pivot_is : 0 < w → entry w F t 0 ≡ reduced w (entry w a) (entry w F) t 0
   unfolding factor_at
-  pivot-is pos = entry-is 0 pos ∙ reduced-is 0 pos
+  pivot_is pos = entry_is 0 pos ∙ reduced_is 0 pos
 
-  pub other-is : (i : ℕ) → suc i < w → entry w F t (suc i) ≡ div binary64 (reduced w (entry w a) (entry w F) t (suc i)) (entry w F t 0)
+  pub other_is : (i : ℕ) → suc i < w → entry w F t (suc i) ≡ div binary64 (reduced w (entry w a) (entry w F) t (suc i)) (entry w F t 0)
   unfolding factor_at
-  other-is i l = entry-is (suc i) l ∙ rw (reduced-is (suc i) l, reduced-is 0 (omega arith), ← pivot-is (omega arith))
+  other_is i l = entry_is (suc i) l ∙ rw (reduced_is (suc i) l, reduced_is 0 (omega arith), ← pivot_is (omega arith))
 
 -- ---- forward substitution
-pub forward-is : (w : ℕ) (f r : List Float) (n t : ℕ) → t < n → elem (forward w f r n) t ≡ less (elem r t) (forward_term (entry w f) (elem (forward w f r n)) t) (reach w t)
-forward-is w f r n t h =
+pub forward_is : (w : ℕ) (f r : List Float) (n t : ℕ) → t < n → elem (forward w f r n) t ≡ less (elem r t) (forward_term (entry w f) (elem (forward w f r n)) t) (reach w t)
+forward_is w f r n t h =
     let new : ℕ → List Float = λ u. forward_at w f (elem r u) (forward w f r u) u ∷ [] in
     let G = forward w f r t in
     grown-at (forward w f r) new (forward-next w f r) (t + 1) n t nan (omega arith) (omega (arith, forward-length w f r (t + 1)))
@@ -75,9 +75,9 @@ backward-at w f s [] t h = absurd (omega arith)
 backward-at w f s (x ∷ xs) zero h = rw (backward-length w f (suc s) xs, add-zero s, suc-sub-suc, sub-zero)
 backward-at w f s (x ∷ xs) (suc t) h = (let e : suc s + t ≡ s + suc t = omega arith in rw (← e, suc-sub-suc) (backward-at w f (suc s) xs t (omega arith)))
 
-backward-is : (w : ℕ) (f g : List Float) (t : ℕ) → t < length g
+backward_is : (w : ℕ) (f g : List Float) (t : ℕ) → t < length g
     → elem (backward w f 0 g) t ≡ less (div binary64 (elem g t) (entry w f t 0)) (blocks.backward_term (entry w f) (elem (backward w f 0 g)) t) (reach w (length g - suc t))
-backward-is w f g t h =
+backward_is w f g t h =
     let C = backward w f 0 g in
     rw (zero-add t) at (backward-at w f 0 g t h)
     ∙ less-same (div binary64 (elem g t) (entry w f t 0)) (backward_term w f (drop (suc t) C) t) (blocks.backward_term (entry w f) (elem C) t) (reach w (length g - suc t))
@@ -91,12 +91,12 @@ module _ (w : ℕ) (a r : List Float) where
   abbrev forwards : List Float
   forwards = forward w factors r (length r)
 
-  pub value-is : (n : ℕ) → length r ≡ n → (t : ℕ) → t < n
+  pub value_is : (n : ℕ) → length r ≡ n → (t : ℕ) → t < n
       → elem (solution w a r) t ≡ less (div binary64 (elem forwards t) (entry w factors t 0)) (blocks.backward_term (entry w factors) (elem (solution w a r)) t) (reach w (n - suc t))
   unfolding solution
-  value-is n e t h =
+  value_is n e t h =
       let l : length forwards ≡ n = forward-length w factors r (length r) ∙ e in
-      rw (← l) (backward-is w factors forwards t (omega arith))
+      rw (← l) (backward_is w factors forwards t (omega arith))
 
   abbrev pub system : (n : ℕ) → length r ≡ n → 0 < w → System w n
   system n e pos = record {
@@ -105,10 +105,10 @@ module _ (w : ℕ) (a r : List Float) where
     f = entry w factors;
     g = elem forwards;
     c = elem (solution w a r);
-    pivot = λ t h. pivot-is w a (length r) t (omega arith) pos;
-    other = λ t i h. other-is w a (length r) t (omega arith) i;
-    forward = λ t h. forward-is w factors r (length r) t (omega arith);
-    backward = value-is n e;
+    pivot = λ t h. pivot_is w a (length r) t (omega arith) pos;
+    other = λ t i h. other_is w a (length r) t (omega arith) i;
+    forward = λ t h. forward_is w factors r (length r) t (omega arith);
+    backward = value_is n e;
   }
 
   -- the numbers that arise are finite, and no divisor is zero
@@ -117,7 +117,7 @@ module _ (w : ℕ) (a r : List Float) where
 
 -- divisors and values are enough
 pub sane : (w : ℕ) (a r : List Float) → 0 < w → ((t j : ℕ) → t < length r → j < w → length r ≤ t + j → Zero (entry w a t j)) → Sound w a r → Sane w a r
-sane w a r pos apart s = fine-from w (length r) (system w a r (length r) refl pos) apart s.finite_divisors s.divisors s.values
+sane w a r pos apart s = fine_from w (length r) (system w a r (length r) refl pos) apart s.finite_divisors s.divisors s.values
 
 -- ---- n rows a₁ and their right side r₁, and behind them k rows a₂ and r₂, which they don't reach
 pub record Joined (w n k : ℕ) (a r a₁ r₁ a₂ r₂ : List Float) : Type 0 where

@@ -47,13 +47,13 @@ abbrev full : List Float → List ℕ
 full rs = map (to_bits binary64) (numbers_of stream (1 ∷ 3 ∷ []) taps rs (1 ∷ 1 ∷ 1 ∷ []) [] [])
 
 -- ---- a zero of another sign: the first mean is 0 and its variance -1. Alone it is -0, and in the full trajectory +0
-pub sign-alone : alone (records (f 0) (f 0xbff0_0000_0000_0000)) 0 ≡ 0x8000_0000_0000_0000 ∷ []
+pub sign_alone : alone (records (f 0) (f 0xbff0_0000_0000_0000)) 0 ≡ 0x8000_0000_0000_0000 ∷ []
 unfolding runs_from run_numbers frames.count mask_of weights_of lt of_bits from_linear longest to_bits eq add sub mul ivar_of abs_of div
-sign-alone = refl
+sign_alone = refl
 
-pub sign-full : full (records (f 0) (f 0xbff0_0000_0000_0000)) ≡ 0 ∷ 0 ∷ 0x3ff0_0000_0000_0000 ∷ []
+pub sign_full : full (records (f 0) (f 0xbff0_0000_0000_0000)) ≡ 0 ∷ 0 ∷ 0x3ff0_0000_0000_0000 ∷ []
 unfolding numbers_of frames.count mask_of weights_of lt of_bits from_linear longest to_bits eq add sub mul ivar_of abs_of div
-sign-full = refl
+sign_full = refl
 
 -- and the stream is inside the premise, so the claim is about it
 abbrev signed : List Float
@@ -94,9 +94,9 @@ solved zero h = (tt, tt, tt)
 solved (suc zero) h = (tt, tt, tt)
 solved (suc (suc k)) h = absurd (omega arith)
 
-pub sign-inside : Premise stream (1 ∷ 3 ∷ []) taps signed (1 ∷ 1 ∷ 1 ∷ [])
+pub sign_inside : Premise stream (1 ∷ 3 ∷ []) taps signed (1 ∷ 1 ∷ 1 ∷ [])
 unfolding longest
-sign-inside = record {
+sign_inside = record {
   means = λ k component i u h b l m.
       let k-below : k < 2 = omega (arith, two_runs) in
       let c : component ≡ 0 = omega arith in

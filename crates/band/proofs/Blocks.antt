@@ -15,11 +15,11 @@ use lib.Ieee.{Float, nan}
 use Rattle.lists.specs.Totals.{total}
 use Rattle.lists.specs.Build.{build, rows, over}
 use Rattle.lists.specs.Parts.{part}
-use Rattle.lists.proofs.Numbers.{le-or-lt}
+use Rattle.lists.proofs.Numbers.{le_or_lt}
 use Rattle.lists.proofs.Rows.{row_fits, row_in}
 use Rattle.lists.proofs.Stores.{filled}
 use Rattle.lists.proofs.Fills.{fill_done}
-use Rattle.lists.proofs.Builds.{build-is}
+use Rattle.lists.proofs.Builds.{build_is}
 use Rattle.lists.proofs.Regions.{returned, cut-length}
 use Rattle.floats.specs.Numbers.{nought}
 use Rattle.region.specs.Rows.{elem}
@@ -56,9 +56,9 @@ filled_as l a e i v h g = ⊎_elim
     let z : i ≡ a + (i - a) = omega arith in
     ap (elem (sets l a (replicate (e - a) v))) z ∙ sets-at (replicate (e - a) v) l a (i - a) (rw length-replicate (omega arith)) (rw length-replicate (omega arith)) ∙ get_or-replicate (e - a) (i - a) v nan (omega arith)
     ∙ sym (within_on a e i (λ y. v) (elem l i) b c))
-    (le-or-lt e i))
+    (le_or_lt e i))
     (λ (b : i < a). read_under (replicate (e - a) v) l a i b ∙ sym (within-off a e i (λ y. v) (elem l i) (λ p q. omega arith)))
-    (le-or-lt a i)
+    (le_or_lt a i)
 
 -- they were lent, and are back filled
 pub cleared : (a e : ℕ) (l x : List Float) → a ≤ e → e ≤ length l → x ≡ sets (part a (e - a) l) 0 (replicate (e - a) nought) → Cleared a e l (put_mid a (e - a) l x)
@@ -95,7 +95,7 @@ module _ (b : Block) (d m m' : List Float) (fit : Room b (length d)) (ordered : 
             let w : ℕ = b.w in
             l.each (entry_at b t j) ∙ within-off S T (entry_at b t j) zero (elem m (entry_at b t j)) (λ p q. omega (arith, fit.right-at, row_in w t b.n j h c)) ∙ k.each (entry_at b t j)
             ∙ within-place b.from b.to t A E (entry_at b t j) zero (elem d (entry_at b t j)) (λ p q. (omega (arith, mul-le-mul_right w p), omega (arith, row_in w t b.to j q c)))
-            (λ p q. (⊎_elim (λ (o : b.from ≤ t). o) (λ (o : t < b.from). absurd (omega (arith, row_in w t b.from j o c))) (le-or-lt b.from t), ⊎_elim (λ (o : b.to ≤ t). absurd (omega (arith, mul-le-mul_right w o))) (λ (o : t < b.to). o) (le-or-lt b.to t)));
+            (λ p q. (⊎_elim (λ (o : b.from ≤ t). o) (λ (o : t < b.from). absurd (omega (arith, row_in w t b.from j o c))) (le_or_lt b.from t), ⊎_elim (λ (o : b.to ≤ t). absurd (omega (arith, mul-le-mul_right w o))) (λ (o : t < b.to). o) (le_or_lt b.to t)));
         sides = λ t h. l.each (b.right + t) ∙ within-place b.from b.to t S T (b.right + t) zero (elem m (b.right + t)) (λ p q. (omega arith, omega arith)) (λ p q. (omega arith, omega arith))
             ∙ ap (within b.from b.to t zero) (k.each (b.right + t) ∙ within-off A E (b.right + t) zero (elem d (b.right + t)) (λ p q. omega arith));
       }
@@ -128,7 +128,7 @@ module _ (widths : List ℕ) (coefs : List Float) (ivars : ℕ) (b : Block) (d :
       let us : part (ivars + f) n m ≡ part_of n S.us i = old (ivars + f) n (omega arith) ∙ rw e (window-part d ivars ivars n i fit) in
       let ms : part f n m ≡ part_of n S.ms i = old f n (omega arith) ∙ ap (λ (o : ℕ). part o n d) (e ∙ sym (zero-add (i * n))) ∙ window-part d 0 ivars n i fit in
       moved_then b (windows_entry S i) (window_entry (window_at S i)) (windows_entry S (i + 1)) (windows_side S i) (window_side (window_at S i)) (windows_side S (i + 1)) d m m'
-      (λ t j y g c a l. ⊎_elim (λ (o : n ≤ t + j). rw (le-ltb (t + j) n o)) (λ (o : t + j < n). rw (lt-ltb (t + j) n o, add-one)) (le-or-lt n (t + j)))
+      (λ t j y g c a l. ⊎_elim (λ (o : n ≤ t + j). rw (le-ltb (t + j) n o)) (λ (o : t + j < n). rw (lt-ltb (t + j) n o, add-one)) (le_or_lt n (t + j)))
       (λ t y g a l. rw add-one) p (rw (us, ms, z, eo, ek) at q)
 
   -- from zeroed rows on
@@ -176,7 +176,7 @@ grid_is F w (suc n) l e h =
     let front : take (n * w) l ≡ rows (λ t. build (F t) w) n =
     grid_is F w n (take (n * w) l) (length-take-le (n * w) l (omega arith)) (λ t j a b. get_or-take (n * w) l (t * w + j) nan (row_in w t n j a b) ∙ h t j (omega arith) b) in
     let back : drop (n * w) l ≡ build (F n) w =
-    build-is (F n) w (drop (n * w) l) nan (simp length-drop (omega arith)) (λ j b. get_or-drop (n * w) l j nan ∙ h n j (omega arith) b) in
+    build_is (F n) w (drop (n * w) l) nan (simp length-drop (omega arith)) (λ j b. get_or-drop (n * w) l j nan ∙ h n j (omega arith) b) in
     sym (take-append-drop (n * w) l) ∙ rw (front, back)
 
 -- its rows are all done, and its other lists are as they were
@@ -196,7 +196,7 @@ module _ (widths : List ℕ) (coefs : List Float) (g : Layout) (d m : List Float
       grid_is (entry_of widths coefs n D.us) w n (part (rows_at g) (n * w) m) (cut-length (rows_at g) (n * w) m (omega arith))
       (λ t j a b. sym (part_elem (rows_at g) (n * w) (t * w + j) m (row_in w t n j a b)) ∙ k.entries t j a b ∙ within_on 0 n t (whole_entry D t j) _ (omega arith) a) in
       let side : part (right_at g) n m ≡ right_side widths coefs n D.us D.ms =
-      build-is (right_sum widths coefs n D.us D.ms) n (part (right_at g) n m) nan (cut-length (right_at g) n m (omega arith))
+      build_is (right_sum widths coefs n D.us D.ms) n (part (right_at g) n m) nan (cut-length (right_at g) n m (omega arith))
       (λ t a. sym (part_elem (right_at g) n t m a) ∙ k.sides t a ∙ within_on 0 n t (whole_side D t) _ (omega arith) a) in
       sym (flat-read g m long)
       ∙ rw (same 0 (ivars_at g) (inl (omega arith)) (omega arith), same (ivars_at g) (ivars_at g) (inl (omega arith)) (omega arith), matrix, side, same (factors_at g) (n * w) (inr (omega arith)) (omega arith), same (values_at g) n (inr (omega arith)) (omega arith))

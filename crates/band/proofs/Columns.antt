@@ -11,7 +11,7 @@ use lib.Dec.{ltb}
 use lib.ListN.{length, get_or, set, get_or-eq_default}
 use lib.Ieee.{Float, nan, binary64, add, mul, eq}
 use Rattle.lists.specs.Build.{over}
-use Rattle.lists.proofs.Numbers.{le-or-lt, by_place}
+use Rattle.lists.proofs.Numbers.{le_or_lt, by_place}
 use Rattle.lists.proofs.Rows.{row_fits, row_in}
 use Rattle.floats.specs.Numbers.{nought}
 use Rattle.region.specs.Rows.{elem}
@@ -24,9 +24,9 @@ use Rattle.band.proofs.Moves.{by_span, within_on, within-off, within-idle, withi
 -- rows and entries have places of their own
 one-row : (w t s i j : ℕ) → i < w → j < w → t * w + i ≡ s * w + j → t ≡ s
 one-row w t s i j h l e = ⊎_elim
-    (λ (g : t ≤ s). ⊎_elim (λ (q : s ≤ t). omega arith) (λ (q : t < s). absurd (omega (arith, row_in w t s i q h))) (le-or-lt s t))
+    (λ (g : t ≤ s). ⊎_elim (λ (q : s ≤ t). omega arith) (λ (q : t < s). absurd (omega (arith, row_in w t s i q h))) (le_or_lt s t))
     (λ (g : s < t). absurd (omega (arith, row_in w s t j g l)))
-    (le-or-lt t s)
+    (le_or_lt t s)
 
 -- ---- x t is added to a number of each row t: to the right side, or to column j of the rows before row `to`
 
@@ -60,7 +60,7 @@ module _ (b : Block) (d : List Float) (fit : Room b (length d)) (x : ℕ → Flo
           (by_span b.from to t _
           (λ a l. k.on t a l ∙ sym (within_on b.from b.to t (f t j) _ a (omega arith) ∙ on t _ a l))
           (λ o. k.off (entry_at b t j) (λ s a l z. let q = (one_place t s j wide z).0 in o (omega arith) (omega arith))
-          ∙ sym (within-idle b.from b.to t (f t j) _ (λ a l. past t _ (⊎_elim (λ (q : to ≤ t). q) (λ (q : t < to). absurd (o a q)) (le-or-lt to t)) l))));
+          ∙ sym (within-idle b.from b.to t (f t j) _ (λ a l. past t _ (⊎_elim (λ (q : to ≤ t). q) (λ (q : t < to). absurd (o a q)) (le_or_lt to t)) l))));
       sides = λ t h. k.off (b.right + t) (λ s a l z. omega (arith, entry_in s j (omega arith) wide)) ∙ sym (within-idle b.from b.to t (still t) _ (λ a l. refl));
     }
 
@@ -75,8 +75,8 @@ module _ (taps : List Float) (u : ℕ) (b : Block) where
   pub column_in : (size j t : ℕ) → Ready taps u b size → j < length taps → b.from + t < b.to → column_at j + t * b.w < b.right
   column_in size j t k h l = omega (arith, add-mul b.from t b.w, row_in b.w (b.from + t) b.n j (omega (arith, k.fit.most)) (omega (arith, k.narrow)), k.fit.right-at)
 
-  pub row_in-all : (size : ℕ) → Ready taps u b size → b.w ≤ b.right
-  row_in-all size k = omega (arith, row_fits b.w 0 b.n (omega (arith, k.some, k.fit.most)), k.fit.right-at)
+  pub row_in_all : (size : ℕ) → Ready taps u b size → b.w ≤ b.right
+  row_in_all size k = omega (arith, row_fits b.w 0 b.n (omega (arith, k.some, k.fit.most)), k.fit.right-at)
 
   module _ (d : List Float) (k : Ready taps u b (length d)) where
     abbrev C : ℕ → ℕ → Float → Float
@@ -130,7 +130,7 @@ module _ (taps : List Float) (u : ℕ) (b : Block) where
         (λ t i y a c f g. ⊎_elim
         (λ (q : j ≤ i). let past : length taps ≤ i = omega arith in within-off 0 j i (C t i) y (λ o r. omega arith) ∙ sym (zero-column t i y (rw (get_or-eq_default taps nought past) eq-nought)))
         (λ (q : i < j). within_on 0 j i (C t i) y (omega arith) q)
-        (le-or-lt j i))
+        (le_or_lt j i))
         (λ t y a f g. refl)
 
   -- columns j to e, and those up to the next that has a tap

@@ -15,7 +15,7 @@ use Rattle.model.proofs.Windows.{and_first, and_second, fit-few, width_in_band}
 use Rattle.region.specs.Region.{size_of, region_in, flat}
 use Rattle.region.specs.declared.Layout.{Layout}
 use Rattle.region.specs.Inner.Passes.{Across}
-use Rattle.region.proofs.Flats.{across-is}
+use Rattle.region.proofs.Flats.{across_is}
 use Rattle.band.specs.Promise.{opens, rowed_in, RowsSay}
 use Rattle.band.specs.Inner.Fits.{Taps}
 
@@ -79,4 +79,4 @@ module _ (ws : List ℕ) (cs : List Float) (g : Layout) (lanes : ℕ) (work : Li
 
   pub all-rowed : (work' : List Float) (size : ℕ) → size ≡ size_of g → opens ws cs g lanes (length work) ≡ true
       → Across (λ l b e. e ≡ flat (rowed_in ws cs g (region_in g b))) size lanes work work' → RowsSay ws cs g lanes work work'
-  all-rowed work' size e o k = record { space = rw o (across-is g lanes (λ l. rowed_in ws cs g) work (opened ws cs g lanes (length work) o).room work' (rw e at k)) }
+  all-rowed work' size e o k = record { space = rw o (across_is g lanes (λ l. rowed_in ws cs g) work (opened ws cs g lanes (length work) o).room work' (rw e at k)) }

@@ -6,7 +6,7 @@ use Prim.Native.Nat.{ℕ, ◌+◌, ◌/◌, ◌<◌, ◌≤◌}
 use native.Mathlib.Omega.{arith}
 use lib.ListN.{length, length-take}
 use lib.Ieee.{Float, eq}
-use Rattle.lists.proofs.Numbers.{le-or-lt}
+use Rattle.lists.proofs.Numbers.{le_or_lt}
 use Rattle.floats.specs.Numbers.{nought}
 use Rattle.model.specs.Windows.{band_width, window_of}
 use Rattle.model.proofs.Windows.{width_in_band}
@@ -22,7 +22,7 @@ module _ (taps ivars : List Float) (t s : ℕ) (far : t + length taps ≤ s) whe
   term-far f y = ⊎_elim
       (λ (l : f ≤ t + length taps / 2). rw (W-short taps s f (omega arith) (omega arith), eq-nought) (either_way (eq (W taps f t) nought) y))
       (λ (l : t + length taps / 2 < f). rw (W-beyond taps t f l, eq-nought))
-      (le-or-lt f (t + length taps / 2))
+      (le_or_lt f (t + length taps / 2))
 
   window-far : (n : ℕ) (y : Float) → over (term taps ivars t s) n y ≡ y
   unfolding over

@@ -9,7 +9,7 @@ use lib.ListN.{length}
 use lib.Seq.{ext_get_or}
 use lib.Ieee.{Float, nan}
 use Rattle.lists.specs.Parts.{part}
-use Rattle.lists.proofs.Numbers.{le-or-lt}
+use Rattle.lists.proofs.Numbers.{le_or_lt}
 use Rattle.lists.proofs.Regions.{cut-length}
 use Rattle.region.proofs.Readings.{part_elem}
 use Rattle.band.specs.Inner.Passes.{rows_between, within, Moved, still}
@@ -20,9 +20,9 @@ use Rattle.band.specs.declared.passes.Block.{Block}
 -- such a number, or another
 pub by_span : (a e t : ℕ) (P : Type 0) → (a ≤ t → t < e → P) → ((a ≤ t → t < e → ⊥) → P) → P
 by_span a e t P on off = ⊎_elim
-    (λ (l : a ≤ t). ⊎_elim (λ (g : e ≤ t). off (λ x y. omega arith)) (λ (g : t < e). on l g) (le-or-lt e t))
+    (λ (l : a ≤ t). ⊎_elim (λ (g : e ≤ t). off (λ x y. omega arith)) (λ (g : t < e). on l g) (le_or_lt e t))
     (λ (l : t < a). off (λ x y. omega arith))
-    (le-or-lt a t)
+    (le_or_lt a t)
 
 module _ (a e t : ℕ) where
   pub within_on : (h : Float → Float) (y : Float) → a ≤ t → t < e → within a e t h y ≡ h y
@@ -30,9 +30,9 @@ module _ (a e t : ℕ) where
 
   pub within-off : (h : Float → Float) (y : Float) → (a ≤ t → t < e → ⊥) → within a e t h y ≡ y
   within-off h y o = ⊎_elim
-      (λ (l : a ≤ t). ⊎_elim (λ (g : e ≤ t). rw (le-leb a t l, le-ltb t e g)) (λ (g : t < e). absurd (o l g)) (le-or-lt e t))
+      (λ (l : a ≤ t). ⊎_elim (λ (g : e ≤ t). rw (le-leb a t l, le-ltb t e g)) (λ (g : t < e). absurd (o l g)) (le_or_lt e t))
       (λ (l : t < a). rw (lt-leb a t l))
-      (le-or-lt a t)
+      (le_or_lt a t)
 
   pub within-idle : (h : Float → Float) (y : Float) → (a ≤ t → t < e → h y ≡ y) → within a e t h y ≡ y
   within-idle h y i = by_span a e t _ (λ l g. within_on h y l g ∙ i l g) (within-off h y)
@@ -48,7 +48,7 @@ within-next a b e t h y l g = by_span b e t _
     (λ c i. within_on b e t h _ c i ∙ ap h (within-off a b t h y (λ p q. omega arith)) ∙ sym (within_on a e t h y (omega arith) i))
     (λ o. within-off b e t h _ o ∙ by_span a b t _
     (λ p q. within_on a b t h y p q ∙ sym (within_on a e t h y p (omega arith)))
-    (λ q. within-off a b t h y q ∙ sym (within-off a e t h y (λ p i. ⊎_elim (λ (z : b ≤ t). o z i) (λ (z : t < b). q p z) (le-or-lt b t)))))
+    (λ q. within-off a b t h y q ∙ sym (within-off a e t h y (λ p i. ⊎_elim (λ (z : b ≤ t). o z i) (λ (z : t < b). q p z) (le_or_lt b t)))))
 
 -- ---- what passes do to a block
 

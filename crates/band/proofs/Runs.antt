@@ -8,7 +8,7 @@ use lib.ListN.{length, set, length-set}
 use lib.Seq.{get_or-set_same, get_or-set_other, set_comm}
 use lib.Ieee.{Float, nan, binary64, add, mul}
 use Rattle.lists.specs.Build.{over}
-use Rattle.lists.proofs.Numbers.{le-or-lt}
+use Rattle.lists.proofs.Numbers.{le_or_lt}
 use Rattle.lists.proofs.Rows.{row_fits}
 use Rattle.lists.proofs.Orders.{over-step}
 use Rattle.region.specs.Rows.{elem}
@@ -35,7 +35,7 @@ module _ (Q : ℕ → ℕ) (from : ℕ) (x : ℕ → Float) (d : List Float) whe
           on = λ s a l. ⊎_elim
               (λ (g : t ≤ s). let z : s ≡ t = omega arith in rw z (get_or-set_same m (Q t) v nan (omega (arith, k.long)) ∙ rw old))
               (λ (g : s < t). get_or-set_other m (Q t) (Q s) v nan (λ e. apart s t g (sym e)) ∙ k.on s a g)
-              (le-or-lt t s);
+              (le_or_lt t s);
           off = λ i o. get_or-set_other m (Q t) i v nan (o t h (omega arith)) ∙ k.off i (λ s a l. o s a (omega arith));
         }
 

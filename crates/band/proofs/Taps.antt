@@ -12,7 +12,7 @@ use lib.ListN.{length, get_or}
 use lib.Ieee.{Float, nan, binary64, add, mul, eq}
 use Rattle.lists.specs.Build.{over}
 use Rattle.lists.specs.Parts.{part}
-use Rattle.lists.proofs.Numbers.{le-or-lt}
+use Rattle.lists.proofs.Numbers.{le_or_lt}
 use Rattle.lists.proofs.Orders.{over-step}
 use Rattle.lists.proofs.Regions.{cut-length}
 use Rattle.floats.specs.Numbers.{nought}
@@ -38,9 +38,9 @@ module _ (half n k t : ℕ) where
       (λ (a : k ≤ t + half). ⊎_elim
       (λ (b : n ≤ t + half - k). rw (le-leb k (t + half) a, le-ltb (t + half - k) n b))
       (λ (b : t + half - k < n). at-frame h y (a, b) ∙ e (a, b))
-      (le-or-lt n (t + half - k)))
+      (le_or_lt n (t + half - k)))
       (λ (a : t + half < k). rw (lt-leb k (t + half) a))
-      (le-or-lt k (t + half))
+      (le_or_lt k (t + half))
 
 -- the rows of a block at which it does
 less-min : (a b : ℕ) → a - min a b ≡ a - b
@@ -148,7 +148,7 @@ module _ (b : Block) (taps : List Float) (u mean k : ℕ) (d : List Float) (kb :
           same-entry j = ⊎_elim
               (λ (l : b.n ≤ t + j). rw (le-ltb (t + j) b.n l) (sym (in_entry X k kb nz t y there j ∙ rw (le-ltb (t + j) b.n l))))
               (λ (l : t + j < b.n). let tail : get_or rest j nought ≡ get_or taps (k + j) nought = rw rb (part-read taps k few j nought (λ z. omega arith)) in rw (head, read u, tail) (sym (in_entry X k kb nz t y there j)))
-              (le-or-lt b.n (t + j))
+              (le_or_lt b.n (t + j))
 
           same-side : side_of rest (u + F) (mean + F) (rows_between b s.from s.to) d t y ≡ tap_side X k t y
           unfolding side_of
@@ -185,9 +185,9 @@ module _ (b : Block) (taps : List Float) (u mean : ℕ) (d : List Float) where
       let e : below (k + 1) t ≡ t + length taps / 2 - k = omega arith in
       let f : below k t ≡ t + length taps / 2 - k + 1 = omega arith in
       at-frame (length taps / 2) b.n k t g _ (a, c) ∙ rw (e, f) (over-step g (t + length taps / 2 - k) y))
-      (le-or-lt b.n (t + length taps / 2 - k)))
+      (le_or_lt b.n (t + length taps / 2 - k)))
       (λ (a : t + length taps / 2 < k). let e : below (k + 1) t ≡ below k t = omega arith in rw (lt-leb k (t + length taps / 2) a, e))
-      (le-or-lt k (t + length taps / 2))
+      (le_or_lt k (t + length taps / 2))
 
   term-none : (t s f : ℕ) (y : Float) → eq (W taps f t) nought ≡ true → term taps Z.us t s f y ≡ y
   term-none t s f y o = term-idle taps Z.us Z.ms t f o s y
@@ -208,7 +208,7 @@ module _ (b : Block) (taps : List Float) (u mean : ℕ) (d : List Float) where
         (λ t j y h c a l. ⊎_elim
         (λ (o : b.n ≤ t + j). rw (le-ltb (t + j) b.n o))
         (λ (o : t + j < b.n). rw (lt-ltb (t + j) b.n o, e) (frame-more (term taps Z.us t (t + j)) k t y))
-        (le-or-lt b.n (t + j)))
+        (le_or_lt b.n (t + j)))
         (λ t y h a l. rw e (frame-more (right_term taps Z.us Z.ms t) k t y)) p
         (rw (part-kept b (entries_to k₁) (sides_to k₁) d m u b.n p (inl ub) (omega arith), part-kept b (entries_to k₁) (sides_to k₁) d m mean b.n p (inl mb) (omega arith)) at q)
 

@@ -15,7 +15,7 @@ use Rattle.lists.specs.Build.{build, over}
 use Rattle.lists.proofs.Flags.{either}
 use Rattle.lists.proofs.Orders.{over-idle}
 use Rattle.lists.proofs.Fills.{build-length, build-next, build-read}
-use Rattle.lists.proofs.Numbers.{le-or-lt}
+use Rattle.lists.proofs.Numbers.{le_or_lt}
 use Rattle.floats.specs.Numbers.{nought}
 use Rattle.floats.proofs.Signs.{nought-zero, zero-finite}
 use Rattle.model.specs.Windows.{all_finite}
@@ -24,7 +24,7 @@ use Rattle.region.specs.Rows.{elem}
 use Rattle.lists.specs.Parts.{part}
 use Rattle.band.specs.Paper.{W, plus_term, term, right_term}
 use Rattle.band.specs.Inner.Fits.{on_row}
-use Rattle.lists.proofs.Builds.{build-at, build-is, build-same, build-rest}
+use Rattle.lists.proofs.Builds.{build-at, build_is, build-same, build-rest}
 
 pub eq-nought : eq nought nought ≡ true
 unfolding eq of_bits
@@ -65,7 +65,7 @@ module _ (n t : ℕ) where
   -- what does nothing
   pub on_row-idle : (h : ℕ → Float → Float) (row : List Float) → ((s : ℕ) (y : Float) → h s y ≡ y) → row ≡ on_row n t h row
   unfolding on_row
-  on_row-idle h row e = build-is _ (length row) row nan refl (λ j l. sym (pick (ltb (t + j) n) (elem row j) (h (t + j) (elem row j)) (e (t + j) (elem row j))))
+  on_row-idle h row e = build_is _ (length row) row nan refl (λ j l. sym (pick (ltb (t + j) n) (elem row j) (h (t + j) (elem row j)) (e (t + j) (elem row j))))
     where
       pick : (b : Bool) (y z : Float) → z ≡ y → cond b z y ≡ y
       pick true y z e = e
@@ -120,7 +120,7 @@ module _ (taps : List Float) where
       ⊎_elim
       (λ (l : f ≤ t + half). rw (le-ltb (n + t + half) (n + f) (omega arith), le-ltb (t + half) f l, e))
       (λ (l : t + half < f). rw (lt-ltb (n + t + half) (n + f) (omega arith), lt-ltb (t + half) f l))
-      (le-or-lt f (t + half))
+      (le_or_lt f (t + half))
 
   -- row t has one for frame f only where the taps reach so far
   module _ (t f : ℕ) (some : eq (W taps f t) nought ≡ false) where
@@ -128,13 +128,13 @@ module _ (taps : List Float) where
     present e = true≢false (sym eq-nought ∙ ap (λ (c : Float). eq c nought) (sym e) ∙ some)
 
     pub reached-back : f ≤ t + length taps / 2
-    reached-back = ⊎_elim (λ (l : f ≤ t + half). l) (λ (l : t + half < f). absurd (present (W-beyond t f l))) (le-or-lt f (t + half))
+    reached-back = ⊎_elim (λ (l : f ≤ t + half). l) (λ (l : t + half < f). absurd (present (W-beyond t f l))) (le_or_lt f (t + half))
 
     pub reached-on : t + length taps / 2 < f + length taps
     reached-on = ⊎_elim
         (λ (l : length taps ≤ t + half - f). absurd (present (W-short t f reached-back l)))
         (λ (l : t + half - f < length taps). omega (arith, reached-back))
-        (le-or-lt (length taps) (t + half - f))
+        (le_or_lt (length taps) (t + half - f))
 
 -- it is finite where the numbers are of which the taps are some
 pub finite_W : (xs : List Float) (a w f t : ℕ) → all_finite xs ≡ true → T (finite (W (part a w xs) f t))
@@ -149,7 +149,7 @@ part-read xs k m j z h = ⊎_elim
     (λ (g : m ≤ j). let past : length xs ≤ k + j = h g in
     let short : length (part k m xs) ≤ j = simp (length-take, length-drop) (omega arith) in get_or-eq_default (part k m xs) z short ∙ sym (get_or-eq_default xs z past))
     (λ (g : j < m). get_or-take m (drop k xs) j z g ∙ get_or-drop k xs j z)
-    (le-or-lt m j)
+    (le_or_lt m j)
 
 -- ---- only the frames that a window's taps reach from row t have a term
 
@@ -175,18 +175,18 @@ module _ (taps ivars means : List Float) (t f : ℕ) (zero : eq (W taps f t) nou
 -- ---- a frame within the reach of the taps
 
 module _ (taps ivars means : List Float) (t f : ℕ) (l : f ≤ t + length taps / 2) (b : t + length taps / 2 - f < length taps) (c : Float) (own : c ≡ elem taps (t + length taps / 2 - f)) where
-  is-own : W taps f t ≡ c
-  is-own = W-own taps t f l b ∙ sym own
+  is_own : W taps f t ≡ c
+  is_own = W-own taps t f l b ∙ sym own
 
   pub frame-zero : (row : List Float) (right : Float) → eq c nought ≡ true
       → (row ≡ on_row (length ivars) t (λ s. term taps ivars t s f) row) × (right ≡ right_term taps ivars means t f right)
   frame-zero row right z =
-      let e : eq (W taps f t) nought ≡ true = rw is-own z in
+      let e : eq (W taps f t) nought ≡ true = rw is_own z in
       (on_row-idle (length ivars) t (λ s. term taps ivars t s f) row (term-idle taps ivars means t f e), sym (right-idle taps ivars means t f e right))
 
   pub frame_right : (right : Float) → eq c nought ≡ false → add binary64 right (mul binary64 (mul binary64 c (elem ivars f)) (elem means f)) ≡ right_term taps ivars means t f right
   unfolding right_term
-  frame_right right z = rw (is-own, z)
+  frame_right right z = rw (is_own, z)
 
   -- the taps from the frame's own on, as far as the row goes
   reached : (j m : ℕ) → m ≡ min (length ivars - t) (length taps - (t + length taps / 2 - f)) → t + j < length ivars → get_or (part (t + length taps / 2 - f) m taps) j nought ≡ W taps f (t + j)
@@ -201,5 +201,5 @@ module _ (taps ivars means : List Float) (t f : ℕ) (l : f ≤ t + length taps 
       (λ j h. ⊎_elim
       (λ (g : length ivars ≤ t + j). rw (le-ltb (t + j) (length ivars) g)
       (added-past (mul binary64 c (elem ivars f)) (part (t + length taps / 2 - f) m taps) j (elem row j) (rw length-take (omega arith))))
-      (λ (g : t + j < length ivars). rw (lt-ltb (t + j) (length ivars) g, reached j m e g, is-own, z))
-      (le-or-lt (length ivars) (t + j)))
+      (λ (g : t + j < length ivars). rw (lt-ltb (t + j) (length ivars) g, reached j m e g, is_own, z))
+      (le_or_lt (length ivars) (t + j)))

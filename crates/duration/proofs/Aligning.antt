@@ -14,9 +14,9 @@ use Rattle.lists.specs.Sizes.{most_frames}
 use Rattle.lists.specs.Totals.{total}
 use Rattle.lists.specs.Refusals.{or_else}
 use Rattle.lists.specs.Answers.{Answer, answer_of}
-use Rattle.lists.proofs.Answers.{accepted-is}
-use Rattle.lists.proofs.Numbers.{le-or-lt}
-use Rattle.lists.proofs.Refusals.{or-none}
+use Rattle.lists.proofs.Answers.{accepted_is}
+use Rattle.lists.proofs.Numbers.{le_or_lt}
+use Rattle.lists.proofs.Refusals.{or_none}
 use Rattle.lists.proofs.Sums.{total-append}
 use Rattle.floats.specs.Numbers.{nought}
 use Rattle.steps.specs.Steps.{States, size, least, Outcome}
@@ -53,14 +53,14 @@ module _ (ss : States) (agree : length ss.shortest ≡ size ss) where
   each-natural = record { count = length-estimates nought ss; above = estimates-above nought ss agree }
 
   module _ (t : ℕ) (some : 0 < size ss) (r : refusal_to ss t ≡ 0) where
-    fair-to : FairTo ss t (fit_to ss t)
-    fair-to = record { above = λ a. fair-fit ss t some agree a r; otherwise = shortest-fit ss t some }
+    fair_to : FairTo ss t (fit_to ss t)
+    fair_to = record { above = λ a. fair-fit ss t some agree a r; otherwise = shortest-fit ss t some }
 
     each-fit : Each ss (fit_to ss t).durations
     each-fit = ⊎_elim
         (λ (h : t ≤ least ss). subst (λ (o : Outcome). Each ss o.durations) (sym (shortest-fit ss t some h)) (record { count = agree; above = same ss.shortest }))
         (λ (h : least ss < t). (let f = fair-fit ss t some agree h r in record { count = f.count; above = pointwise_of ss.shortest _ (agree ∙ sym f.count) (λ i k. f.at_least i (rw (← agree) k)) }))
-        (le-or-lt t (least ss))
+        (le_or_lt t (least ss))
 
 -- ---- group after group
 
@@ -75,8 +75,8 @@ rest_of : {A : Type 0} (xs : List A) (n a : ℕ) → length xs ≡ n → take (n
 rest_of xs n a q = take_all (n - a) (drop a xs) (omega (arith, length-drop a xs))
 
 -- a part of it, and the rest
-part-and-rest : (xs : List ℕ) (a b : ℕ) → a ≤ b → drop a xs ≡ take (b - a) (drop a xs) ++ drop b xs
-part-and-rest xs a b h =
+part_and_rest : (xs : List ℕ) (a b : ℕ) → a ≤ b → drop a xs ≡ take (b - a) (drop a xs) ++ drop b xs
+part_and_rest xs a b h =
     let e : a + (b - a) ≡ b = omega arith in
     sym (take-append-drop (b - a) (drop a xs)) ∙ ap (λ (l : List ℕ). take (b - a) (drop a xs) ++ l) (drop-drop (b - a) a xs ∙ ap (λ (n : ℕ). drop n xs) e)
 
@@ -132,9 +132,9 @@ module _ (ss : States) (agree : length ss.varis ≡ size ss) (also : length ss.s
       record {
         some = omega arith;
         count = rw (length-append ds es) (omega (arith, e.count, rest.count));
-        above = subst (λ (l : List ℕ). Pointwise l (ds ++ es)) (sym (part-and-rest ss.shortest done to (omega arith))) (pointwise_append e.above rest.above);
+        above = subst (λ (l : List ℕ). Pointwise l (ds ++ es)) (sym (part_and_rest ss.shortest done to (omega arith))) (pointwise_append e.above rest.above);
         few = rw (total-append ds es) (omega (arith, rest.few));
-        fair = next (record { count = e.count; by_end = fair-to (states_in g ss) parts (target_of x frames) many own }) rest.fair;
+        fair = next (record { count = e.count; by_end = fair_to (states_in g ss) parts (target_of x frames) many own }) rest.fair;
         behind = rw last (omega (arith, rest.behind));
         natural = rw (last, apart, drop-append-add ds es (last_from later - to)) rest.natural;
       }
@@ -146,22 +146,22 @@ module _ (ss : States) (agree : length ss.varis ≡ size ss) (also : length ss.s
     course done first frames [] o h = λ e.
         let q : first ≡ size ss = omega arith in
         subst (λ (n : ℕ). Course done frames (tail done n ∷ []) (fit_along ss (tail done n ∷ []) frames)) (sym q)
-        (course-tail done frames (omega arith) (or-none (refusal_of ss (tail done (size ss)) frames) 0 (rw q at e)).0)
+        (course-tail done frames (omega arith) (or_none (refusal_of ss (tail done (size ss)) frames) 0 (rw q at e)).0)
     course done first frames (x ∷ xs) o h =
         elim (le nought x) as (λ s. let gs = closing done (first + k) (end_if s x) (λ d. groups k d (first + k) xs) in refusal_along ss gs frames ≡ 0 → Course done frames gs (fit_along ss gs frames)) [
           | false ↦ λ e. course done (first + k) frames xs (omega arith) (omega (arith, suc-mul (length xs) k)) e
           | true ↦ λ e.
               let g : Group = given done (first + k) x in
-              let r = or-none (refusal_of ss g frames) _ e in
+              let r = or_none (refusal_of ss g frames) _ e in
               course-next done (first + k) frames x (groups k (first + k) (first + k) xs) (omega arith) (omega (arith, suc-mul (length xs) k)) r.0
               (course (first + k) (first + k) (frames + total (fit_of ss g frames).durations) xs (omega arith) (omega (arith, suc-mul (length xs) k)) r.1)
         ]
 
 -- ---- and of every outcome that the promise allows
 
-aligned-is : (r : Aligned) (n c : ℕ) → aligned r ≡ answer_of 0 (n ∷ c ∷ []) → r ≡ align.Done n c
-aligned-is (align.Done w d) n c e = let q : w ∷ d ∷ [] ≡ n ∷ c ∷ [] = ap (λ (a : Answer). a.values) e in cc
-aligned-is (align.Refused k) n c e = absurd (let q : ◌≡◌ {A = List ℕ} [] (n ∷ c ∷ []) = ap (λ (a : Answer). a.values) e in let z : ◌≡◌ {A = ℕ} 0 1 = cc in omega arith)
+aligned_is : (r : Aligned) (n c : ℕ) → aligned r ≡ answer_of 0 (n ∷ c ∷ []) → r ≡ align.Done n c
+aligned_is (align.Done w d) n c e = let q : w ∷ d ∷ [] ≡ n ∷ c ∷ [] = ap (λ (a : Answer). a.values) e in cc
+aligned_is (align.Refused k) n c e = absurd (let q : ◌≡◌ {A = List ℕ} [] (n ∷ c ∷ []) = ap (λ (a : Answer). a.values) e in let z : ◌≡◌ {A = ℕ} 0 1 = cc in omega arith)
 
 module _ (ss : States) (nstate : ℕ) (ends : List Float) (out work : List ℕ) (r : Aligned) (out' work' : List ℕ) (z : (aligned r).number ≡ 0) (f : AlignSays ss nstate ends out work r out' work') where
   abbrev gs : List Group
@@ -171,10 +171,10 @@ module _ (ss : States) (nstate : ℕ) (ends : List Float) (out work : List ℕ) 
   early = early_of_labels nstate ends ss out work
 
   unrefused : or_else early (refusal_along ss gs 0) ≡ 0
-  unrefused = (accepted-is (aligned r) (or_else early (refusal_along ss gs 0)) _ f.answer z).0
+  unrefused = (accepted_is (aligned r) (or_else early (refusal_along ss gs 0)) _ f.answer z).0
 
   not-early : (refusal_of_labels nstate (length ends) (size ss) (length ss.varis) (length ss.shortest) (length out) (length work) ≡ 0) × (refusal_of_shortest ss.shortest ≡ 0)
-  not-early = or-none _ (refusal_of_shortest ss.shortest) (or-none early (refusal_along ss gs 0) unrefused).0
+  not-early = or_none _ (refusal_of_shortest ss.shortest) (or_none early (refusal_along ss gs 0) unrefused).0
 
   within_sizes : Labels nstate (length ends) (size ss) × Fitting (size ss) (length ss.varis) (length ss.shortest) (length out) (length work)
   within_sizes = labelled nstate (length ends) (size ss) (length ss.varis) (length ss.shortest) (length out) (length work) not-early.0
@@ -191,12 +191,12 @@ module _ (ss : States) (nstate : ℕ) (ends : List Float) (out work : List ℕ) 
   align_theorem =
       let o : Outcome = fit_along ss gs 0 in
       let l = within_sizes.1 in
-      let w = course ss l.agree l.shortest nstate align_labels.some 0 0 0 ends zero-le (omega (arith, align_labels.cover)) (or-none early (refusal_along ss gs 0) unrefused).1 in
+      let w = course ss l.agree l.shortest nstate align_labels.some 0 0 0 ends zero-le (omega (arith, align_labels.cover)) (or_none early (refusal_along ss gs 0) unrefused).1 in
       let c : length o.durations ≡ size ss = omega (arith, w.count) in
       let low : (i : ℕ) → get_or ss.shortest i 0 ≤ get_or o.durations i 0 = λ i. pointwise_at w.above i in
       record {
         outcome = o;
-        answer = aligned-is r (size ss) o.changes (f.answer ∙ ap (λ (m : ℕ). answer_of m (size ss ∷ o.changes ∷ [])) unrefused);
+        answer = aligned_is r (size ss) o.changes (f.answer ∙ ap (λ (m : ℕ). answer_of m (size ss ∷ o.changes ∷ [])) unrefused);
         output = f.output ∙ rw (unrefused, c);
         states = l.few;
         frames = omega (arith, w.few);

@@ -23,8 +23,8 @@ use Rattle.duration.specs.Align.{label_of, Group, given, closing, tail, groups, 
 use Rattle.lists.specs.Answers.{Answer, refusing}
 use Rattle.duration.specs.Promise.{fitted}
 use Rattle.duration.specs.Inner.Asked.{InPlace, Lies, closed, grown, Closes, Labelled}
-use Rattle.lists.proofs.Answers.{refused, refused-is, accepted-is}
-use Rattle.lists.proofs.Refusals.{or-first}
+use Rattle.lists.proofs.Answers.{refused, refused_is, accepted_is}
+use Rattle.lists.proofs.Refusals.{or_first}
 use Rattle.duration.proofs.Groups.{groups-next}
 use Rattle.duration.proofs.Closing.{accepted-group, fit-few}
 
@@ -101,17 +101,17 @@ module _ (ss : States) (k : ℕ) (ends : List Float) where
       group-refused : (n : ℕ) → answer ≡ refusing n → (w : List ℕ) → InPlace refusal outcome (fit.Refused n) w
       unfolding refusal_along
       group-refused n e w =
-          let s = refused-is n (refusal_of ss group frames) value values (sym e ∙ f.answer) in
-          let y : refusal ≡ n = sym a.refused ∙ ap (λ (gs : List Group). refusal_along ss gs frames) p ∙ or-first (refusal_of ss group frames) _ s.1 ∙ s.0 in
+          let s = refused_is n (refusal_of ss group frames) value values (sym e ∙ f.answer) in
+          let y : refusal ≡ n = sym a.refused ∙ ap (λ (gs : List Group). refusal_along ss gs frames) p ∙ or_first (refusal_of ss group frames) _ s.1 ∙ s.0 in
           let z : refusal ≡ 0 → ⊥ = λ v. s.1 (s.0 ∙ sym y ∙ v) in
           record { answer = ap refusing (sym y) ∙ refused refusal _ z; output = λ v. absurd (z v) }
 
       -- it was accepted
       module _ (z : refusal_of ss group frames ≡ 0) where
         -- the durations before it and its own, and those of the groups after it
-        so_far-is : joined (take done work ++ durations) (changes + more) (fit_along ss later (frames + total durations)) ≡ outcome
+        so_far_is : joined (take done work ++ durations) (changes + more) (fit_along ss later (frames + total durations)) ≡ outcome
         unfolding fit_along
-        so_far-is =
+        so_far_is =
             sym (joined-two (take done work) changes durations more (fit_along ss later (frames + total durations)))
             ∙ ap (λ (gs : List Group). joined (take done work) changes (fit_along ss gs frames)) (sym p) ∙ a.so_far
 
@@ -142,10 +142,10 @@ module _ (ss : States) (k : ℕ) (ends : List Float) where
         tail-done : (c : ℕ) → Closes ss (tail done first) frames work (changes ∷ []) (fitted (fit.Done c)) work' → InPlace refusal outcome (fit.Done c) work'
         unfolding fit_along refusal_along
         tail-done c f =
-            let q = accepted-is (fitted (fit.Done c)) (refusal_of ss (tail done first) frames) (changes ∷ []) f.answer refl in
+            let q = accepted_is (fitted (fit.Done c)) (refusal_of ss (tail done first) frames) (changes ∷ []) f.answer refl in
             let v : c ∷ [] ≡ changes ∷ [] = q.1 in
             let e : c ≡ changes = cc in
-            let o = so_far-is first Open [] the_tail changes [] (fitted (fit.Done c)) work' f q.0 in
+            let o = so_far_is first Open [] the_tail changes [] (fitted (fit.Done c)) work' f q.0 in
             let sum : outcome.changes ≡ c = sym (ap (λ (x : Outcome). x.changes) o) ∙ (let m : changes + 0 + 0 ≡ c = omega arith in m) in
             let y : refusal ≡ 0 = sym (refused-later first Open [] the_tail changes [] (fitted (fit.Done c)) work' f q.0) in
             let whole : first ≡ length work = omega (arith, all-passed, a.long, l.lists.workspace) in
@@ -206,19 +206,19 @@ module _ (ss : States) (k : ℕ) (ends : List Float) where
             own = fit_of ss (given done (label.first + k) end) frames
 
             accepted : (refusal_of ss (given done (label.first + k) end) frames ≡ 0) × ((closed (close.Grown c s)).values ≡ own.changes ∷ total own.durations ∷ [])
-            accepted = accepted-is (closed (close.Grown c s)) (refusal_of ss (given done (label.first + k) end) frames) _ (ap closed (sym b) ∙ f.answer) refl
+            accepted = accepted_is (closed (close.Grown c s)) (refusal_of ss (given done (label.first + k) end) frames) _ (ap closed (sym b) ∙ f.answer) refl
 
-            changes-is : c ≡ own.changes
-            changes-is = let v = accepted.1 in cc
+            changes_is : c ≡ own.changes
+            changes_is = let v = accepted.1 in cc
 
-            frames-is : s ≡ total own.durations
-            frames-is = let v = accepted.1 in cc
+            frames_is : s ≡ total own.durations
+            frames_is = let v = accepted.1 in cc
 
             grown-frames : frames + s ≤ most_frames
-            grown-frames = rw frames-is (accepted-group ss (given done (label.first + k) end) frames accepted.0).1
+            grown-frames = rw frames_is (accepted-group ss (given done (label.first + k) end) frames accepted.0).1
 
             more-few : c ≤ most_frames
-            more-few = rw changes-is (fit-few (states_in (given done (label.first + k) end) ss) (target_of end frames))
+            more-few = rw changes_is (fit-few (states_in (given done (label.first + k) end) ss) (target_of end frames))
 
             grown-changes : changes + c ≤ 268435456
             grown-changes = omega (arith, more-few, a.little, labels-few (length ends) k (size ss) l.cover l.some, l.lists.few)
@@ -233,8 +233,8 @@ module _ (ss : States) (k : ℕ) (ends : List Float) where
                   few = grown-frames;
                   little = omega (arith, more-few, a.little);
                   long = n ∙ a.long;
-                  so_far = rw (tk, changes-is, frames-is) (so_far-is (label.first + k) (At end) later (here (At end) q) _ _ (closed r) work' f accepted.0);
-                  refused = rw frames-is (refused-later (label.first + k) (At end) later (here (At end) q) _ _ (closed r) work' f accepted.0);
+                  so_far = rw (tk, changes_is, frames_is) (so_far_is (label.first + k) (At end) later (here (At end) q) _ _ (closed r) work' f accepted.0);
+                  refused = rw frames_is (refused-later (label.first + k) (At end) later (here (At end) q) _ _ (closed r) work' f accepted.0);
                 }
 
   -- a turn of the loop at which a group was closed, with the answer r

@@ -10,7 +10,7 @@ use lib.Ieee.{Float}
 use lib.Seq.{sets, take_at, drop_at}
 use borrow.Author.Tests.{ne_eqb}
 use Rattle.lists.proofs.Stores.{filled, copied, Storing, storing, storing-read, copying_next, copying_done, filling-next, filling-done}
-use Rattle.lists.proofs.Answers.{refused, Same, same, untouched, refused-is, accepted-is}
+use Rattle.lists.proofs.Answers.{refused, Same, same, untouched, refused_is, accepted_is}
 use Rattle.duration.specs.declared.Fitted.{Fitted}
 use Rattle.duration.specs.declared.Fitted.TheVariants as fit
 use Rattle.duration.specs.declared.Aligned.{Aligned}
@@ -76,13 +76,13 @@ module _ (n k : ℕ) (new out work w : List ℕ) (long : length w ≡ n) (late :
   cleared work' e = rw (late, ← drop_at w (drop n work) n long) (e ∙ filled n 0 (w ++ drop n work) whole_long)
 
   pub says-late : (v : ℕ) (vs : List ℕ) (m : ℕ) (a : Answer) (work' : List ℕ) → a ≡ refusing m → a ≡ answer_of k (v ∷ vs) → work' ≡ sets (w ++ drop n work) 0 (replicate n 0) → Says (or_else 0 k) (v ∷ vs) new n out work a out work'
-  says-late v vs m a work' r e f = record { answer = e; output = untouched k new out (refused-is m k v vs (sym r ∙ e)).1; workspace = cleared work' f }
+  says-late v vs m a work' r e f = record { answer = e; output = untouched k new out (refused_is m k v vs (sym r ∙ e)).1; workspace = cleared work' f }
 
   -- it is the durations
   says-whole : (values : List ℕ) (a : Answer) (out' work' : List ℕ) → a ≡ answer_of k values → a.number ≡ 0 → n ≤ length out → (k ≡ 0 → w ≡ new)
       → out' ≡ sets out 0 (take n (w ++ drop n work)) → work' ≡ sets (w ++ drop n work) 0 (replicate n 0) → Says (or_else 0 k) values new n out work a out' work'
   says-whole values a out' work' e z room t o f =
-      let y : k ≡ 0 = (accepted-is a k values e z).0 in
+      let y : k ≡ 0 = (accepted_is a k values e z).0 in
       record {
         answer = e;
         output = rw (y, ← t y, long) (o ∙ copied n (w ++ drop n work) out whole_long room ∙ ap (λ (x : List ℕ). x ++ drop n out) (take_at w (drop n work) n long));
@@ -98,14 +98,14 @@ module _ (n k : ℕ) (new out work w : List ℕ) (long : length w ≡ n) (late :
 module _ (k n u : ℕ) (new out work : List ℕ) (s : Fitted) (out' work' : List ℕ) (f : Says k (u ∷ []) new n out work (fitted s) out' work') where
   pub aligned-done : (c : ℕ) → s ≡ fit.Done c → Says k (n ∷ u ∷ []) new n out work (aligned (align.Done n c)) out' work'
   aligned-done c e =
-      let y = accepted-is (fitted (fit.Done c)) k _ (ap fitted (sym e) ∙ f.answer) refl in
+      let y = accepted_is (fitted (fit.Done c)) k _ (ap fitted (sym e) ∙ f.answer) refl in
       let q : c ∷ [] ≡ u ∷ [] = y.1 in
       let v : c ≡ u = cc in
       record { answer = rw (y.0, v); output = f.output; workspace = f.workspace }
 
   pub aligned-refused : (m j : ℕ) → s ≡ fit.Refused m → j ≡ (fitted s).number → Says k (n ∷ u ∷ []) new n out work (aligned (align.Refused j)) out' work'
   aligned-refused m j e q =
-      let y = refused-is m k u [] (ap fitted (sym e) ∙ f.answer) in
+      let y = refused_is m k u [] (ap fitted (sym e) ∙ f.answer) in
       let v : j ≡ k = q ∙ ap (λ (x : Fitted). (fitted x).number) e ∙ sym y.0 in
       record { answer = ap refusing v ∙ refused k _ y.1; output = f.output; workspace = f.workspace }
 

@@ -11,11 +11,11 @@ use lib.ListN.{length, get_or}
 use lib.Ieee.{Float, nan, binary64, fits, of_bits, le}
 use lib.Ieee.Positive.{num, den, den_pos, value→cross}
 use Rattle.lists.specs.Totals.{gap}
-use Rattle.lists.proofs.Numbers.{le-or-lt}
+use Rattle.lists.proofs.Numbers.{le_or_lt}
 use Rattle.floats.specs.Rounding.{nearest_half}
 use Rattle.floats.specs.Numbers.{nought, number}
 use Rattle.floats.proofs.Differences.{number-value, exact-less}
-use Rattle.floats.proofs.Halves.{half-same, half-less, half-few}
+use Rattle.floats.proofs.Halves.{half_same, half-less, half_few}
 use Rattle.duration.specs.Align.{target_of}
 use Rattle.duration.specs.Drift.{Fraction, HalvesUp, end_rounded, OnTime, closed_before, up_to, frames_before, group_least, total_at, NoDrift, PartEnd}
 use Rattle.duration.specs.Drift.PartEnd.{ahead, behind}
@@ -24,9 +24,9 @@ use Rattle.duration.specs.Drift.PartEnd.{ahead, behind}
 
 module _ (k : ℕ) (ends : List Float) (ls ds : List ℕ) (o : NoDrift k ends ls ds) where
   -- With room at a label, twice the distance of its end, as a fraction, and the total is at most 1.
-  pub half-a-frame : (i : ℕ) → i < length ends → le nought (get_or ends i nan) ≡ true → group_least k ends ls i < target_of (get_or ends i nan) (frames_before k ends ds i)
+  pub half_a_frame : (i : ℕ) → i < length ends → le nought (get_or ends i nan) ≡ true → group_least k ends ls i < target_of (get_or ends i nan) (frames_before k ends ds i)
       → (a : ℕ) × ((c : ℕ) × (Fraction (get_or ends i nan) a c × (2 * gap (total_at k ds i * c) a ≤ c)))
-  half-a-frame i h at b = let r = (o i h at).right b in (num (get_or ends i nan), (den (get_or ends i nan), (r.fraction, r.near _ _ r.fraction)))
+  half_a_frame i h at b = let r = (o i h at).right b in (num (get_or ends i nan), (den (get_or ends i nan), (r.fraction, r.near _ _ r.fraction)))
 
   -- Room, over whole numbers.
   pub right_with_room : (i : ℕ) → i < length ends → le nought (get_or ends i nan) ≡ true → frames_before k ends ds i + group_least k ends ls i < end_rounded (get_or ends i nan) → HalvesUp (get_or ends i nan) (total_at k ds i)
@@ -39,7 +39,7 @@ module _ (k : ℕ) (ends : List Float) (ls ds : List ℕ) (o : NoDrift k ends ls
       let w = o i h at in
       let n : ℕ = group_least k ends ls i in
       let t : ℕ = target_of (get_or ends i nan) (frames_before k ends ds i) in
-      (λ b. omega (arith, w.room.0 b, w.larger), λ b. ⊎_elim (λ (q : t ≤ n). absurd (omega (arith, w.short q))) (λ (q : n < t). q) (le-or-lt t n))
+      (λ b. omega (arith, w.room.0 b, w.larger), λ b. ⊎_elim (λ (q : t ≤ n). absurd (omega (arith, w.short q))) (λ (q : n < t). q) (le_or_lt t n))
 
   -- Without room at a label the total is exactly that before its group and the sum of its shortest; and at any later label with room it is right again.
   pub right_again : (i j : ℕ) → i < j → j < length ends → le nought (get_or ends i nan) ≡ true → le nought (get_or ends j nan) ≡ true
@@ -78,10 +78,10 @@ left_of x frames y held (ahead a c q small under) =
     let C = q.some in
     let few : frames ≤ 2 ^ 53 = le_of_lt (lt_of_mul-lt-mul_right c (lt_of_le_of_lt under small)) in
     let v = exact-less x (number frames) a c frames held C q.is (number-value frames few) small under in
-    half-same (num y) (den y) (a - frames * c) c (den_pos y) C (value→cross y (a - frames * c) c v)
+    half_same (num y) (den y) (a - frames * c) c (den_pos y) C (value→cross y (a - frames * c) c v)
     ∙ half-less a c frames C under
-    ∙ ap (λ (n : ℕ). n - frames) (half-same a c (num x) (den x) C (den_pos x) (sym (value→cross x a c q.is)))
-left_of x frames y held (behind h) = omega (arith, nought-rounded, half-few frames (num x) (den x) (den_pos x) (le_of_lt h))
+    ∙ ap (λ (n : ℕ). n - frames) (half_same a c (num x) (den x) C (den_pos x) (sym (value→cross x a c q.is)))
+left_of x frames y held (behind h) = omega (arith, nought-rounded, half_few frames (num x) (den x) (den_pos x) (le_of_lt h))
 
 -- A total that is on time in a part is, with the frames of all parts before it, what it would be in the whole chapter.
 pub part-total : (x y : Float) (frames before low reached : ℕ) → T (fits binary64 x) → PartEnd x frames y → OnTime y before low reached → frames + reached ≡ max (end_rounded x) (frames + before + low)

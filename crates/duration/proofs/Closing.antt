@@ -11,8 +11,8 @@ use lib.Ieee.{Float}
 use borrow.Author.Tests.{lt-ltb, le-ltb, ltb-false}
 use Rattle.lists.specs.Sizes.{most_frames}
 use Rattle.lists.specs.Totals.{total}
-use Rattle.lists.proofs.Numbers.{le-or-lt}
-use Rattle.lists.proofs.Refusals.{or-first, or-none}
+use Rattle.lists.proofs.Numbers.{le_or_lt}
+use Rattle.lists.proofs.Refusals.{or_first, or_none}
 use Rattle.duration.specs.declared.Fitted.{Fitted}
 use Rattle.duration.specs.declared.Fitted.TheVariants as fit
 use Rattle.duration.specs.declared.align.Closed.TheVariants as close
@@ -27,7 +27,7 @@ use Rattle.duration.specs.Align.{Group, given, tail, states_in, target_of, fit_o
 use Rattle.duration.specs.Promise.{fitted, clears}
 use Rattle.duration.specs.Inner.Asked.{InPlace, closed, grown, Closes}
 use Rattle.lists.specs.Answers.{refusing}
-use Rattle.lists.proofs.Answers.{refused, refused-is, accepted-is}
+use Rattle.lists.proofs.Answers.{refused, refused_is, accepted_is}
 use Rattle.steps.proofs.Stepping.{settle-few}
 use Rattle.duration.proofs.Refusals.{cond-none}
 use Rattle.duration.proofs.Estimates.{length-estimates}
@@ -47,8 +47,8 @@ module _ (ss : States) (from to : ℕ) (x : Float) (frames : ℕ) (work w work' 
     pub close_refused : (m k : ℕ) → r ≡ fit.Refused m → k ≡ (fitted r).number → Closes ss g frames work (grown ss g frames) (closed (close.Refused k)) work'
     unfolding refusal_of
     close_refused m k e q =
-        let s = refused-is m own _ [] (ap fitted (sym e) ∙ f.answer) in
-        let o : refusal_of ss g frames ≡ own = or-first own _ s.1 in
+        let s = refused_is m own _ [] (ap fitted (sym e) ∙ f.answer) in
+        let o : refusal_of ss g frames ≡ own = or_first own _ s.1 in
         let z : refusal_of ss g frames ≡ 0 → ⊥ = λ q. s.1 (sym o ∙ q) in
         let n : k ≡ refusal_of ss g frames = q ∙ ap (λ (x : Fitted). (fitted x).number) e ∙ sym (o ∙ s.0) in
         record { answer = ap refusing n ∙ refused (refusal_of ss g frames) _ z; output = λ q. absurd (z q) }
@@ -56,7 +56,7 @@ module _ (ss : States) (from to : ℕ) (x : Float) (frames : ℕ) (work w work' 
     -- it comes to the larger of its target and the sum of its shortest
     module _ (c s : ℕ) (e : r ≡ fit.Done c) (some : 0 < size (states_in g ss)) (agree : length (states_in g ss).shortest ≡ size (states_in g ss)) (sum : s ≡ max (target_of x frames) (least (states_in g ss))) where
       done : (own ≡ 0) × ((fitted (fit.Done c)).values ≡ (fit_of ss g frames).changes ∷ [])
-      done = accepted-is (fitted (fit.Done c)) own _ (ap fitted (sym e) ∙ f.answer) refl
+      done = accepted_is (fitted (fit.Done c)) own _ (ap fitted (sym e) ∙ f.answer) refl
 
       sum_is : s ≡ total (fit_of ss g frames).durations
       sum_is = sum ∙ sym (fit-total (states_in g ss) (target_of x frames) some agree done.0)
@@ -84,7 +84,7 @@ over-either : (m n : ℕ) → m ≤ n → or_else (cond (ltb most_frames m) 8 0)
 over-either m n h = ⊎_elim
     (λ (k : m ≤ most_frames). rw (le-ltb most_frames m k))
     (λ (k : most_frames < m). rw (lt-ltb most_frames m k, lt-ltb most_frames n (omega arith)))
-    (le-or-lt m most_frames)
+    (le_or_lt m most_frames)
 
 module _ (ss : States) (from to frames changes : ℕ) (work : List ℕ) where
   abbrev naturals_of : List ℕ
@@ -120,7 +120,7 @@ tail_none ss from to frames changes work e h =
 pub accepted-group : (ss : States) (g : Group) (frames : ℕ) → refusal_of ss g frames ≡ 0 → (refusal_to_end (states_in g ss) frames g.end ≡ 0) × (frames + total (fit_of ss g frames).durations ≤ most_frames)
 unfolding refusal_of
 accepted-group ss g frames r =
-    let p = or-none (refusal_to_end (states_in g ss) frames g.end) _ r in
+    let p = or_none (refusal_to_end (states_in g ss) frames g.end) _ r in
     let n : ℕ = frames + total (fit_of ss g frames).durations in
     (p.0, ltb-false most_frames n (cond-none (ltb most_frames n) 7 0 p.1).0)
 
@@ -136,14 +136,14 @@ fit-few ss t = cond-few (at_shortest ss t) (unchanged _) _ most_frames zero-le (
 
 -- ---- a group's refusals, and a run's, clear the work space
 
-late-or : (k : ℕ) (b : Bool) → clears k ≡ true → clears (or_else k (cond b 8 0)) ≡ true
-late-or zero true e = refl
-late-or zero false e = refl
-late-or (suc k) b e = e
+late_or : (k : ℕ) (b : Bool) → clears k ≡ true → clears (or_else k (cond b 8 0)) ≡ true
+late_or zero true e = refl
+late_or zero false e = refl
+late_or (suc k) b e = e
 
 end-clears : (ss : States) (frames : ℕ) (end : End) → clears (refusal_to_end ss frames end) ≡ true
 end-clears ss frames (At x) = fit-clears ss _
-end-clears ss frames Open = late-or 0 (ltb most_frames (total (naturals ss))) refl
+end-clears ss frames Open = late_or 0 (ltb most_frames (total (naturals ss))) refl
 
 late-then : (k l : ℕ) → clears k ≡ true → clears l ≡ true → clears (or_else k l) ≡ true
 late-then zero l p q = q
@@ -154,5 +154,5 @@ unfolding refusal_along refusal_of
 along-clears ss [] frames = refl
 along-clears ss (g ∷ gs) frames =
     late-then (refusal_of ss g frames) (refusal_along ss gs (frames + total (fit_of ss g frames).durations))
-    (late-or (refusal_to_end (states_in g ss) frames g.end) (ltb most_frames (frames + total (fit_of ss g frames).durations)) (end-clears (states_in g ss) frames g.end))
+    (late_or (refusal_to_end (states_in g ss) frames g.end) (ltb most_frames (frames + total (fit_of ss g frames).durations)) (end-clears (states_in g ss) frames g.end))
     (along-clears ss gs (frames + total (fit_of ss g frames).durations))

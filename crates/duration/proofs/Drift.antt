@@ -90,18 +90,18 @@ module _ (ss : States) (k : ℕ) (ends : List Float) (ds : List ℕ) (some : 1 �
         (λ h. ap (λ (o : Outcome). total o.durations) (first.group.by_end.otherwise h)))
 
   module _ (c : ℕ) (f : FairAlong ss (groups k 0 0 ends) 0 ds c) where
-    fair-from : (i : ℕ) → i ≤ length ends → FairFrom i (closed_before k ends i)
+    fair_from : (i : ℕ) → i ≤ length ends → FairFrom i (closed_before k ends i)
     unfolding closed_before total
-    fair-from zero h = record { changes = c; fair = rw (zero-mul k) f }
-    fair-from (suc i) h =
+    fair_from zero h = record { changes = c; fair = rw (zero-mul k) f }
+    fair_from (suc i) h =
         (elim (le nought (get_or ends i nan)) as (λ s. le nought (get_or ends i nan) ≡ s → FairFrom (suc i) (cond s (suc i * k) (closed_before k ends i))) [
-          | true ↦ λ at. fair-next i (closed_before k ends i) h at (closed-most k ends i) (fair-from i (omega arith))
-          | false ↦ λ at. (let w = fair-from i (omega arith) in record { changes = w.changes; fair = rw (← groups_open k ends i (closed_before k ends i) h at) w.fair })
+          | true ↦ λ at. fair-next i (closed_before k ends i) h at (closed-most k ends i) (fair_from i (omega arith))
+          | false ↦ λ at. (let w = fair_from i (omega arith) in record { changes = w.changes; fair = rw (← groups_open k ends i (closed_before k ends i) h at) w.fair })
         ])
         refl
 
     no_drift_of : NoDrift k ends ss.shortest ds
-    no_drift_of i h at = on_time_here i (closed_before k ends i) h at (closed-most k ends i) (fair-from i (omega arith))
+    no_drift_of i h at = on_time_here i (closed_before k ends i) h at (closed-most k ends i) (fair_from i (omega arith))
 
 -- The theorem, of every outcome that an alignment's promise allows with an accepted answer
 module _ (ss : States) (nstate : ℕ) (ends : List Float) (out work : List ℕ) (r : Aligned) (out' work' : List ℕ) (held : Held ends) (z : (aligned r).number ≡ 0) (f : AlignSays ss nstate ends out work r out' work') where

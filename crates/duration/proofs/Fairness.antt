@@ -12,7 +12,7 @@ use borrow.Author.Tests.{le-ltb, le-leb, lt-leb, ne_eqb, ltb-false}
 use Rattle.lists.specs.Sizes.{most_frames}
 use Rattle.lists.specs.Totals.{total, gap}
 use Rattle.lists.specs.Refusals.{or_else}
-use Rattle.lists.proofs.Numbers.{le-or-lt}
+use Rattle.lists.proofs.Numbers.{le_or_lt}
 use Rattle.floats.specs.Rounding.{rounded_of}
 use Rattle.floats.specs.Numbers.{one}
 use Rattle.duration.specs.declared.Fitted.{Fitted}
@@ -80,7 +80,7 @@ module _ (ss : States) (t : ℕ) (some : 0 < size ss) (agree : length ss.shortes
         let far : distance S o.durations ≡ gap (total S) t = ⊎_elim
         (λ (l : total S ≤ t). (let d : distance S o.durations + total S ≡ total o.durations = distance-up (settles_up (rho_for ss t) ss t some agree room q l s) in let r : distance S o.durations ≡ gap (total S) t = omega arith in r))
         (λ (l : t < total S). (let d : distance S o.durations + total o.durations ≡ total S = distance-down (settles_down (rho_for ss t) ss t some agree room q (omega arith) s) in let r : distance S o.durations ≡ gap (total S) t = omega arith in r))
-        (le-or-lt (total S) t) in
+        (le_or_lt (total S) t) in
         subst (λ (x : Outcome). Fair ss t x) (sym steps_are)
         (record {
           count = n;
@@ -89,7 +89,7 @@ module _ (ss : States) (t : ℕ) (some : 0 < size ss) (agree : length ss.shortes
           one_way = ⊎_elim
               (λ (l : total S ≤ t). inl (pointwise_at (settles_up (rho_for ss t) ss t some agree room q l s)))
               (λ (l : t < total S). inr (pointwise_at (settles_down (rho_for ss t) ss t some agree room q (omega arith) s)))
-              (le-or-lt (total S) t);
+              (le_or_lt (total S) t);
           by_steps = s;
           by_gap = c;
           by_states = c ∙ sym far;
@@ -106,9 +106,9 @@ module _ (ss : States) (t : ℕ) (some : 0 < size ss) (agree : length ss.shortes
       fair (ltb-false most_frames t b.0) (ltb-false most_frames (total (start_of ss t)) (cond-none (ltb most_frames (total (start_of ss t))) 7 0 c).0)
 
 -- an answer that is accepted
-fitted-is : (r : Fitted) (o : Outcome) → fitted r ≡ answer_of 0 (o.changes ∷ []) → r ≡ fit.Done o.changes
-fitted-is (fit.Done c) o e = let q : c ∷ [] ≡ o.changes ∷ [] = ap (λ (a : Answer). a.values) e in cc
-fitted-is (fit.Refused k) o e = absurd (let q : ◌≡◌ {A = List ℕ} [] (o.changes ∷ []) = ap (λ (a : Answer). a.values) e in let z : ◌≡◌ {A = ℕ} 0 1 = cc in omega arith)
+fitted_is : (r : Fitted) (o : Outcome) → fitted r ≡ answer_of 0 (o.changes ∷ []) → r ≡ fit.Done o.changes
+fitted_is (fit.Done c) o e = let q : c ∷ [] ≡ o.changes ∷ [] = ap (λ (a : Answer). a.values) e in cc
+fitted_is (fit.Refused k) o e = absurd (let q : ◌≡◌ {A = List ℕ} [] (o.changes ∷ []) = ap (λ (a : Answer). a.values) e in let z : ◌≡◌ {A = ℕ} 0 1 = cc in omega arith)
 
 -- a target that is not above the sum of the shortest
 pub shortest-fit : (ss : States) (t : ℕ) → 0 < size ss → t ≤ least ss → fit_to ss t ≡ unchanged ss.shortest
@@ -120,7 +120,7 @@ pub fit-total : (ss : States) (t : ℕ) → 0 < size ss → length ss.shortest �
 fit-total ss t some agree e = ⊎_elim
     (λ (h : t ≤ least ss). ap (λ (o : Outcome). total o.durations) (shortest-fit ss t some h) ∙ (let z : least ss ≡ max t (least ss) = omega arith in z))
     (λ (h : least ss < t). (fair-fit ss t some agree h e).sum ∙ (let z : t ≡ max t (least ss) = omega arith in z))
-    (le-or-lt t (least ss))
+    (le_or_lt t (least ss))
 
 -- a call of one of the first two kinds whose outcome is the fit to t
 module _ (ss : States) (t : ℕ) (out work : List ℕ) (m : Ample ss t out work) where
@@ -138,7 +138,7 @@ module _ (ss : States) (t : ℕ) (out work : List ℕ) (m : Ample ss t out work)
       let g : Fair ss t (fit_to ss t) = fair ss t m.some m.shortest m.above m.within m.start in
       record {
         outcome = fit_to ss t;
-        answer = fitted-is r (fit_to ss t) (f.answer ∙ ap (λ (n : ℕ). answer_of n ((fit_to ss t).changes ∷ [])) z);
+        answer = fitted_is r (fit_to ss t) (f.answer ∙ ap (λ (n : ℕ). answer_of n ((fit_to ss t).changes ∷ [])) z);
         output = f.output ∙ rw (z, g.count);
         fair = g;
       }

@@ -13,11 +13,11 @@ use lib.Ieee.Positive.{num, den, den_pos, value→cross}
 use lib.Ieee.Scale.{finite}
 use Rattle.lists.specs.Sizes.{most_frames}
 use Rattle.lists.specs.Totals.{gap}
-use Rattle.lists.proofs.Numbers.{le-or-lt}
+use Rattle.lists.proofs.Numbers.{le_or_lt}
 use Rattle.floats.specs.Rounding.{nearest_half, frames_of}
 use Rattle.floats.specs.Numbers.{nought, number}
 use Rattle.floats.proofs.Differences.{number-value}
-use Rattle.floats.proofs.Halves.{half-same, frames}
+use Rattle.floats.proofs.Halves.{half_same, frames}
 use Rattle.floats.proofs.Nearest.{nearest-half}
 use Rattle.floats.proofs.TakenOff.{rounded-less, own-fraction, endless-less}
 use Rattle.duration.specs.Align.{target_of}
@@ -47,7 +47,7 @@ at_most t h k n e a b = omega arith
 -- whichever fraction an end is written as, it is rounded to the same number
 pub halves-up : (x : Float) (n : ℕ) → HasValue x false (num x) (den x) → n ≡ end_rounded x → HalvesUp x n
 halves-up x n own e =
-    let same : (a c : ℕ) → Fraction x a c → n ≡ nearest_half a c = λ a c q. e ∙ half-same (num x) (den x) a c (den_pos x) q.some (value→cross x a c q.is) in
+    let same : (a c : ℕ) → Fraction x a c → n ≡ nearest_half a c = λ a c q. e ∙ half_same (num x) (den x) a c (den_pos x) q.some (value→cross x a c q.is) in
     record {
       fraction = record { some = den_pos x; is = own };
       rounded = same;
@@ -65,19 +65,19 @@ module _ (x : Float) (k n more : ℕ) (F : T (fits binary64 x)) (at : le nought 
       (halves-up x (k + more) (own-fraction x d.0 at (omega arith)) e, e)
 
   -- the other way
-  not-above : target_of x k ≤ n → end_rounded x ≤ k + n
-  not-above h =
+  not_above : target_of x k ≤ n → end_rounded x ≤ k + n
+  not_above h =
       let m = short h in
       at_most (target_of x k) (end_rounded x) k n (target_is x k F (omega arith) at (omega arith)).1 h (omega arith)
 
   pub on_time : OnTime x k n (k + more)
   on_time =
       record {
-        room = (λ h. omega (arith, fit h, (rounded-up h).1), λ h. ⊎_elim (λ (q : target_of x k ≤ n). absurd (omega (arith, not-above q))) (λ (q : n < target_of x k). q) (le-or-lt (target_of x k) n));
+        room = (λ h. omega (arith, fit h, (rounded-up h).1), λ h. ⊎_elim (λ (q : target_of x k ≤ n). absurd (omega (arith, not_above q))) (λ (q : n < target_of x k). q) (le_or_lt (target_of x k) n));
         right = λ h. (rounded-up h).0;
         short = λ h. ap (λ (z : ℕ). k + z) (short h);
         larger = ⊎_elim
-            (λ (h : target_of x k ≤ n). (let z : k + more ≡ max (end_rounded x) (k + n) = omega (arith, short h, not-above h) in z))
+            (λ (h : target_of x k ≤ n). (let z : k + more ≡ max (end_rounded x) (k + n) = omega (arith, short h, not_above h) in z))
             (λ (h : n < target_of x k). (let z : k + more ≡ max (end_rounded x) (k + n) = omega (arith, fit h, (rounded-up h).1) in z))
-            (le-or-lt (target_of x k) n);
+            (le_or_lt (target_of x k) n);
       }

@@ -17,7 +17,7 @@ use Rattle.lists.specs.Totals.{total}
 use Rattle.lists.specs.Refusals.{or_else}
 use Rattle.lists.specs.Answers.{Answer}
 use Rattle.lists.proofs.Builds.{build-first}
-use Rattle.lists.proofs.Refusals.{or-none}
+use Rattle.lists.proofs.Refusals.{or_none}
 use Rattle.lists.proofs.Sums.{total-same, total-part}
 use Rattle.floats.specs.Rounding.{Integral, undefined, endless, whole, frames_of, to_integral, rounded_of}
 use Rattle.floats.specs.Numbers.{nought}
@@ -249,7 +249,7 @@ module _ (ms vs : List Float) (nstate : ℕ) (ends : List Float) (out work : Lis
   covered : before.AlignSays ms vs nstate ends out work r out' work' → (aligned r).number ≡ 0 → length ends * nstate ≡ length ms
   covered f z =
       let e : or_else (early_along ms vs out work nstate ends) (before.refusal_along ms vs (groups nstate 0 0 ends) 0) ≡ 0 = ap (λ (a : Answer). a.number) (sym f.answer) ∙ z in
-      (early-labels ms vs out work nstate ends (or-none (early_along ms vs out work nstate ends) _ e).0).0.cover
+      (early-labels ms vs out work nstate ends (or_none (early_along ms vs out work nstate ends) _ e).0).0.cover
 
   pub on_time_ones : AlignOnTime (states ms vs (replicate (length ms) 1)) nstate ends out work r out' work' ↔ before.AlignOnTime ms vs nstate ends out work r out' work'
   on_time_ones = (

@@ -14,8 +14,8 @@ use Rattle.lists.specs.Build.{build}
 use Rattle.lists.specs.Totals.{total}
 use Rattle.lists.specs.Refusals.{or_else}
 use Rattle.lists.specs.Answers.{Answer}
-use Rattle.lists.proofs.Numbers.{le-or-lt}
-use Rattle.lists.proofs.Refusals.{or-none}
+use Rattle.lists.proofs.Numbers.{le_or_lt}
+use Rattle.lists.proofs.Refusals.{or_none}
 use Rattle.floats.specs.Rounding.{Integral, undefined, endless, whole, to_integral, frames_of, rounded_of}
 use Rattle.floats.specs.Numbers.{nought, one, number}
 use Rattle.duration.specs.declared.Fitted.{Fitted}
@@ -67,8 +67,8 @@ capped_over {ss} {ts} p = ⊎_elim
     (λ (h : most_frames < total ts). ⊎_elim
     (λ (g : total ss ≤ most_frames). ap (λ (l : List ℕ). ltb most_frames (total l)) (sym (capped_same (capped_back p) g)))
     (λ (g : most_frames < total ss). lt-ltb most_frames (total ss) g ∙ sym (lt-ltb most_frames (total ts) h))
-    (le-or-lt (total ss) most_frames))
-    (le-or-lt (total ts) most_frames)
+    (le_or_lt (total ss) most_frames))
+    (le_or_lt (total ts) most_frames)
 
 capped_more : (s t : ℕ) → Caps s t → {xs ys : List ℕ} → Capped xs ys → Capped (xs ++ (s ∷ [])) (ys ++ (t ∷ []))
 capped_more s t c nil = cons c nil
@@ -156,7 +156,7 @@ module _ (rounding : Float → ℕ) (caps : (x : Float) → Caps (rounding x) (r
           refusal = rw (a, b);
           outcome = λ e. tests-over (eqb (size ss) 0) (leb s (least ss)) (leb t (least ss)) (unchanged ss.shortest) _ _ (rw a at e);
         })
-        (le-or-lt t most_frames)
+        (le_or_lt t most_frames)
 
     -- at a speed
     speed-alike : (speed : Float) → Alike (refusal_at_by rounding ss speed) (refusal_at ss speed) (fit_at_by rounding ss speed) (fit_at ss speed)
@@ -176,7 +176,7 @@ module _ (rounding : Float → ℕ) (caps : (x : Float) → Caps (rounding x) (r
         let a : ltb most_frames (total N) ≡ true = lt-ltb most_frames (total N) h in
         let b : ltb most_frames (total (naturals_by rounding ss)) ≡ true = capped_over p ∙ a in
         record { refusal = rw (a, b); outcome = λ e. absurd (let z : ◌≡◌ {A = ℕ} 8 0 = rw a at e in omega arith) })
-        (le-or-lt (total N) most_frames)
+        (le_or_lt (total N) most_frames)
 
   -- of states by their end
   module _ (ss : States) (frames : ℕ) where
@@ -197,14 +197,14 @@ module _ (rounding : Float → ℕ) (caps : (x : Float) → Caps (rounding x) (r
         let a : ltb most_frames (total N) ≡ true = lt-ltb most_frames (total N) h in
         let b : ltb most_frames (total (estimates_by rounding nought ss)) ≡ true = capped_over p ∙ a in
         record { refusal = rw (a, b); outcome = λ e. absurd (let z : ◌≡◌ {A = ℕ} 8 0 = rw a at e in omega arith) })
-        (le-or-lt (total N) most_frames)
+        (le_or_lt (total N) most_frames)
 
     end-alike : (end : End) → Alike (or_else (refusal_to_end_by rounding ss frames end) (over (fit_to_end_by rounding ss frames end))) (or_else (refusal_to_end ss frames end) (over (fit_to_end ss frames end))) (fit_to_end_by rounding ss frames end) (fit_to_end ss frames end)
     end-alike (At x) =
         let f = fit-alike ss (target_of_by rounding x frames) (target_of x frames) (caps _) in
         record {
           refusal = or_same (refusal_to_by rounding ss (target_of_by rounding x frames)) (refusal_to ss (target_of x frames)) _ _ f.refusal (λ e. ap over (f.outcome e));
-          outcome = λ e. f.outcome (or-none (refusal_to ss (target_of x frames)) _ e).0;
+          outcome = λ e. f.outcome (or_none (refusal_to ss (target_of x frames)) _ e).0;
         }
     end-alike Open = tail-alike
 
@@ -222,7 +222,7 @@ module _ (rounding : Float → ℕ) (caps : (x : Float) → Caps (rounding x) (r
         let later = along-alike gs (frames + total (fit_of ss g frames).durations) in
         record {
           refusal = or_same (refusal_of_by rounding ss g frames) (refusal_of ss g frames) _ _ f.refusal (λ e. ap (λ (o : Outcome). refusal_along_by rounding ss gs (frames + total o.durations)) (f.outcome e) ∙ later.refusal);
-          outcome = λ e. (let z = or-none (refusal_of ss g frames) _ e in rw (f.outcome z.0, later.outcome z.1));
+          outcome = λ e. (let z = or_none (refusal_of ss g frames) _ e in rw (f.outcome z.0, later.outcome z.1));
         }
 
 -- ---- the count of frames with no cap

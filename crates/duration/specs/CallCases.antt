@@ -22,7 +22,7 @@ use Rattle.duration.specs.Align.{end_of, groups, fit_along, refusal_of, refusal_
 use Rattle.duration.specs.Drift.{end_rounded, closed_before, group_states, NoDrift}
 use Rattle.duration.specs.Promise.{work_of, refusal_of_lists, refusal_of_labels, FitSays, SpeedSays, AlignSays}
 use Rattle.duration.specs.Fitting.{last_from}
-use Rattle.duration.specs.Inputs.{two-three, one-one, ones, sevens, nines, cleared, halves, unset}
+use Rattle.duration.specs.Inputs.{two_three, one-one, ones, sevens, nines, cleared, halves, unset}
 
 -- ---- -0 is given, the least number below it and NaN are open
 
@@ -37,32 +37,32 @@ pub end_minus_zero : end_of minus_zero ≡ At minus_zero
 unfolding le of_bits
 end_minus_zero = refl
 
-pub end-least-below : end_of least-below ≡ Open
+pub end_least_below : end_of least-below ≡ Open
 unfolding le of_bits
-end-least-below = refl
+end_least_below = refl
 
-pub end-nan : end_of nan ≡ Open
+pub end_nan : end_of nan ≡ Open
 unfolding le of_bits
-end-nan = refl
+end_nan = refl
 
 -- so -0 closes the first state, with one frame, and the second has the seven that are left
-pub align_minus_zero : AlignSays (states two-three one-one ones) 1 (minus_zero ∷ number 8 ∷ []) sevens nines (align.Done 2 0) (1 ∷ 7 ∷ 7 ∷ []) cleared
+pub align_minus_zero : AlignSays (states two_three one-one ones) 1 (minus_zero ∷ number 8 ∷ []) sevens nines (align.Done 2 0) (1 ∷ 7 ∷ 7 ∷ []) cleared
 unfolding work_of any_none refusal_of_shortest refusal_of_lists refusal_of_labels groups refusal_along refusal_of fit_along naturals neg le eq refusal_to fit_to settle step keys key_of least_of cost_below abs_of total start_of estimates build rounded_of sum_of fold_from pairs_of of_bits of_int add sub mul div lt is_nan
 align_minus_zero = record { answer = refl; output = refl; workspace = refl }
 
 -- the others leave both states to the second end
-pub align_least_below : AlignSays (states two-three one-one ones) 1 (least-below ∷ number 8 ∷ []) sevens nines (align.Done 2 1) (3 ∷ 5 ∷ 7 ∷ []) cleared
+pub align_least_below : AlignSays (states two_three one-one ones) 1 (least-below ∷ number 8 ∷ []) sevens nines (align.Done 2 1) (3 ∷ 5 ∷ 7 ∷ []) cleared
 unfolding work_of any_none refusal_of_shortest refusal_of_lists refusal_of_labels groups refusal_along refusal_of fit_along naturals neg le eq refusal_to fit_to settle step keys key_of least_of cost_below abs_of total start_of estimates build rounded_of sum_of fold_from pairs_of of_bits of_int add sub mul div lt is_nan
 align_least_below = record { answer = refl; output = refl; workspace = refl }
 
-pub align_nan : AlignSays (states two-three one-one ones) 1 (nan ∷ number 8 ∷ []) sevens nines (align.Done 2 1) (3 ∷ 5 ∷ 7 ∷ []) cleared
+pub align_nan : AlignSays (states two_three one-one ones) 1 (nan ∷ number 8 ∷ []) sevens nines (align.Done 2 1) (3 ∷ 5 ∷ 7 ∷ []) cleared
 unfolding work_of any_none refusal_of_shortest refusal_of_lists refusal_of_labels groups refusal_along refusal_of fit_along naturals neg le eq refusal_to fit_to settle step keys key_of least_of cost_below abs_of total start_of estimates build rounded_of sum_of fold_from pairs_of of_bits of_int add sub mul div lt is_nan
 align_nan = record { answer = refl; output = refl; workspace = refl }
 
 -- ---- a group whose target is not above its count: two labels of two states each
 
 abbrev means : List Float
-means = number 2 ∷ number 3 ∷ two-three
+means = number 2 ∷ number 3 ∷ two_three
 
 abbrev varis : List Float
 varis = number 1 ∷ number 1 ∷ one-one
@@ -80,24 +80,24 @@ abbrev all-cleared : List ℕ
 all-cleared = 0 ∷ 0 ∷ cleared
 
 -- an end of 1 gives two frames all the same, and so the second group has 10 - 2
-pub end-below-count : AlignSays (states means varis four-ones) 2 (number 1 ∷ number 10 ∷ []) output workspace (align.Done 4 1) (1 ∷ 1 ∷ 3 ∷ 5 ∷ 7 ∷ []) all-cleared
+pub end_below_count : AlignSays (states means varis four-ones) 2 (number 1 ∷ number 10 ∷ []) output workspace (align.Done 4 1) (1 ∷ 1 ∷ 3 ∷ 5 ∷ 7 ∷ []) all-cleared
 unfolding work_of any_none refusal_of_shortest refusal_of_lists refusal_of_labels groups refusal_along refusal_of fit_along naturals neg le eq refusal_to fit_to settle step keys key_of least_of cost_below abs_of total start_of estimates build rounded_of sum_of fold_from pairs_of of_bits of_int add sub mul div lt is_nan
-end-below-count = record { answer = refl; output = refl; workspace = refl }
+end_below_count = record { answer = refl; output = refl; workspace = refl }
 
 -- an end of 2 is at the count
-pub end-at-count : AlignSays (states means varis four-ones) 2 (number 2 ∷ number 10 ∷ []) output workspace (align.Done 4 1) (1 ∷ 1 ∷ 3 ∷ 5 ∷ 7 ∷ []) all-cleared
+pub end_at_count : AlignSays (states means varis four-ones) 2 (number 2 ∷ number 10 ∷ []) output workspace (align.Done 4 1) (1 ∷ 1 ∷ 3 ∷ 5 ∷ 7 ∷ []) all-cleared
 unfolding work_of any_none refusal_of_shortest refusal_of_lists refusal_of_labels groups refusal_along refusal_of fit_along naturals neg le eq refusal_to fit_to settle step keys key_of least_of cost_below abs_of total start_of estimates build rounded_of sum_of fold_from pairs_of of_bits of_int add sub mul div lt is_nan
-end-at-count = record { answer = refl; output = refl; workspace = refl }
+end_at_count = record { answer = refl; output = refl; workspace = refl }
 
 -- an end of 3 is above it
-pub end-above-count : AlignSays (states means varis four-ones) 2 (number 3 ∷ number 11 ∷ []) output workspace (align.Done 4 1) (1 ∷ 2 ∷ 3 ∷ 5 ∷ 7 ∷ []) all-cleared
+pub end_above_count : AlignSays (states means varis four-ones) 2 (number 3 ∷ number 11 ∷ []) output workspace (align.Done 4 1) (1 ∷ 2 ∷ 3 ∷ 5 ∷ 7 ∷ []) all-cleared
 unfolding work_of any_none refusal_of_shortest refusal_of_lists refusal_of_labels groups refusal_along refusal_of fit_along naturals neg le eq refusal_to fit_to settle step keys key_of least_of cost_below abs_of total start_of estimates build rounded_of sum_of fold_from pairs_of of_bits of_int add sub mul div lt is_nan
-end-above-count = record { answer = refl; output = refl; workspace = refl }
+end_above_count = record { answer = refl; output = refl; workspace = refl }
 
 -- the second end is before the first: its target is -4, and so 1
-pub end-passed : AlignSays (states means varis four-ones) 2 (number 8 ∷ number 4 ∷ []) output workspace (align.Done 4 1) (3 ∷ 5 ∷ 1 ∷ 1 ∷ 7 ∷ []) all-cleared
+pub end_passed : AlignSays (states means varis four-ones) 2 (number 8 ∷ number 4 ∷ []) output workspace (align.Done 4 1) (3 ∷ 5 ∷ 1 ∷ 1 ∷ 7 ∷ []) all-cleared
 unfolding work_of any_none refusal_of_shortest refusal_of_lists refusal_of_labels groups refusal_along refusal_of fit_along naturals neg le eq refusal_to fit_to settle step keys key_of least_of cost_below abs_of total start_of estimates build rounded_of sum_of fold_from pairs_of of_bits of_int add sub mul div lt is_nan
-end-passed = record { answer = refl; output = refl; workspace = refl }
+end_passed = record { answer = refl; output = refl; workspace = refl }
 
 -- ---- no drift: four labels of one state each
 
@@ -120,7 +120,7 @@ end-rounded = (refl, refl, refl, refl)
 abbrev near_tie : Float
 near_tie = fin false (13 * 2 ^ 79 - 1) (negsuc 79)
 
-pub beyond_f64 : AlignSays (states two-three one-one ones) 1 (number 5 ∷ near_tie ∷ []) sevens nines (align.Done 2 0) (5 ∷ 2 ∷ 7 ∷ []) cleared × (end_rounded near_tie ≡ 6)
+pub beyond_f64 : AlignSays (states two_three one-one ones) 1 (number 5 ∷ near_tie ∷ []) sevens nines (align.Done 2 0) (5 ∷ 2 ∷ 7 ∷ []) cleared × (end_rounded near_tie ≡ 6)
 unfolding work_of any_none refusal_of_shortest refusal_of_lists refusal_of_labels groups refusal_along refusal_of fit_along naturals neg le eq refusal_to fit_to settle step keys key_of least_of cost_below abs_of total start_of estimates build rounded_of sum_of fold_from pairs_of of_bits of_int add sub mul div lt is_nan nearest_half
 beyond_f64 = (record { answer = refl; output = refl; workspace = refl }, refl)
 
@@ -150,7 +150,7 @@ half_down d = let r : ◌≡◌ {A = ℕ} 2 3 = (d 0 (omega arith) refl).larger 
 -- ---- the tail
 
 -- with no given end every state is natural
-pub all_open : AlignSays (states two-three one-one ones) 1 (unset ∷ nan ∷ []) sevens nines (align.Done 2 0) (2 ∷ 3 ∷ 7 ∷ []) cleared
+pub all_open : AlignSays (states two_three one-one ones) 1 (unset ∷ nan ∷ []) sevens nines (align.Done 2 0) (2 ∷ 3 ∷ 7 ∷ []) cleared
 unfolding work_of any_none refusal_of_shortest refusal_of_lists refusal_of_labels groups refusal_along refusal_of fit_along naturals neg le eq refusal_to fit_to settle step keys key_of least_of cost_below abs_of total start_of estimates build rounded_of sum_of fold_from pairs_of of_bits of_int add sub mul div lt is_nan
 all_open = record { answer = refl; output = refl; workspace = refl }
 
@@ -160,12 +160,12 @@ unfolding work_of any_none refusal_of_shortest refusal_of_lists refusal_of_label
 no_label = record { answer = refl; output = refl; workspace = refl }
 
 -- two labels of two states each: the first group is fitted, the tail is not
-pub tail-natural : AlignSays (states means varis four-ones) 2 (number 8 ∷ unset ∷ []) output workspace (align.Done 4 1) (3 ∷ 5 ∷ 2 ∷ 3 ∷ 7 ∷ []) all-cleared
+pub tail_natural : AlignSays (states means varis four-ones) 2 (number 8 ∷ unset ∷ []) output workspace (align.Done 4 1) (3 ∷ 5 ∷ 2 ∷ 3 ∷ 7 ∷ []) all-cleared
 unfolding work_of any_none refusal_of_shortest refusal_of_lists refusal_of_labels groups refusal_along refusal_of fit_along naturals neg le eq refusal_to fit_to settle step keys key_of least_of cost_below abs_of total start_of estimates build rounded_of sum_of fold_from pairs_of of_bits of_int add sub mul div lt is_nan
-tail-natural = record { answer = refl; output = refl; workspace = refl }
+tail_natural = record { answer = refl; output = refl; workspace = refl }
 
 -- its estimate is the mean plus 0 times the variance: of an infinite one that is NaN, and so 1
-pub tail_infinite : AlignSays (states two-three (number 1 ∷ inf false ∷ []) ones) 1 (number 4 ∷ unset ∷ []) sevens nines (align.Done 2 0) (4 ∷ 1 ∷ 7 ∷ []) cleared
+pub tail_infinite : AlignSays (states two_three (number 1 ∷ inf false ∷ []) ones) 1 (number 4 ∷ unset ∷ []) sevens nines (align.Done 2 0) (4 ∷ 1 ∷ 7 ∷ []) cleared
 unfolding work_of any_none refusal_of_shortest refusal_of_lists refusal_of_labels groups refusal_along refusal_of fit_along naturals neg le eq refusal_to fit_to settle step keys key_of least_of cost_below abs_of total start_of estimates build rounded_of sum_of fold_from pairs_of of_bits of_int add sub mul div lt is_nan
 tail_infinite = record { answer = refl; output = refl; workspace = refl }
 
@@ -175,33 +175,33 @@ unfolding last_from groups neg le of_bits of_int
 tail_from = refl
 
 -- at the first state where no end is given, and behind the last where the last label has one
-pub tail_from-first : last_from (groups 2 0 0 (unset ∷ unset ∷ [])) ≡ 0
+pub tail_from_first : last_from (groups 2 0 0 (unset ∷ unset ∷ [])) ≡ 0
 unfolding last_from groups neg le of_bits of_int
-tail_from-first = refl
+tail_from_first = refl
 
-pub tail_from-last : last_from (groups 2 0 0 (unset ∷ number 4 ∷ [])) ≡ 4
+pub tail_from_last : last_from (groups 2 0 0 (unset ∷ number 4 ∷ [])) ≡ 4
 unfolding last_from groups neg le of_bits of_int
-tail_from-last = refl
+tail_from_last = refl
 
 -- two states of so many frames and one
-abbrev frames-and-one : ℕ → List Float
-frames-and-one n = number n ∷ number 1 ∷ []
+abbrev frames_and_one : ℕ → List Float
+frames_and_one n = number n ∷ number 1 ∷ []
 
 -- a tail of 65,536 frames, and of one more
-pub tail-most : AlignSays (states (frames-and-one 65535) one-one ones) 2 (unset ∷ []) sevens nines (align.Done 2 0) (65535 ∷ 1 ∷ 7 ∷ []) cleared
+pub tail-most : AlignSays (states (frames_and_one 65535) one-one ones) 2 (unset ∷ []) sevens nines (align.Done 2 0) (65535 ∷ 1 ∷ 7 ∷ []) cleared
 unfolding work_of any_none refusal_of_shortest refusal_of_lists refusal_of_labels groups refusal_along refusal_of fit_along naturals neg le eq refusal_to fit_to settle step keys key_of least_of cost_below abs_of total start_of estimates build rounded_of sum_of fold_from pairs_of of_bits of_int add sub mul div lt is_nan
 tail-most = record { answer = refl; output = refl; workspace = refl }
 
-pub tail-over : AlignSays (states (frames-and-one 65536) one-one ones) 2 (unset ∷ []) sevens nines (align.Refused 8) sevens cleared
+pub tail-over : AlignSays (states (frames_and_one 65536) one-one ones) 2 (unset ∷ []) sevens nines (align.Refused 8) sevens cleared
 unfolding work_of any_none refusal_of_shortest refusal_of_lists refusal_of_labels groups refusal_along refusal_of fit_along naturals neg le eq refusal_to fit_to settle step keys key_of least_of cost_below abs_of total start_of estimates build rounded_of sum_of fold_from pairs_of of_bits of_int add sub mul div lt is_nan
 tail-over = record { answer = refl; output = refl; workspace = refl }
 
 -- the same behind a group
-pub total-most : AlignSays (states two-three one-one ones) 1 (number 65533 ∷ unset ∷ []) sevens nines (align.Done 2 0) (65533 ∷ 3 ∷ 7 ∷ []) cleared
+pub total-most : AlignSays (states two_three one-one ones) 1 (number 65533 ∷ unset ∷ []) sevens nines (align.Done 2 0) (65533 ∷ 3 ∷ 7 ∷ []) cleared
 unfolding work_of any_none refusal_of_shortest refusal_of_lists refusal_of_labels groups refusal_along refusal_of fit_along naturals neg le eq refusal_to fit_to settle step keys key_of least_of cost_below abs_of total start_of estimates build rounded_of sum_of fold_from pairs_of of_bits of_int add sub mul div lt is_nan
 total-most = record { answer = refl; output = refl; workspace = refl }
 
-pub total-over : AlignSays (states two-three one-one ones) 1 (number 65534 ∷ unset ∷ []) sevens nines (align.Refused 8) sevens cleared
+pub total-over : AlignSays (states two_three one-one ones) 1 (number 65534 ∷ unset ∷ []) sevens nines (align.Refused 8) sevens cleared
 unfolding work_of any_none refusal_of_shortest refusal_of_lists refusal_of_labels groups refusal_along refusal_of fit_along naturals neg le eq refusal_to fit_to settle step keys key_of least_of cost_below abs_of total start_of estimates build rounded_of sum_of fold_from pairs_of of_bits of_int add sub mul div lt is_nan
 total-over = record { answer = refl; output = refl; workspace = refl }
 
@@ -254,101 +254,101 @@ unfolding work_of any_none refusal_of_shortest refusal_of_lists refusal_at fit_a
 speed_estimate_first = record { answer = refl; output = refl; workspace = refl }
 
 -- at 2 ^ -14 five frames become 81,920, which are too many before they are estimated
-pub speed-target_first : SpeedSays (states two-three one-one ones) (fin false 1 (negsuc 13)) sevens nines (fit.Refused 7) sevens cleared
+pub speed_target_first : SpeedSays (states two_three one-one ones) (fin false 1 (negsuc 13)) sevens nines (fit.Refused 7) sevens cleared
 unfolding work_of any_none refusal_of_shortest refusal_of_lists refusal_at fit_at target_at naturals eq refusal_to fit_to settle step keys key_of least_of cost_below abs_of total start_of estimates build rounded_of sum_of fold_from pairs_of of_bits of_int add sub mul div lt is_nan
-speed-target_first = record { answer = refl; output = refl; workspace = refl }
+speed_target_first = record { answer = refl; output = refl; workspace = refl }
 
 -- ---- shortest durations
 
 -- estimates of 4 and 5 are above their shortest, and the first gives a frame, as in case 1
-pub shortest_stay : FitSays (states two-three one-one (3 ∷ 1 ∷ [])) (number 8) sevens nines (fit.Done 1) (3 ∷ 5 ∷ 7 ∷ []) cleared
+pub shortest_stay : FitSays (states two_three one-one (3 ∷ 1 ∷ [])) (number 8) sevens nines (fit.Done 1) (3 ∷ 5 ∷ 7 ∷ []) cleared
 unfolding work_of any_none refusal_of_shortest refusal_of_lists refusal_to fit_to settle step keys key_of least_of cost_below abs_of total start_of estimates build rounded_of sum_of fold_from pairs_of of_bits of_int add sub mul div lt is_nan
 shortest_stay = record { answer = refl; output = refl; workspace = refl }
 
 -- at its shortest it gives none, and the second does
-pub shortest-gives-nothing : FitSays (states two-three one-one (4 ∷ 1 ∷ [])) (number 8) sevens nines (fit.Done 1) (4 ∷ 4 ∷ 7 ∷ []) cleared
+pub shortest_gives_nothing : FitSays (states two_three one-one (4 ∷ 1 ∷ [])) (number 8) sevens nines (fit.Done 1) (4 ∷ 4 ∷ 7 ∷ []) cleared
 unfolding work_of any_none refusal_of_shortest refusal_of_lists refusal_to fit_to settle step keys key_of least_of cost_below abs_of total start_of estimates build rounded_of sum_of fold_from pairs_of of_bits of_int add sub mul div lt is_nan
-shortest-gives-nothing = record { answer = refl; output = refl; workspace = refl }
+shortest_gives_nothing = record { answer = refl; output = refl; workspace = refl }
 
 -- a target one below the sum of the shortest, at it, and one above it, where the first is estimated 3 for 2, and so the second gives one of its 3 frames
-pub target-below-shortest : FitSays (states two-three one-one (3 ∷ 1 ∷ [])) (number 3) sevens nines (fit.Done 0) (3 ∷ 1 ∷ 7 ∷ []) cleared
+pub target_below_shortest : FitSays (states two_three one-one (3 ∷ 1 ∷ [])) (number 3) sevens nines (fit.Done 0) (3 ∷ 1 ∷ 7 ∷ []) cleared
 unfolding work_of any_none refusal_of_shortest refusal_of_lists refusal_to fit_to settle step keys key_of least_of cost_below abs_of total start_of estimates build rounded_of sum_of fold_from pairs_of of_bits of_int add sub mul div lt is_nan
-target-below-shortest = record { answer = refl; output = refl; workspace = refl }
+target_below_shortest = record { answer = refl; output = refl; workspace = refl }
 
-pub target_at-shortest : FitSays (states two-three one-one (3 ∷ 1 ∷ [])) (number 4) sevens nines (fit.Done 0) (3 ∷ 1 ∷ 7 ∷ []) cleared
+pub target_at_shortest : FitSays (states two_three one-one (3 ∷ 1 ∷ [])) (number 4) sevens nines (fit.Done 0) (3 ∷ 1 ∷ 7 ∷ []) cleared
 unfolding work_of any_none refusal_of_shortest refusal_of_lists refusal_to fit_to settle step keys key_of least_of cost_below abs_of total start_of estimates build rounded_of sum_of fold_from pairs_of of_bits of_int add sub mul div lt is_nan
-target_at-shortest = record { answer = refl; output = refl; workspace = refl }
+target_at_shortest = record { answer = refl; output = refl; workspace = refl }
 
-pub target-above-shortest : FitSays (states two-three one-one (3 ∷ 1 ∷ [])) (number 5) sevens nines (fit.Done 1) (3 ∷ 2 ∷ 7 ∷ []) cleared
+pub target_above_shortest : FitSays (states two_three one-one (3 ∷ 1 ∷ [])) (number 5) sevens nines (fit.Done 1) (3 ∷ 2 ∷ 7 ∷ []) cleared
 unfolding work_of any_none refusal_of_shortest refusal_of_lists refusal_to fit_to settle step keys key_of least_of cost_below abs_of total start_of estimates build rounded_of sum_of fold_from pairs_of of_bits of_int add sub mul div lt is_nan
-target-above-shortest = record { answer = refl; output = refl; workspace = refl }
+target_above_shortest = record { answer = refl; output = refl; workspace = refl }
 
 -- natural durations are estimates too: 4 for 2; at half the speed their 7 frames become 14, where 2 and 3 become 10
-pub speed_raised : SpeedSays (states two-three one-one (4 ∷ 1 ∷ [])) (number 1) sevens nines (fit.Done 0) (4 ∷ 3 ∷ 7 ∷ []) cleared
+pub speed_raised : SpeedSays (states two_three one-one (4 ∷ 1 ∷ [])) (number 1) sevens nines (fit.Done 0) (4 ∷ 3 ∷ 7 ∷ []) cleared
 unfolding work_of any_none refusal_of_shortest refusal_of_lists refusal_at fit_at target_at naturals eq refusal_to fit_to settle step keys key_of least_of cost_below abs_of total start_of estimates build rounded_of sum_of fold_from pairs_of of_bits of_int add sub mul div lt is_nan
 speed_raised = record { answer = refl; output = refl; workspace = refl }
 
-pub speed_raised_half : SpeedSays (states two-three one-one (4 ∷ 1 ∷ [])) (halves 1) sevens nines (fit.Done 1) (6 ∷ 8 ∷ 7 ∷ []) cleared
+pub speed_raised_half : SpeedSays (states two_three one-one (4 ∷ 1 ∷ [])) (halves 1) sevens nines (fit.Done 1) (6 ∷ 8 ∷ 7 ∷ []) cleared
 unfolding work_of any_none refusal_of_shortest refusal_of_lists refusal_at fit_at target_at naturals eq refusal_to fit_to settle step keys key_of least_of cost_below abs_of total start_of estimates build rounded_of sum_of fold_from pairs_of of_bits of_int add sub mul div lt is_nan
 speed_raised_half = record { answer = refl; output = refl; workspace = refl }
 
 -- at speed 2 their 5 become 3, below the sum of the shortest
-pub speed-below-shortest : SpeedSays (states two-three one-one (2 ∷ 2 ∷ [])) (number 2) sevens nines (fit.Done 0) (2 ∷ 2 ∷ 7 ∷ []) cleared
+pub speed_below_shortest : SpeedSays (states two_three one-one (2 ∷ 2 ∷ [])) (number 2) sevens nines (fit.Done 0) (2 ∷ 2 ∷ 7 ∷ []) cleared
 unfolding work_of any_none refusal_of_shortest refusal_of_lists refusal_at fit_at target_at naturals eq refusal_to fit_to settle step keys key_of least_of cost_below abs_of total start_of estimates build rounded_of sum_of fold_from pairs_of of_bits of_int add sub mul div lt is_nan
-speed-below-shortest = record { answer = refl; output = refl; workspace = refl }
+speed_below_shortest = record { answer = refl; output = refl; workspace = refl }
 
 -- ---- shortest durations that are refused
 
 -- one of 0, the last one too; a sum of 65,537, and one of 65,536, which is taken
-pub shortest-none : FitSays (states two-three one-one (0 ∷ 1 ∷ [])) (number 8) sevens nines (fit.Refused 15) sevens nines
+pub shortest_none : FitSays (states two_three one-one (0 ∷ 1 ∷ [])) (number 8) sevens nines (fit.Refused 15) sevens nines
 unfolding work_of any_none refusal_of_shortest refusal_of_lists refusal_to fit_to settle step keys key_of least_of cost_below abs_of total start_of estimates build rounded_of sum_of fold_from pairs_of of_bits of_int add sub mul div lt is_nan
-shortest-none = record { answer = refl; output = refl; workspace = refl }
+shortest_none = record { answer = refl; output = refl; workspace = refl }
 
-pub shortest-none-last : FitSays (states two-three one-one (1 ∷ 0 ∷ [])) (number 8) sevens nines (fit.Refused 15) sevens nines
+pub shortest_none_last : FitSays (states two_three one-one (1 ∷ 0 ∷ [])) (number 8) sevens nines (fit.Refused 15) sevens nines
 unfolding work_of any_none refusal_of_shortest refusal_of_lists refusal_to fit_to settle step keys key_of least_of cost_below abs_of total start_of estimates build rounded_of sum_of fold_from pairs_of of_bits of_int add sub mul div lt is_nan
-shortest-none-last = record { answer = refl; output = refl; workspace = refl }
+shortest_none_last = record { answer = refl; output = refl; workspace = refl }
 
-pub shortest-over : FitSays (states two-three one-one (65536 ∷ 1 ∷ [])) (number 8) sevens nines (fit.Refused 15) sevens nines
+pub shortest_over : FitSays (states two_three one-one (65536 ∷ 1 ∷ [])) (number 8) sevens nines (fit.Refused 15) sevens nines
 unfolding work_of any_none refusal_of_shortest refusal_of_lists refusal_to fit_to settle step keys key_of least_of cost_below abs_of total start_of estimates build rounded_of sum_of fold_from pairs_of of_bits of_int add sub mul div lt is_nan
-shortest-over = record { answer = refl; output = refl; workspace = refl }
+shortest_over = record { answer = refl; output = refl; workspace = refl }
 
-pub shortest-most : FitSays (states two-three one-one (65535 ∷ 1 ∷ [])) (number 8) sevens nines (fit.Done 0) (65535 ∷ 1 ∷ 7 ∷ []) cleared
+pub shortest_most : FitSays (states two_three one-one (65535 ∷ 1 ∷ [])) (number 8) sevens nines (fit.Done 0) (65535 ∷ 1 ∷ 7 ∷ []) cleared
 unfolding work_of any_none refusal_of_shortest refusal_of_lists refusal_to fit_to settle step keys key_of least_of cost_below abs_of total start_of estimates build rounded_of sum_of fold_from pairs_of of_bits of_int add sub mul div lt is_nan
-shortest-most = record { answer = refl; output = refl; workspace = refl }
+shortest_most = record { answer = refl; output = refl; workspace = refl }
 
 -- 15 comes before 7, and so the work space is as it was; before 8 of a first estimate; and before both of an alignment
-pub shortest-before-target : FitSays (states two-three one-one (0 ∷ 1 ∷ [])) (halves 131073) sevens nines (fit.Refused 15) sevens nines
+pub shortest_before_target : FitSays (states two_three one-one (0 ∷ 1 ∷ [])) (halves 131073) sevens nines (fit.Refused 15) sevens nines
 unfolding work_of any_none refusal_of_shortest refusal_of_lists refusal_to fit_to settle step keys key_of least_of cost_below abs_of total start_of estimates build rounded_of sum_of fold_from pairs_of of_bits of_int add sub mul div lt is_nan
-shortest-before-target = record { answer = refl; output = refl; workspace = refl }
+shortest_before_target = record { answer = refl; output = refl; workspace = refl }
 
 pub shortest_before_estimate : SpeedSays (states long one-one (0 ∷ 1 ∷ [])) (number 1) sevens nines (fit.Refused 15) sevens nines
 unfolding work_of any_none refusal_of_shortest refusal_of_lists refusal_at fit_at target_at naturals eq refusal_to fit_to settle step keys key_of least_of cost_below abs_of total start_of estimates build rounded_of sum_of fold_from pairs_of of_bits of_int add sub mul div lt is_nan
 shortest_before_estimate = record { answer = refl; output = refl; workspace = refl }
 
-pub shortest-before-ends : AlignSays (states two-three one-one (1 ∷ 0 ∷ [])) 1 (inf false ∷ number 65536 ∷ []) sevens nines (align.Refused 15) sevens nines
+pub shortest_before_ends : AlignSays (states two_three one-one (1 ∷ 0 ∷ [])) 1 (inf false ∷ number 65536 ∷ []) sevens nines (align.Refused 15) sevens nines
 unfolding work_of any_none refusal_of_shortest refusal_of_lists refusal_of_labels groups refusal_along refusal_of fit_along naturals neg le eq refusal_to fit_to settle step keys key_of least_of cost_below abs_of total start_of estimates build rounded_of sum_of fold_from pairs_of of_bits of_int add sub mul div lt is_nan
-shortest-before-ends = record { answer = refl; output = refl; workspace = refl }
+shortest_before_ends = record { answer = refl; output = refl; workspace = refl }
 
 -- and after 6, for the output and for the work space, after 4, for a shortest too few and for a variance too few, and after 3, for labels of no state
-pub room-before-shortest : FitSays (states two-three one-one (0 ∷ 1 ∷ [])) (number 8) (7 ∷ []) nines (fit.Refused 6) (7 ∷ []) nines
+pub room_before_shortest : FitSays (states two_three one-one (0 ∷ 1 ∷ [])) (number 8) (7 ∷ []) nines (fit.Refused 6) (7 ∷ []) nines
 unfolding work_of any_none refusal_of_shortest refusal_of_lists refusal_to fit_to settle step keys key_of least_of cost_below abs_of total start_of estimates build rounded_of sum_of fold_from pairs_of of_bits of_int add sub mul div lt is_nan
-room-before-shortest = record { answer = refl; output = refl; workspace = refl }
+room_before_shortest = record { answer = refl; output = refl; workspace = refl }
 
-pub work-before-shortest : FitSays (states two-three one-one (0 ∷ 1 ∷ [])) (number 8) sevens (9 ∷ []) (fit.Refused 6) sevens (9 ∷ [])
+pub work_before_shortest : FitSays (states two_three one-one (0 ∷ 1 ∷ [])) (number 8) sevens (9 ∷ []) (fit.Refused 6) sevens (9 ∷ [])
 unfolding work_of any_none refusal_of_shortest refusal_of_lists refusal_to fit_to settle step keys key_of least_of cost_below abs_of total start_of estimates build rounded_of sum_of fold_from pairs_of of_bits of_int add sub mul div lt is_nan
-work-before-shortest = record { answer = refl; output = refl; workspace = refl }
+work_before_shortest = record { answer = refl; output = refl; workspace = refl }
 
-pub count-before-shortest : FitSays (states two-three one-one (0 ∷ [])) (number 8) sevens nines (fit.Refused 4) sevens nines
+pub count_before_shortest : FitSays (states two_three one-one (0 ∷ [])) (number 8) sevens nines (fit.Refused 4) sevens nines
 unfolding work_of any_none refusal_of_shortest refusal_of_lists refusal_to fit_to settle step keys key_of least_of cost_below abs_of total start_of estimates build rounded_of sum_of fold_from pairs_of of_bits of_int add sub mul div lt is_nan
-count-before-shortest = record { answer = refl; output = refl; workspace = refl }
+count_before_shortest = record { answer = refl; output = refl; workspace = refl }
 
-pub varis-before-shortest : FitSays (states two-three (number 1 ∷ []) (0 ∷ 1 ∷ [])) (number 8) sevens nines (fit.Refused 4) sevens nines
+pub varis_before_shortest : FitSays (states two_three (number 1 ∷ []) (0 ∷ 1 ∷ [])) (number 8) sevens nines (fit.Refused 4) sevens nines
 unfolding work_of any_none refusal_of_shortest refusal_of_lists refusal_to fit_to settle step keys key_of least_of cost_below abs_of total start_of estimates build rounded_of sum_of fold_from pairs_of of_bits of_int add sub mul div lt is_nan
-varis-before-shortest = record { answer = refl; output = refl; workspace = refl }
+varis_before_shortest = record { answer = refl; output = refl; workspace = refl }
 
-pub width-before-shortest : AlignSays (states two-three one-one (0 ∷ 1 ∷ [])) 0 (number 8 ∷ []) sevens nines (align.Refused 3) sevens nines
+pub width_before_shortest : AlignSays (states two_three one-one (0 ∷ 1 ∷ [])) 0 (number 8 ∷ []) sevens nines (align.Refused 3) sevens nines
 unfolding work_of any_none refusal_of_shortest refusal_of_lists refusal_of_labels groups refusal_along refusal_of fit_along naturals neg le eq refusal_to fit_to settle step keys key_of least_of cost_below abs_of total start_of estimates build rounded_of sum_of fold_from pairs_of of_bits of_int add sub mul div lt is_nan
-width-before-shortest = record { answer = refl; output = refl; workspace = refl }
+width_before_shortest = record { answer = refl; output = refl; workspace = refl }
 
 -- ---- shortest durations along ends
 
@@ -358,21 +358,21 @@ unfolding work_of any_none refusal_of_shortest refusal_of_lists refusal_of_label
 late_by_shortest = record { answer = refl; output = refl; workspace = refl }
 
 -- a tail is estimated too: 5 for 3
-pub tail_raised : AlignSays (states two-three one-one (1 ∷ 5 ∷ [])) 1 (number 4 ∷ unset ∷ []) sevens nines (align.Done 2 0) (4 ∷ 5 ∷ 7 ∷ []) cleared
+pub tail_raised : AlignSays (states two_three one-one (1 ∷ 5 ∷ [])) 1 (number 4 ∷ unset ∷ []) sevens nines (align.Done 2 0) (4 ∷ 5 ∷ 7 ∷ []) cleared
 unfolding work_of any_none refusal_of_shortest refusal_of_lists refusal_of_labels groups refusal_along refusal_of fit_along naturals neg le eq refusal_to fit_to settle step keys key_of least_of cost_below abs_of total start_of estimates build rounded_of sum_of fold_from pairs_of of_bits of_int add sub mul div lt is_nan
 tail_raised = record { answer = refl; output = refl; workspace = refl }
 
 -- and is refused with the group before it where both are too long; so is a group whose end gives it less than its shortest
-pub tail_raised_over : AlignSays (states two-three one-one (1 ∷ 30000 ∷ [])) 1 (number 40000 ∷ unset ∷ []) sevens nines (align.Refused 8) sevens cleared
+pub tail_raised_over : AlignSays (states two_three one-one (1 ∷ 30000 ∷ [])) 1 (number 40000 ∷ unset ∷ []) sevens nines (align.Refused 8) sevens cleared
 unfolding work_of any_none refusal_of_shortest refusal_of_lists refusal_of_labels groups refusal_along refusal_of fit_along naturals neg le eq refusal_to fit_to settle step keys key_of least_of cost_below abs_of total start_of estimates build rounded_of sum_of fold_from pairs_of of_bits of_int add sub mul div lt is_nan
 tail_raised_over = record { answer = refl; output = refl; workspace = refl }
 
-pub total_by_shortest : AlignSays (states two-three one-one (30000 ∷ 30000 ∷ [])) 1 (number 40000 ∷ number 50000 ∷ []) sevens nines (align.Refused 8) sevens cleared
+pub total_by_shortest : AlignSays (states two_three one-one (30000 ∷ 30000 ∷ [])) 1 (number 40000 ∷ number 50000 ∷ []) sevens nines (align.Refused 8) sevens cleared
 unfolding work_of any_none refusal_of_shortest refusal_of_lists refusal_of_labels groups refusal_along refusal_of fit_along naturals neg le eq refusal_to fit_to settle step keys key_of least_of cost_below abs_of total start_of estimates build rounded_of sum_of fold_from pairs_of of_bits of_int add sub mul div lt is_nan
 total_by_shortest = record { answer = refl; output = refl; workspace = refl }
 
 -- each group's shortest are within 65,536 frames, but not those of all states
-pub shortest_of_all_groups : AlignSays (states two-three one-one (40000 ∷ 40000 ∷ [])) 1 (number 4 ∷ number 8 ∷ []) sevens nines (align.Refused 15) sevens nines
+pub shortest_of_all_groups : AlignSays (states two_three one-one (40000 ∷ 40000 ∷ [])) 1 (number 4 ∷ number 8 ∷ []) sevens nines (align.Refused 15) sevens nines
 unfolding work_of any_none refusal_of_shortest refusal_of_lists refusal_of_labels groups refusal_along refusal_of fit_along naturals neg le eq refusal_to fit_to settle step keys key_of least_of cost_below abs_of total start_of estimates build rounded_of sum_of fold_from pairs_of of_bits of_int add sub mul div lt is_nan
 shortest_of_all_groups = record { answer = refl; output = refl; workspace = refl }
 

@@ -4,8 +4,8 @@ use Rattle.std.specs.Float.{fin}
 use Rattle.std.specs.Float.Ieee.{neg}
 use Rattle.floats.specs.Numbers.{number}
 
-abbrev pub two-three : List Float
-two-three = number 2 ∷ number 3 ∷ []
+abbrev pub two_three : List Float
+two_three = number 2 ∷ number 3 ∷ []
 
 abbrev pub one-one : List Float
 one-one = number 1 ∷ number 1 ∷ []

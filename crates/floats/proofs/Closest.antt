@@ -12,7 +12,7 @@ use lib.Ieee.{Float, nan, inf, fin, binary64, up, down, fits}
 use lib.Ieee.Fits.{down_pos}
 use lib.Ieee.Exact.{HasValue}
 use lib.Ieee.Positive.{positive}
-use Rattle.lists.proofs.Numbers.{le-or-lt}
+use Rattle.lists.proofs.Numbers.{le_or_lt}
 use Rattle.lists.proofs.Rows.{row_fits}
 use Rattle.floats.specs.Root.{Closest, sqrt_of}
 use Rattle.floats.proofs.Format.{in_format, few-places}
@@ -108,8 +108,8 @@ module _ (n q a : ℕ) (full : 2 ^ 52 ≤ q) (wide : 2 ^ 104 ≤ n) (below : (2 
       stays n (2 * q - 1) u (l + q * u) (pow_pos (suc a)) below (omega arith)
 
   -- or half a unit, where q is the least number of 53 digits, and then the root is not below it
-  half-under : (l : ℕ) → q ≡ 2 ^ 52 → l + h ≤ 2 ^ 53 * h → (l + q * u) * (l + q * u) < 4 * (n * (u * u))
-  half-under l e g =
+  half_under : (l : ℕ) → q ≡ 2 ^ 52 → l + h ≤ 2 ^ 53 * h → (l + q * u) * (l + q * u) < 4 * (n * (u * u))
+  half_under l e g =
       let r : q * u ≡ 2 ^ 53 * h = ap (λ (z : ℕ). z * u) e ∙ ap (λ (z : ℕ). 2 ^ 52 * z) two ∙ sym (mul_assoc (2 ^ 52) 2 h) in
       let t : 2 ^ 54 * h ≡ (2 ^ 54 - 1) * h + h = suc-mul (2 ^ 54 - 1) h in
       let f : 4 * (4 * n * (h * h)) ≡ 4 * (n * (u * u)) = ap (λ (z : ℕ). 4 * z) (spread-four n h ∙ ap (λ (z : ℕ). n * (z * z)) (sym two)) in
@@ -129,10 +129,10 @@ module _ (n q a : ℕ) (full : 2 ^ 52 ≤ q) (wide : 2 ^ 104 ≤ n) (below : (2 
   least_under l d k g =
       let e : q ≡ 2 ^ 52 = le_antisymm k full in
       let r : q * u ≡ 2 ^ 53 * h = ap (λ (z : ℕ). z * u) e ∙ ap (λ (z : ℕ). 2 ^ 52 * z) two ∙ sym (mul_assoc (2 ^ 52) 2 h) in
-      half-under l e (⊎_elim
+      half_under l e (⊎_elim
       (λ (j : 2 ^ 52 * h ≤ l). multiple_under a l (2 ^ 53) d j (subst (λ (z : ℕ). l < z) r g))
       (λ (j : l < 2 ^ 52 * h). omega arith)
-      (le-or-lt (2 ^ 52 * h) l))
+      (le_or_lt (2 ^ 52 * h) l))
 
   pub nearer : (l : ℕ) → Digits l → l < q * u → (l + q * u) * (l + q * u) < 4 * (n * (u * u))
   nearer l d g = ⊎_elim
@@ -140,8 +140,8 @@ module _ (n q a : ℕ) (full : 2 ^ 52 ≤ q) (wide : 2 ^ 104 ≤ n) (below : (2 
       (λ (j : l < 2 ^ 52 * u). ⊎_elim
       (λ (k : q ≤ 2 ^ 52). least_under l d k g)
       (λ (k : 2 ^ 52 < q). unit_under l (omega (arith, row_fits u (2 ^ 52) q k)))
-      (le-or-lt q (2 ^ 52)))
-      (le-or-lt (2 ^ 52 * u) l)
+      (le_or_lt q (2 ^ 52)))
+      (le_or_lt (2 ^ 52 * u) l)
 
 -- ---- the claim
 
@@ -150,13 +150,13 @@ closest x F P =
     let c = claim x F P in
     let a : ℕ = c.w + 484 in
     let U : ℕ = 2 ^ suc a in
-    let k-is : c.q * 2 ^ c.w * 2 ^ 485 ≡ c.q * U = mul_assoc c.q (2 ^ c.w) (2 ^ 485) ∙ ap (λ (z : ℕ). c.q * z) (sym (pow-add 2 c.w 485) ∙ ap (λ (z : ℕ). 2 ^ z) (up_to c.w)) in
-    let j-is : c.n * 2 ^ (2 * c.w) * 2 ^ 970 ≡ c.n * (U * U) = mul_assoc c.n (2 ^ (2 * c.w)) (2 ^ 970) ∙ ap (λ (z : ℕ). c.n * z) (sym (pow-add 2 (2 * c.w) 970) ∙ ap (λ (z : ℕ). 2 ^ z) (twice-up_to c.w) ∙ pow-add 2 (suc a) (suc a)) in
+    let k_is : c.q * 2 ^ c.w * 2 ^ 485 ≡ c.q * U = mul_assoc c.q (2 ^ c.w) (2 ^ 485) ∙ ap (λ (z : ℕ). c.q * z) (sym (pow-add 2 c.w 485) ∙ ap (λ (z : ℕ). 2 ^ z) (up_to c.w)) in
+    let j-is : c.n * 2 ^ (2 * c.w) * 2 ^ 970 ≡ c.n * (U * U) = mul_assoc c.n (2 ^ (2 * c.w)) (2 ^ 970) ∙ ap (λ (z : ℕ). c.n * z) (sym (pow-add 2 (2 * c.w) 970) ∙ ap (λ (z : ℕ). 2 ^ z) (twice_up_to c.w) ∙ pow-add 2 (suc a) (suc a)) in
     record {
       j = c.n * (U * U);
       k = c.q * U;
       value = subst (λ (z : ℕ). HasValue x false z (2 ^ 2148)) j-is (subst (λ (z : ℕ). HasValue x false (c.n * 2 ^ (2 * c.w) * 2 ^ 970) z) (sym (pow-add 2 1178 970)) (value-times x false (c.n * 2 ^ (2 * c.w)) (2 ^ 1178) (2 ^ 970) c.value));
-      root = subst (λ (z : ℕ). HasValue (sqrt_of x) false z (2 ^ 1074)) k-is (subst (λ (z : ℕ). HasValue (sqrt_of x) false (c.q * 2 ^ c.w * 2 ^ 485) z) (sym (pow-add 2 589 485)) (value-times (sqrt_of x) false (c.q * 2 ^ c.w) (2 ^ 589) (2 ^ 485) c.root));
+      root = subst (λ (z : ℕ). HasValue (sqrt_of x) false z (2 ^ 1074)) k_is (subst (λ (z : ℕ). HasValue (sqrt_of x) false (c.q * 2 ^ c.w * 2 ^ 485) z) (sym (pow-add 2 589 485)) (value-times (sqrt_of x) false (c.q * 2 ^ c.w) (2 ^ 589) (2 ^ 485) c.root));
       under = λ y l G h g. nearer c.n c.q a c.full c.wide c.under c.over l (digits_of y l G h) g;
       over = λ y l G h g. farther c.n c.q a c.full c.wide c.under c.over l (digits_of y l G h) g;
     }
@@ -164,5 +164,5 @@ closest x F P =
     up_to : (w : ℕ) → w + 485 ≡ suc (w + 484)
     up_to w = omega arith
 
-    twice-up_to : (w : ℕ) → 2 * w + 970 ≡ suc (w + 484) + suc (w + 484)
-    twice-up_to w = omega arith
+    twice_up_to : (w : ℕ) → 2 * w + 970 ≡ suc (w + 484) + suc (w + 484)
+    twice_up_to w = omega arith

@@ -19,9 +19,9 @@ cross a b c d e =
     omega arith
 
 -- equal fractions round to the same number
-pub half-same : (a b c d : ℕ) → 0 < b → 0 < d → a * d ≡ c * b → nearest_half a b ≡ nearest_half c d
+pub half_same : (a b c d : ℕ) → 0 < b → 0 < d → a * d ≡ c * b → nearest_half a b ≡ nearest_half c d
 unfolding nearest_half
-half-same a b c d B D e = div_same (2 * a + b) (2 * b) (2 * c + d) (2 * d) (mul-pos two_pos B) (mul-pos two_pos D) (cross a b c d e)
+half_same a b c d B D e = div_same (2 * a + b) (2 * b) (2 * c + d) (2 * d) (mul-pos two_pos B) (mul-pos two_pos D) (cross a b c d e)
 
 -- so many halves and one more fit 64 bits
 pub one_more-fits : (n k : ℕ) → n < 2 ^ 54 → n / k + 1 < 2 ^ 64
@@ -50,9 +50,9 @@ half-less a c k C h =
     omega arith
 
 -- up to n it is at most n
-pub half-few : (n a c : ℕ) → 0 < c → a ≤ n * c → nearest_half a c ≤ n
+pub half_few : (n a c : ℕ) → 0 < c → a ≤ n * c → nearest_half a c ≤ n
 unfolding nearest_half
-half-few n a c C h =
+half_few n a c C h =
     let t : suc n * (2 * c) ≡ 2 * (n * c) + 2 * c = suc-mul n (2 * c) ∙ ap (λ (z : ℕ). z + 2 * c) (mul_left_comm n 2 c) in
     le_of_suc-le-suc ((div-lt_iff_lt-mul (mul-pos two_pos C)).1 (let q : 2 * a + c < suc n * (2 * c) = omega arith in q))
 
@@ -71,7 +71,7 @@ half-short d k h =
     let m : 2 * c * 2 ^ k ≡ 2 ^ 46 = mul_assoc 2 c (2 ^ k) ∙ ap (λ (z : ℕ). 2 * z) l in
     let q : 2 ^ k * (64 * c) ≡ 64 * 2 ^ 45 = mul_left_comm (2 ^ k) 64 c ∙ ap (λ (z : ℕ). 64 * z) (mul_comm (2 ^ k) c ∙ l) in
     let w : d * 2 ^ k * (2 * (64 * c)) ≡ d * 2 ^ 52 = mul_assoc d (2 ^ k) (2 * (64 * c)) ∙ ap (λ (z : ℕ). d * z) (mul_left_comm (2 ^ k) 2 (64 * c) ∙ ap (λ (z : ℕ). 2 * z) q) in
-    half-same (d * 2 ^ k) (2 ^ 52) d (2 * (64 * c)) (pow_pos 52) (mul-pos two_pos (mul-pos (pow_pos 6) (pow_pos n))) w
+    half_same (d * 2 ^ k) (2 ^ 52) d (2 * (64 * c)) (pow_pos 52) (mul-pos two_pos (mul-pos (pow_pos 6) (pow_pos n))) w
     ∙ half-cut d (64 * c)
     ∙ ap (λ (z : ℕ). (d + 64 * c) / z) (mul_left_comm 2 64 c)
     ∙ sym (div-div-eq-div-mul (d + 64 * c) 64 (2 * c))

@@ -16,12 +16,12 @@ use lib.Ieee.Back.{round_whole}
 use lib.Ieee.Order.{round_mono}
 use lib.Ieee.Positive.{num, den, positive, positive_of_value, values_of_le, above, above_of_le}
 use lib.Ieee.Scale.{finite}
-use Rattle.lists.proofs.Numbers.{le-or-lt}
+use Rattle.lists.proofs.Numbers.{le_or_lt}
 use Rattle.floats.specs.Rounding.{nearest_half, rounded_of, to_integral, frames_of}
 use Rattle.floats.specs.Numbers.{nought}
 use Rattle.floats.proofs.Below.{round-below}
 use Rattle.floats.proofs.Differences.{opened, scaled, sub-whole, exact-less}
-use Rattle.floats.proofs.Halves.{half-large, half-less, half-few, frames, frames-few, frames-many}
+use Rattle.floats.proofs.Halves.{half-large, half-less, half_few, frames, frames-few, frames-many}
 use Rattle.floats.proofs.Whole.{value-rounded}
 
 -- ---- x below zero, or -0, and x below k: 1
@@ -97,18 +97,18 @@ signed-zero m e h =
     sym (mul-one (m * up e)) ∙ sym (eqb→eq (0 * 1 * down e) (m * up e * 1) (and_l (eqb (0 * 1 * down e) (m * up e * 1)) (eqb (0 * 1 * down e) 0) (subst T (sym h) tt))) ∙ zero-mul (down e)
 
 negative_none : (m : ℕ) (e : ℤ) → le nought (fin true m e) ≡ true → nearest_half (m * up e) (down e) ≤ 0
-negative_none m e g = half-few 0 (m * up e) (down e) (down_pos e) (le_trans (le_of_eq (signed-zero m e g)) zero-le)
+negative_none m e g = half_few 0 (m * up e) (down e) (down_pos e) (le_trans (le_of_eq (signed-zero m e g)) zero-le)
 
 pub rounded-less : (x y : Float) (k : ℕ) → T (fits binary64 x) → T (finite x) → le nought x ≡ true → HasValue y false k 1 → k ≤ 65536 → rounded_of (sub binary64 x y) ≡ frames (nearest_half (num x) (den x) - k)
 rounded-less nan y k F f g v h = absurd f
 rounded-less (inf s) y k F f g v h = absurd f
 rounded-less (fin true m e) y k F f g v h =
     from_negative m e y k v ∙ sym (none_left (nearest_half (m * up e) (down e) - k) (omega (arith, negative_none m e g)))
-rounded-less (fin false m e) y k F f g v h = whole_of (le-or-lt (k * down e) (m * up e)) (le-or-lt (2 ^ 53 * down e) (m * up e))
+rounded-less (fin false m e) y k F f g v h = whole_of (le_or_lt (k * down e) (m * up e)) (le_or_lt (2 ^ 53 * down e) (m * up e))
   where
     whole_of : (k * down e ≤ m * up e) ⊎ (m * up e < k * down e) → (2 ^ 53 * down e ≤ m * up e) ⊎ (m * up e < 2 ^ 53 * down e) → rounded_of (sub binary64 (fin false m e) y) ≡ frames (nearest_half (m * up e) (down e) - k)
     whole_of (inr l) r =
-        let z : nearest_half (m * up e) (down e) ≤ k = half-few k (m * up e) (down e) (down_pos e) (le_of_lt l) in
+        let z : nearest_half (m * up e) (down e) ≤ k = half_few k (m * up e) (down e) (down_pos e) (le_of_lt l) in
         from-below m e y k v l ∙ sym (none_left (nearest_half (m * up e) (down e) - k) (omega arith))
     whole_of (inl l) (inl r) =
         let z : 2 ^ 53 ≤ nearest_half (m * up e) (down e) = half-large (2 ^ 53) (m * up e) (down e) (down_pos e) r in

@@ -14,7 +14,7 @@ use lib.Ieee.Exact.{HasValue, odd_sign}
 use lib.Ieee.Positive.{positive, above, above_of_le, between, values_of_le}
 use Rattle.floats.specs.Numbers.{one}
 use Rattle.floats.specs.Rounding.{rounded_of, to_integral, frames_of, nearest_half}
-use Rattle.floats.proofs.Halves.{half-same, half-large, half-few, frames, frames-few, frames-many, frames-some}
+use Rattle.floats.proofs.Halves.{half_same, half-large, half_few, frames, frames-few, frames-many, frames-some}
 use Rattle.floats.proofs.Below.{nan-one, endless-below, rounded-below}
 use Rattle.floats.proofs.Fields.{sign_clear, normal_is}
 use Rattle.floats.proofs.Ordered.{bits_mono}
@@ -26,7 +26,7 @@ unfolding rounded_of to_integral
 value-rounded nan a c C h = absurd h
 value-rounded (inf s) a c C h = absurd h
 value-rounded (fin true m e) a c C h = absurd (true≢false h.0)
-value-rounded (fin false m e) a c C h = ap frames (half-same (m * up e) (down e) a c (down_pos e) C h.1)
+value-rounded (fin false m e) a c C h = ap frames (half_same (m * up e) (down e) a c (down_pos e) C h.1)
 
 -- ---- the ends of the range whose counts differ: 1 and 65,537
 abbrev most : Float
@@ -57,7 +57,7 @@ small (inf false) h = absurd (true≢false h)
 small (fin true m e) h = rounded-below m e
 small (fin false m e) h =
     value-rounded (fin false m e) (m * up e) (down e) (down_pos e) (refl, refl)
-    ∙ frames-few (nearest_half (m * up e) (down e)) (half-few 1 (m * up e) (down e) (down_pos e) (omega (arith, ltb-false (1 * down e) (m * up e * 1) h)))
+    ∙ frames-few (nearest_half (m * up e) (down e)) (half_few 1 (m * up e) (down e) (down_pos e) (omega (arith, ltb-false (1 * down e) (m * up e * 1) h)))
 
 pub when_small : (x : Float) → lt one x ≡ false → rounded_of one ≡ rounded_of x
 unfolding lt of_bits
@@ -110,19 +110,19 @@ module _ (x : Float) (F : T (fits binary64 x)) (from : T (le one x)) (to : T (le
   inside : T (positive x)
   inside = between one x most one-positive most-positive from to
 
-  pub no_nan-inside : T (not (is_nan x))
-  no_nan-inside = positive-number x inside
+  pub no_nan_inside : T (not (is_nan x))
+  no_nan_inside = positive-number x inside
 
-  pub field-from : 1023 ≤ b / 2 ^ 52
+  pub field_from : 1023 ≤ b / 2 ^ 52
   unfolding to_bits of_bits fits
-  field-from = low b (bits_mono one x tt F one-positive inside from)
+  field_from = low b (bits_mono one x tt F one-positive inside from)
     where
       low : (n : ℕ) → 0x3ff0_0000_0000_0000 ≤ n → 1023 ≤ n / 2 ^ 52
       low n k = omega arith
 
-  pub field-to : b / 2 ^ 52 ≤ 1039
+  pub field_to : b / 2 ^ 52 ≤ 1039
   unfolding to_bits of_bits fits
-  field-to = high b (bits_mono x most F tt inside most-positive to)
+  field_to = high b (bits_mono x most F tt inside most-positive to)
     where
       high : (n : ℕ) → n ≤ 0x40f0_0010_0000_0000 → n / 2 ^ 52 ≤ 1039
       high n k = omega arith
@@ -131,10 +131,10 @@ module _ (x : Float) (F : T (fits binary64 x)) (from : T (le one x)) (to : T (le
   a = (b % 2 ^ 52 + 2 ^ 52) * 2 ^ (b / 2 ^ 52 - 1023)
 
   value : HasValue x false a (2 ^ 52)
-  value = subst (λ (v : Float). HasValue v false a (2 ^ 52)) (of_bits-to_bits binary64 x F) (digits_value b field-from (omega (arith, field-to)))
+  value = subst (λ (v : Float). HasValue v false a (2 ^ 52)) (of_bits-to_bits binary64 x F) (digits_value b field_from (omega (arith, field_to)))
 
   pub at_most : nearest_half a (2 ^ 52) ≤ 65537
-  at_most = half-few 65537 a (2 ^ 52) (pow_pos 52) (omega (arith, values_of_le x most a (2 ^ 52) 65537 1 inside most-positive value most-value to))
+  at_most = half_few 65537 a (2 ^ 52) (pow_pos 52) (omega (arith, values_of_le x most a (2 ^ 52) 65537 1 inside most-positive value most-value to))
 
   pub when_inside : nearest_half a (2 ^ 52) ≡ rounded_of x
   when_inside =

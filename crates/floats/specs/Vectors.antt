@@ -14,9 +14,9 @@ pub below_half : integral_at 0x3fdf_ffff_ffff_ffff ≡ whole (pos 0)
 unfolding integral_at
 below_half = refl
 
-pub two-and-a-half : integral_at 0x4004_0000_0000_0000 ≡ whole (pos 3)
+pub two_and_a_half : integral_at 0x4004_0000_0000_0000 ≡ whole (pos 3)
 unfolding integral_at
-two-and-a-half = refl
+two_and_a_half = refl
 
 pub minus_two_and_a_half : integral_at 0xc004_0000_0000_0000 ≡ whole (negsuc 2)
 unfolding integral_at
@@ -35,26 +35,26 @@ pub too_many-frames : frames_at 0x40f0_0008_0000_0000 ≡ 65537
 unfolding frames_at
 too_many-frames = refl
 
-pub far-too_many-frames : frames_at 0x7e37_e43c_8800_759c ≡ 65537
+pub far_too_many_frames : frames_at 0x7e37_e43c_8800_759c ≡ 65537
 unfolding frames_at
-far-too_many-frames = refl
+far_too_many_frames = refl
 
 pub root_at : ℕ → ℕ
 unfolding sqrt_of of_bits to_bits
 root_at b = to_bits binary64 (sqrt_of (of_bits binary64 b))
 
 -- the roots of 2, of the smallest subnormal, of the largest finite number and of -0
-pub root-two : root_at 0x4000_0000_0000_0000 ≡ 0x3ff6_a09e_667f_3bcd
+pub root_two : root_at 0x4000_0000_0000_0000 ≡ 0x3ff6_a09e_667f_3bcd
 unfolding root_at
-root-two = refl
+root_two = refl
 
-pub root-least : root_at 1 ≡ 0x1e60_0000_0000_0000
+pub root_least : root_at 1 ≡ 0x1e60_0000_0000_0000
 unfolding root_at
-root-least = refl
+root_least = refl
 
-pub root-most : root_at 0x7fef_ffff_ffff_ffff ≡ 0x5fef_ffff_ffff_ffff
+pub root_most : root_at 0x7fef_ffff_ffff_ffff ≡ 0x5fef_ffff_ffff_ffff
 unfolding root_at
-root-most = refl
+root_most = refl
 
 pub root_minus_zero : root_at 0x8000_0000_0000_0000 ≡ 0x8000_0000_0000_0000
 unfolding root_at

@@ -19,7 +19,7 @@ use Rattle.gv.specs.Promise.{opens, varied_in, VarySays}
 use Rattle.gv.specs.Inner.Turns.{Planned, Suited, lists_in, parmgen_in}
 use Rattle.lists.proofs.Flags.{both}
 use Rattle.gv.specs.declared.MlpgGlobalVariance.{MlpgGlobalVariance}
-use Rattle.gv.proofs.Varied.{varied-is}
+use Rattle.gv.proofs.Varied.{varied_is}
 
 module _ (g : Layout) (on means varis floats : ℕ) where
   pub record Opened : Type 0 where
@@ -61,5 +61,5 @@ module _ (g : Layout) (on : List ℕ) (means varis : List Float) (weight : Float
   all-varied work' s p o k e q =
       let aim : ℕ → Region → Region = λ l. varied_in g (map is_on on) (mul binary64 (elem means l) weight) (elem varis l) in
       let q' : Across (λ l b e. region_in g e ≡ aim l (region_in g b)) (size_of g) (length means) work work' =
-      across_as (rw (e, k.windows, k.length, k.width) at q) (λ l h x. x ∙ varied-is g (map is_on on) (mul binary64 (elem means l) weight) (elem varis l) (region_in g (region_of (size_of g) l work))) in
+      across_as (rw (e, k.windows, k.length, k.width) at q) (λ l h x. x ∙ varied_is g (map is_on on) (mul binary64 (elem means l) weight) (elem varis l) (region_in g (region_of (size_of g) l work))) in
       record { space = rw o (lists_are g (length means) aim work (opened g (length on) (length means) (length varis) (length work) o).room work' q') }

@@ -43,11 +43,11 @@ graded-next p n w size pos s weight d m m' t h x h' b ex em eh q =
     let long : length vs ≡ t = build-length f t in
     let k : region_at p n w m ≡ replaced r (sets r.factors 0 vs) r.values = ap (region_at p n w) q.rows ∙ factors-stored p n w d s p.factors vs 0 (omega arith) (omega (arith, mul-le-mul_left n pos)) in
     let x-is : x ≡ f t = ex ∙ ap (λ (l : Region). gradient_at w l.matrix l.values t) k in
-    let y-is : elem m (p.right + t) ≡ elem r.side t = part_elem p.right n t m b ∙ ap (λ (l : Region). elem l.side t) k in
+    let y_is : elem m (p.right + t) ≡ elem r.side t = part_elem p.right n t m b ∙ ap (λ (l : Region). elem l.side t) k in
     let v-is : elem m (p.values + t) ≡ elem r.values t = part_elem p.values n t m b ∙ ap (λ (l : Region). elem l.values t) k in
     record {
       rows = em ∙ stored_rule f d m p.factors t x x-is q.rows;
-      sum = eh ∙ rw (x-is, y-is, v-is, q.sum) (over-step (λ i a. add binary64 a (hmm_term weight (elem r.side i) (f i) (elem r.values i))) t nought);
+      sum = eh ∙ rw (x-is, y_is, v-is, q.sum) (over-step (λ i a. add binary64 a (hmm_term weight (elem r.side i) (f i) (elem r.values i))) t nought);
     }
 
 -- all rows are done
@@ -55,9 +55,9 @@ module _ (p : Places) (n w : ℕ) (d : List Float) (room : p.values + n ≤ leng
   abbrev r : Region
   r = region_at p n w d
 
-  gradient-is : gradient w r.matrix r.values ≡ build (gradient_at w r.matrix r.values) n
+  gradient_is : gradient w r.matrix r.values ≡ build (gradient_at w r.matrix r.values) n
   unfolding gradient
-  gradient-is = rw (cut-length p.values n d room)
+  gradient_is = rw (cut-length p.values n d room)
 
   pub graded-all : (weight v : Float) (m : List Float) (h : Float) → weight ≡ v → Graded p n w weight d m n h
       → (m ≡ sets d p.factors (gradient w r.matrix r.values)) × (h ≡ hmm_obj v r.side (gradient w r.matrix r.values) r.values)
@@ -65,5 +65,5 @@ module _ (p : Places) (n w : ℕ) (d : List Float) (room : p.values + n ≤ leng
   graded-all weight v m h e q =
       let D : List Float = gradient w r.matrix r.values in
       let term : (ℕ → Float) → ℕ → Float → Float = λ x t y. add binary64 y (hmm_term v (elem r.side t) (x t) (elem r.values t)) in
-      let at_row : (t : ℕ) → t < n → elem D t ≡ gradient_at w r.matrix r.values t = λ t l. rw gradient-is (build-at (gradient_at w r.matrix r.values) n t nan l) in
-      (q.rows ∙ rw gradient-is, q.sum ∙ rw (cut-length p.values n d room, e) (over-same (term (gradient_at w r.matrix r.values)) (term (elem D)) n nought (λ t z l. rw (at_row t l))))
+      let at_row : (t : ℕ) → t < n → elem D t ≡ gradient_at w r.matrix r.values t = λ t l. rw gradient_is (build-at (gradient_at w r.matrix r.values) n t nan l) in
+      (q.rows ∙ rw gradient_is, q.sum ∙ rw (cut-length p.values n d room, e) (over-same (term (gradient_at w r.matrix r.values)) (term (elem D)) n nought (λ t z l. rw (at_row t l))))

@@ -24,9 +24,9 @@ module _ (w : ℕ) (wuw wum : List Float) (on : List Bool) (windows : ℕ) (gv_m
   abbrev pub first_turn : List Float → State
   first_turn par = state (next_step w wuw wum on windows gv_mean gv_vari (gradient w wuw par) step_init (mean_of on par) (vari_of on par) par) step_init (objective w wuw wum on windows gv_mean gv_vari par)
 
-  first-is : (par : List Float) → turn w wuw wum on windows gv_mean gv_vari (state par step_init nan) ≡ first_turn par
+  first_is : (par : List Float) → turn w wuw wum on windows gv_mean gv_vari (state par step_init nan) ≡ first_turn par
   unfolding turn
-  first-is par = let obj = objective w wuw wum on windows gv_mean gv_vari par in
+  first_is par = let obj = objective w wuw wum on windows gv_mean gv_vari par in
       ap (λ (size : Float). state (next_step w wuw wum on windows gv_mean gv_vari (gradient w wuw par) size (mean_of on par) (vari_of on par) par) size obj) (keeps step_init obj)
 
   pub parmgen_literal : (par : List Float) → parmgen w wuw wum on windows gv_mean gv_vari par
@@ -35,4 +35,4 @@ module _ (w : ℕ) (wuw wum : List Float) (on : List Bool) (windows : ℕ) (gv_m
   parmgen_literal par =
       let f : State → State = turn w wuw wum on windows gv_mean gv_vari in
       let q : List Float = conv_gv on gv_mean par in
-      ap (λ (s : State). cond (eqb (count on) 0) par (values_of s)) (iterate_shift f 4 (state q step_init nan) ∙ ap (λ (s : State). iterate f 4 s) (first-is q))
+      ap (λ (s : State). cond (eqb (count on) 0) par (values_of s)) (iterate_shift f 4 (state q step_init nan) ∙ ap (λ (s : State). iterate f 4 s) (first_is q))

@@ -22,21 +22,21 @@ three-gradient m rows values n t b h l =
     let A : List Float = part rows (n * 3) m in
     let P : List Float = part values n m in
     let long : length P ≡ n = cut-length values n m l in
-    let entry-is : (x r j : ℕ) → r < n → j < 3 → x ≡ rows + (r * 3 + j) → elem m x ≡ entry 3 A r j = λ x r j a c o.
+    let entry_is : (x r j : ℕ) → r < n → j < 3 → x ≡ rows + (r * 3 + j) → elem m x ≡ entry 3 A r j = λ x r j a c o.
     ap (λ (i : ℕ). elem m i) o ∙ part_elem rows (n * 3) (r * 3 + j) m (omega arith) in
-    let value-is : (x r : ℕ) → r < n → x ≡ values + r → elem m x ≡ elem P r = λ x r a o.
+    let value_is : (x r : ℕ) → r < n → x ≡ values + r → elem m x ≡ elem P r = λ x r a o.
     ap (λ (i : ℕ). elem m i) o ∙ part_elem values n r m a in
     rw (
-      entry-is (rows + t * 3) t 0 (omega arith) (omega arith) (omega arith),
-      entry-is (rows + t * 3 + 1) t 1 (omega arith) (omega arith) (omega arith),
-      entry-is (rows + t * 3 + 2) t 2 (omega arith) (omega arith) (omega arith),
-      entry-is (rows + t * 3 - 2) (t - 1) 1 (omega arith) (omega arith) (omega arith),
-      entry-is (rows + t * 3 - 4) (t - 2) 2 (omega arith) (omega arith) (omega arith),
-      value-is (values + t) t (omega arith) (omega arith),
-      value-is (values + t + 1) (t + 1) (omega arith) (omega arith),
-      value-is (values + t + 2) (t + 2) (omega arith) (omega arith),
-      value-is (values + t - 1) (t - 1) (omega arith) (omega arith),
-      value-is (values + t - 2) (t - 2) (omega arith) (omega arith),
+      entry_is (rows + t * 3) t 0 (omega arith) (omega arith) (omega arith),
+      entry_is (rows + t * 3 + 1) t 1 (omega arith) (omega arith) (omega arith),
+      entry_is (rows + t * 3 + 2) t 2 (omega arith) (omega arith) (omega arith),
+      entry_is (rows + t * 3 - 2) (t - 1) 1 (omega arith) (omega arith) (omega arith),
+      entry_is (rows + t * 3 - 4) (t - 2) 2 (omega arith) (omega arith) (omega arith),
+      value_is (values + t) t (omega arith) (omega arith),
+      value_is (values + t + 1) (t + 1) (omega arith) (omega arith),
+      value_is (values + t + 2) (t + 2) (omega arith) (omega arith),
+      value_is (values + t - 1) (t - 1) (omega arith) (omega arith),
+      value_is (values + t - 2) (t - 2) (omega arith) (omega arith),
       long,
       lt-ltb (t + 1) n (omega arith),
       le-leb 1 t (omega arith),

@@ -153,22 +153,22 @@ module _ (g : MlpgGlobalVariance) (p : Places) (on : List Bool) (gv_mean gv_vari
   abbrev rescaled : List Float
   rescaled = put_mid p.values (p.values + g.length - p.values) M y
 
-  count-is : p.values + g.length - p.values ≡ g.length
-  count-is = add-sub_cancel_left p.values g.length
+  count_is : p.values + g.length - p.values ≡ g.length
+  count_is = add-sub_cancel_left p.values g.length
 
-  y-is : y ≡ conv_gv on gv_mean (lists_in g p M).values
-  y-is = rw count-is at drawn
+  y_is : y ≡ conv_gv on gv_mean (lists_in g p M).values
+  y_is = rw count_is at drawn
 
   y-long : length y ≡ g.length
-  y-long = ap length y-is ∙ conv_long on gv_mean (lists_in g p M).values ∙ lists-values g p M z
+  y-long = ap length y_is ∙ conv_long on gv_mean (lists_in g p M).values ∙ lists-values g p M z
 
-  rescaled-is : rescaled ≡ sets M p.values y
-  rescaled-is = returned p.values (p.values + g.length) M y (omega arith) z.spaced.room (y-long ∙ sym count-is)
+  rescaled_is : rescaled ≡ sets M p.values y
+  rescaled_is = returned p.values (p.values + g.length) M y (omega arith) z.spaced.room (y-long ∙ sym count_is)
 
   pub rescaled-long : length rescaled ≡ length M
-  rescaled-long = ap length rescaled-is ∙ length-sets M p.values y
+  rescaled-long = ap length rescaled_is ∙ length-sets M p.values y
 
   pub five-turned : (q : Region) → q ≡ five_turns g on gv_mean gv_vari (lists_in g p rescaled) (lists_in g p rescaled).values → q ≡ five_turns g on gv_mean gv_vari (lists_in g p M) (conv_gv on gv_mean (lists_in g p M).values)
   five-turned q e =
-      let lists : lists_in g p rescaled ≡ replaced (lists_in g p M) (lists_in g p M).factors y = ap (lists_in g p) rescaled-is ∙ values-whole p g.length g.width M z.spaced y y-long in
-      e ∙ ap (λ (x : Region). five_turns g on gv_mean gv_vari x x.values) lists ∙ ap (five_turns g on gv_mean gv_vari (lists_in g p M)) y-is
+      let lists : lists_in g p rescaled ≡ replaced (lists_in g p M) (lists_in g p M).factors y = ap (lists_in g p) rescaled_is ∙ values-whole p g.length g.width M z.spaced y y-long in
+      e ∙ ap (λ (x : Region). five_turns g on gv_mean gv_vari x x.values) lists ∙ ap (five_turns g on gv_mean gv_vari (lists_in g p M)) y_is

@@ -34,9 +34,9 @@ module _ (g : Layout) where
     front_long = gradient-long g.w r.matrix (after 4) ∙ after-long 4
 
     -- what `parmgen` makes of the lists
-    pub varied-is : cond (eqb (count on) 0) r (put g.n front (after 5) r) ≡ varied_in g on mean vari r
+    pub varied_is : cond (eqb (count on) 0) r (put g.n front (after 5) r) ≡ varied_in g on mean vari r
     unfolding parmgen
-    varied-is =
+    varied_is =
         (elim (eqb (count on) 0) as (λ b. cond b r (put g.n front (after 5) r) ≡ replaced r (cond b r.factors (front ++ drop g.n r.factors)) (cond b r.values (after 5)))
         [ true ↦ refl | false ↦ refl ])
 

@@ -44,18 +44,18 @@ varied on = varied_in plan on (of_bits binary64 0x4000000000000000) (of_bits bin
     (record { means = []; ivars = []; matrix = from_bits matrix; side = from_bits side; factors = from_bits (1 ∷ 2 ∷ 3 ∷ 4 ∷ 5 ∷ 6 ∷ 7 ∷ 8 ∷ 9 ∷ []); values = from_bits solved })
 
 -- frames 0 and 2 are switched: the values, and in front of the factors the gradient of those before the fifth step
-pub some-switched : bits_of (varied (true ∷ false ∷ true ∷ [])).values ≡ 0x3fe1a09a2b1124e8 ∷ 0x4000000000000000 ∷ 0x400b97d9753bb6c6 ∷ []
+pub some_switched : bits_of (varied (true ∷ false ∷ true ∷ [])).values ≡ 0x3fe1a09a2b1124e8 ∷ 0x4000000000000000 ∷ 0x400b97d9753bb6c6 ∷ []
 unfolding bits_of varied from_bits parmgen iterate turn objective next_step next_at size_after hmm_obj over gradient gradient_at plus_right plus_left conv_gv mean_of vari_of build fold_from sum_from_first select count sqrt_of add sub mul div neg lt of_int of_bits
-some-switched = refl
+some_switched = refl
 
 pub gradient-left : bits_of (varied (true ∷ false ∷ true ∷ [])).factors ≡ 0xbfc5f67ed77af45c ∷ 0x4000000000000000 ∷ 0x4010afb3f6bbd7a2 ∷ 4 ∷ 5 ∷ 6 ∷ 7 ∷ 8 ∷ 9 ∷ []
 unfolding bits_of varied from_bits parmgen iterate turn objective next_step next_at size_after hmm_obj over gradient gradient_at plus_right plus_left conv_gv mean_of vari_of build fold_from sum_from_first select count sqrt_of add sub mul div neg lt of_int of_bits
 gradient-left = refl
 
 -- none is
-pub none-switched : (bits_of (varied (false ∷ false ∷ false ∷ [])).values ≡ solved) × (bits_of (varied (false ∷ false ∷ false ∷ [])).factors ≡ 1 ∷ 2 ∷ 3 ∷ 4 ∷ 5 ∷ 6 ∷ 7 ∷ 8 ∷ 9 ∷ [])
+pub none_switched : (bits_of (varied (false ∷ false ∷ false ∷ [])).values ≡ solved) × (bits_of (varied (false ∷ false ∷ false ∷ [])).factors ≡ 1 ∷ 2 ∷ 3 ∷ 4 ∷ 5 ∷ 6 ∷ 7 ∷ 8 ∷ 9 ∷ [])
 unfolding bits_of varied from_bits parmgen count of_bits
-none-switched = (refl, refl)
+none_switched = (refl, refl)
 
 -- the region of one component has 36 floats
 pub enough : (opens plan 3 1 1 36 ≡ true) × (opens plan 3 1 1 35 ≡ false) × (opens plan 2 1 1 36 ≡ false) × (opens plan 3 1 0 36 ≡ false)

@@ -20,9 +20,9 @@ module _ (ss : States) (nstate : ℕ) (ends : List Float) (out work : List ℕ) 
   no_drift = a.says.on_time (sym a.gives.answers)
 
   -- with room, twice the distance of end and total is at most 1
-  pub half-a-frame : (i : ℕ) → i < length ends → le nought (get_or ends i nan) ≡ true → group_least nstate ends ss.shortest i < target_of (get_or ends i nan) (frames_before nstate ends out' i)
+  pub half_a_frame : (i : ℕ) → i < length ends → le nought (get_or ends i nan) ≡ true → group_least nstate ends ss.shortest i < target_of (get_or ends i nan) (frames_before nstate ends out' i)
       → (n : ℕ) × ((d : ℕ) × (Fraction (get_or ends i nan) n d × (2 * gap (total_at nstate out' i * d) n ≤ d)))
-  half-a-frame = chapter.half-a-frame nstate ends ss.shortest out' no_drift
+  half_a_frame = chapter.half_a_frame nstate ends ss.shortest out' no_drift
 
   -- a label without room, and a later one with room
   pub right_again : (i j : ℕ) → i < j → j < length ends → le nought (get_or ends i nan) ≡ true → le nought (get_or ends j nan) ≡ true

@@ -12,7 +12,7 @@ use Rattle.lists.specs.Sizes.{most_windows, most_common}
 use Rattle.lists.specs.Totals.{total}
 use Rattle.lists.specs.declared.Changed.TheVariants.{Done}
 use Rattle.lists.proofs.Flags.{both}
-use Rattle.lists.proofs.Refusals.{none_then, then-none, or-none}
+use Rattle.lists.proofs.Refusals.{none_then, then-none, or_none}
 use Rattle.model.specs.Windows.{all_of, all_finite, window_refusal}
 use Rattle.lists.proofs.Ends.{done_none}
 use Rattle.houses.specs.declared.Used.TheVariants.{At}
@@ -46,10 +46,10 @@ pub record StartAccepted (t : Table) (common : ℕ) (ws : List ℕ) (cs : List F
 pub start-accepted : (t : Table) (common : ℕ) (ws : List ℕ) (cs : List Float) → start_refusal t common ws cs ≡ 0 → StartAccepted t common ws cs
 unfolding start_refusal
 start-accepted t common ws cs e =
-    let (a, f) = or-none _ _ e in
-    let (b, g) = or-none _ _ f in
-    let (c, h) = or-none _ _ g in
-    let (d, i) = or-none _ _ h in
+    let (a, f) = or_none _ _ e in
+    let (b, g) = or_none _ _ f in
+    let (c, h) = or_none _ _ g in
+    let (d, i) = or_none _ _ h in
     let (n, m) = both _ _ (none_then _ 0 b) in
     let (r, l) = both _ _ (none_then _ 3 d) in
     record {
@@ -72,9 +72,9 @@ pub record SetAccepted (t : Table) (house s : ℕ) (ws : List ℕ) (cs : List Fl
 pub set-accepted : (t : Table) (house s : ℕ) (ws : List ℕ) (cs : List Float) → set_refusal t house s ws cs ≡ 0 → SetAccepted t house s ws cs
 unfolding set_refusal
 set-accepted t house s ws cs e =
-    let (a, f) = or-none _ _ e in
-    let (b, g) = or-none _ _ f in
-    let (c, d) = or-none _ _ g in
+    let (a, f) = or_none _ _ e in
+    let (b, g) = or_none _ _ f in
+    let (c, d) = or_none _ _ g in
     record { own = none_then _ 22 a; free = none_then _ 24 b; fit = c; room = d }
 
 -- of clear
@@ -86,8 +86,8 @@ pub record ClearAccepted (t : Table) (house s : ℕ) : Type 0 where
 pub clear_accepted : (t : Table) (house s : ℕ) → clear_refusal t house s ≡ 0 → ClearAccepted t house s
 unfolding clear_refusal
 clear_accepted t house s e =
-    let (a, f) = or-none _ _ e in
-    let (b, c) = or-none _ _ f in
+    let (a, f) = or_none _ _ e in
+    let (b, c) = or_none _ _ f in
     record { own = none_then _ 22 a; held = then-none _ 23 b; room = c }
 
 -- of use
@@ -100,7 +100,7 @@ pub record UseAccepted (t : Table) (house s : ℕ) (out : List ℕ) : Type 0 whe
 pub use_accepted : (t : Table) (house s : ℕ) (out : List ℕ) → use_refusal t house s out ≡ 0 → UseAccepted t house s out
 unfolding use_refusal
 use_accepted t house s out e =
-    let (a, f) = or-none _ _ e in
-    let (b, g) = or-none _ _ f in
-    let (c, d) = or-none _ _ g in
+    let (a, f) = or_none _ _ e in
+    let (b, g) = or_none _ _ f in
+    let (c, d) = or_none _ _ g in
     record { may = none_then _ 22 a; held = then-none _ 23 b; room = c; places = ltb-false (length out) most_windows (then-none _ 5 d) }

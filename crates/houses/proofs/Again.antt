@@ -17,7 +17,7 @@ use Rattle.lists.specs.declared.Changed.TheVariants.{Done}
 use Rattle.lists.proofs.Regions.{cut-length}
 use Rattle.model.specs.Windows.{window_refusal}
 use Rattle.model.proofs.Accepted.{accepted-few, accepted-whole}
-use Rattle.lists.proofs.Refusals.{or-zero}
+use Rattle.lists.proofs.Refusals.{or_zero}
 use Rattle.houses.specs.declared.Used.{Used}
 use Rattle.houses.specs.declared.Used.TheVariants.{At}
 use Rattle.houses.specs.Slots.{Table, Slot, slot_at, trimmed, widths_in, coefficients_in, is_empty}
@@ -61,7 +61,7 @@ module _ {t t' : Table} (house s : ℕ) (c : ClearSays t house s Done t') where
   -- and set of it is refused as its windows are
   pub clear_set : (ws : List ℕ) (cs : List Float) → set_refusal t' house s ws cs ≡ window_refusal ws cs
   unfolding set_refusal
-  clear_set ws cs = rw (clear_asked.own, clear_then, (done-then c).1, put-room s cleared t, clear_asked.room) (or-zero (window_refusal ws cs))
+  clear_set ws cs = rw (clear_asked.own, clear_then, (done-then c).1, put-room s cleared t, clear_asked.room) (or_zero (window_refusal ws cs))
 
   -- clear changes no more than what the slot has
   clear_same : put_in s cleared t' ≡ put_in s cleared t

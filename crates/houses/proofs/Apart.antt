@@ -37,9 +37,9 @@ module _ {Ask Tell : Type 0} (M : Table → ℕ → Ask → Tell → Table → T
     own_then : {t u u' t' : Table} {asked : Ask} {told : Tell} {calls : List (Call Ask Tell)} → Alike house t u → M u house asked told u' → Seen house u' calls t' → Seen house t (call house asked told ∷ calls) t'
 
   -- it may begin with any table that is alike to it
-  seen-from : {house : ℕ} {t u t' : Table} {calls : List (Call Ask Tell)} → Alike house t u → Seen house u calls t' → Seen house t calls t'
-  seen-from a (rest b) = rest (alike_then a b)
-  seen-from a (own_then b m r) = own_then (alike_then a b) m r
+  seen_from : {house : ℕ} {t u t' : Table} {calls : List (Call Ask Tell)} → Alike house t u → Seen house u calls t' → Seen house t calls t'
+  seen_from a (rest b) = rest (alike_then a b)
+  seen_from a (own_then b m r) = own_then (alike_then a b) m r
 
   module _ (c : ChangesItsOwn M) where
     -- another house's call leaves a table that is alike to it
@@ -55,7 +55,7 @@ module _ {Ask Tell : Type 0} (M : Table → ℕ → Ask → Tell → Table → T
     seen house {t} none = rest (alike_self house t)
     seen house {t} (call_then {t' = t₁} {t''} {house = other} {asked} {told} {calls} m r) =
         by_place house (λ o. M t o asked told t₁ → Seen house t (own_calls house (call o asked told ∷ calls)) t'') other
-        (λ d n. rw (ne_eqb other house d) (seen-from (other-alike d n) (seen house r)))
+        (λ d n. rw (ne_eqb other house d) (seen_from (other-alike d n) (seen house r)))
         (λ n. rw (eq-eqb house house refl) (own_then (alike_self house t) n (seen house r)))
         m
 

@@ -67,8 +67,8 @@ module _ (common k n : ℕ) (ws : List ℕ) (cs : List Float) (c : k ≡ common)
   product : k * n ≡ common * row_length common ws
   product = rw (c, e)
 
-  pub agree-not : (k * n ≡ length ws → ⊥) → false ≡ common_agree common ws cs
-  agree-not d = rw (← product, ne_eqb (k * n) (length ws) d)
+  pub agree_not : (k * n ≡ length ws → ⊥) → false ≡ common_agree common ws cs
+  agree_not d = rw (← product, ne_eqb (k * n) (length ws) d)
 
   pub agree_as : (t : ℕ) → common ≤ most_common → row_length common ws ≤ most_windows → k * n ≡ length ws → t ≡ total (take (2 ^ 32) ws) → eqb (length cs) t ≡ common_agree common ws cs
   agree_as t h g d q =

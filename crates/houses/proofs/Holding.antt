@@ -13,7 +13,7 @@ use lib.Ieee.{Float}
 use Rattle.lists.specs.Sizes.{most_windows, most_taps, most_set_taps}
 use Rattle.lists.specs.Totals.{total}
 use Rattle.lists.proofs.Flags.{either}
-use Rattle.lists.proofs.Numbers.{le-or-lt}
+use Rattle.lists.proofs.Numbers.{le_or_lt}
 use Rattle.lists.proofs.Sums.{total-under}
 use Rattle.floats.specs.Numbers.{nought}
 use Rattle.model.specs.Windows.{widths_fit, all_finite, window_refusal}
@@ -124,7 +124,7 @@ module _ (ws : List ℕ) (cs : List Float) (h : window_refusal ws cs ≡ 0) wher
       let each : (i : ℕ) → get_or ws i 0 ≤ most_taps = λ i. ⊎_elim
       (λ (l : length ws ≤ i). omega (arith, get_or-eq_default ws 0 l))
       (λ (l : i < length ws). width_few ws cs h i l)
-      (le-or-lt (length ws) i) in
+      (le_or_lt (length ws) i) in
       omega (arith, total-under most_taps ws each, accepted-few ws cs h)
 
 -- ---- slots

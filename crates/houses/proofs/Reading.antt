@@ -56,10 +56,10 @@ seek_none row n k h = let e : n ≡ 0 = omega arith in ap (λ (m : ℕ). up_to_l
 
 -- ---- a slot is empty where its set would be refused
 
-pub empty-is : (ws : List ℕ) (cs : List Float) (s n k : ℕ) (row own : List ℕ) (taps set-taps : List Float) → row ≡ part (s * most_windows) most_windows ws → own ≡ trimmed row → taps ≡ part (s * most_set_taps) most_set_taps cs
+pub empty_is : (ws : List ℕ) (cs : List Float) (s n k : ℕ) (row own : List ℕ) (taps set-taps : List Float) → row ≡ part (s * most_windows) most_windows ws → own ≡ trimmed row → taps ≡ part (s * most_set_taps) most_set_taps cs
     → n ≡ total (take (2 ^ 32) own) → set-taps ≡ take n taps → k ≡ window_refusal own set-taps → not (eqb k 0) ≡ is_empty (slot_at (table ws cs) s)
 unfolding is_empty
-empty-is ws cs s n k row own taps set-taps r o t e u w =
+empty_is ws cs s n k row own taps set-taps r o t e u w =
     let f : length own ≤ length row = rw o (omega (arith, length-take (up_to_last row) row)) in
     let g : length row ≤ 4 = rw r (omega (arith, length-take most_windows (drop (s * most_windows) ws))) in
     let l : length own ≤ 4294967296 = omega arith in
@@ -69,14 +69,14 @@ empty-is ws cs s n k row own taps set-taps r o t e u w =
 -- ---- whose a slot is
 
 module _ (house : ℕ) (t : Bool) (e : t ≡ ltb house house_count) where
-  pub no-house : not t ≡ true → ltb house house_count ≡ false
-  no-house n = sym e ∙ not-true t n
+  pub no_house : not t ≡ true → ltb house house_count ≡ false
+  no_house n = sym e ∙ not-true t n
 
   pub some-house : not t ≡ false → ltb house house_count ≡ true
   some-house n = sym e ∙ not-false t n
 
-  pub a-house : not t ≡ false → house < house_count
-  a-house n = ltb-true house house_count (some-house n)
+  pub a_house : not t ≡ false → house < house_count
+  a_house n = ltb-true house house_count (some-house n)
 
 -- a house that is there owns four slots from its first on
 pub owns-some : (house s first : ℕ) → ltb house house_count ≡ true → first ≡ first_own house → (leb first s && ltb s (first + most_own)) ≡ owns house s

@@ -17,7 +17,7 @@ use Rattle.lists.specs.Totals.{total}
 use Rattle.lists.specs.declared.Changed.TheVariants.{Done}
 use Rattle.lists.proofs.Builds.{build-same}
 use Rattle.lists.proofs.Joins.{rows-length, rows-part}
-use Rattle.lists.proofs.Numbers.{le-or-lt}
+use Rattle.lists.proofs.Numbers.{le_or_lt}
 use Rattle.lists.proofs.Regions.{cut-length}
 use Rattle.lists.proofs.Sums.{total-part, total-front}
 use Rattle.floats.specs.Numbers.{nought}
@@ -159,7 +159,7 @@ module _ {t u t' u' : Table} (common : ℕ) (ws vs : List ℕ) (cs : List Float)
   rows_same i = ⊎_elim
       (λ (h : common ≤ i). rw (row-none common ws cs a i h, row-none common vs cs b i h))
       (λ (h : i < common). same i h)
-      (le-or-lt common i)
+      (le_or_lt common i)
 
   -- each has as many coefficients
   totals_same : (i : ℕ) → total (row_of n ws i) ≡ total (row_of m vs i)

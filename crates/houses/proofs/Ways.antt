@@ -16,7 +16,7 @@ use Rattle.lists.specs.declared.Changed.TheVariants.{Done, Refused as Changed-as
 use Rattle.lists.specs.declared.Counted.TheVariants.{Number, Refused as Counted-as-Refused}
 use Rattle.lists.proofs.Answers.{given-none, untouched, in_front}
 use Rattle.lists.proofs.Ends.{refused_with, not-counted}
-use Rattle.lists.proofs.Refusals.{or-first, or-none, none_then}
+use Rattle.lists.proofs.Refusals.{or_first, or_none, none_then}
 use Rattle.lists.proofs.Stores.{copied}
 use Rattle.lists.proofs.Sums.{total-whole}
 use Rattle.model.specs.Windows.{window_refusal}
@@ -55,7 +55,7 @@ module _ (t : Table) (house s : ℕ) where
 -- a house of which the free slots are counted is there
 pub free-house : (t : Table) (house : ℕ) → free_refusal t house ≡ 0 → house < house_count
 unfolding free_refusal
-free-house t house e = ltb-true house house_count (none_then _ 22 (or-none _ _ e).0)
+free-house t house e = ltb-true house house_count (none_then _ 22 (or_none _ _ e).0)
 
 -- ---- the ways out
 
@@ -92,7 +92,7 @@ module _ (t : Table) (house s : ℕ) where
           module _ (h : not y ≡ false) (k : ℕ) (w : k ≡ window_refusal widths coefficients) where
             pub set-windows : (k ≡ 0 → ⊥) → k ≡ set_refusal t house s widths coefficients
             unfolding set_refusal
-            set-windows z = rw (← e, not-false o n, ← f, not-false y h, ← w) (sym (or-first k (table_refusal t) z))
+            set-windows z = rw (← e, not-false o n, ← f, not-false y h, ← w) (sym (or_first k (table_refusal t) z))
 
             pub set_last : (j : ℕ) → k ≡ 0 → j ≡ table_refusal t → j ≡ set_refusal t house s widths coefficients
             unfolding set_refusal
@@ -115,7 +115,7 @@ module _ (t : Table) (house s : ℕ) where
 
         pub use_short : (k : ℕ) → y ≡ false → k ≡ table_refusal t → (k ≡ 0 → ⊥) → k ≡ use_refusal t house s widths
         unfolding use_refusal
-        use_short k h g z = rw (← e, not-false o n, ← f, h, ← g) (sym (or-first k _ z))
+        use_short k h g z = rw (← e, not-false o n, ← f, h, ← g) (sym (or_first k _ z))
 
         module _ (k : ℕ) (h : y ≡ false) (g : k ≡ table_refusal t) (z : k ≡ 0) where
           pub use_narrow : length widths < most_windows → ◌≡◌ {A = ℕ} 6 (use_refusal t house s widths)

@@ -52,9 +52,9 @@ abbrev short : Table
 short = table (replicate 16 0 ++ (1 ∷ [])) (replicate 241 nought)
 
 -- RULES, Houses: 23 goes before 25, this before 1, 2 and 4, and last is 6
-pub set-order : (set_refusal short 1 4 [] [] ≡ 23) × (set_refusal short 0 4 [] [] ≡ 25) × (set_refusal short 0 5 [] (nan ∷ []) ≡ 1) × (set_refusal short 0 5 (1 ∷ []) (nan ∷ nan ∷ []) ≡ 2) × (set_refusal short 0 5 (1 ∷ []) [] ≡ 4) × (set_refusal short 0 5 (1 ∷ []) (nought ∷ []) ≡ 6)
+pub set_order : (set_refusal short 1 4 [] [] ≡ 23) × (set_refusal short 0 4 [] [] ≡ 25) × (set_refusal short 0 5 [] (nan ∷ []) ≡ 1) × (set_refusal short 0 5 (1 ∷ []) (nan ∷ nan ∷ []) ≡ 2) × (set_refusal short 0 5 (1 ∷ []) [] ≡ 4) × (set_refusal short 0 5 (1 ∷ []) (nought ∷ []) ≡ 6)
 unfolding set_refusal table_refusal is_empty up_to_last window_refusal widths_fit all_finite all_of finite total of_bits
-set-order = (refl, refl, refl, refl, refl, refl)
+set_order = (refl, refl, refl, refl, refl, refl)
 
 -- and 23 before 24, this before 6; the common slots are cleared by nobody, and not used by a house that doesn't exist
 pub other_orders : (clear_refusal short 1 4 ≡ 23) × (clear_refusal short 0 3 ≡ 23) × (clear_refusal short 0 5 ≡ 24) × (clear_refusal short 0 4 ≡ 6)
@@ -69,10 +69,10 @@ unfolding table_refusal
 lengths = (refl, refl, refl)
 
 -- RULES, Houses: 23 for five sets; 1 for a row of five numbers, and for a 0 before a width; 2 before 4; 4 where a width is left over, where there are widths of no set, and where a coefficient is; 6
-pub start-order : (start_refusal short 5 [] [] ≡ 23) × (start_refusal short 1 (1 ∷ 1 ∷ 1 ∷ 1 ∷ 0 ∷ []) [] ≡ 1) × (start_refusal short 2 (1 ∷ 0 ∷ 0 ∷ 1 ∷ []) (nan ∷ []) ≡ 1) × (start_refusal short 1 (1 ∷ []) (nan ∷ nan ∷ []) ≡ 2)
+pub start_order : (start_refusal short 5 [] [] ≡ 23) × (start_refusal short 1 (1 ∷ 1 ∷ 1 ∷ 1 ∷ 0 ∷ []) [] ≡ 1) × (start_refusal short 2 (1 ∷ 0 ∷ 0 ∷ 1 ∷ []) (nan ∷ []) ≡ 1) × (start_refusal short 1 (1 ∷ []) (nan ∷ nan ∷ []) ≡ 2)
     × (start_refusal short 2 (1 ∷ 1 ∷ 1 ∷ []) (replicate 3 nought) ≡ 4) × (start_refusal short 0 (0 ∷ []) [] ≡ 4) × (start_refusal short 1 (1 ∷ 0 ∷ []) (replicate 2 nought) ≡ 4) × (start_refusal short 0 [] [] ≡ 6) × (start_refusal short 1 (1 ∷ 0 ∷ []) (nought ∷ []) ≡ 6)
 unfolding start_refusal table_refusal up_to_last build widths_fit all_finite all_of finite total of_bits
-start-order = (refl, refl, refl, refl, refl, refl, refl, refl, refl)
+start_order = (refl, refl, refl, refl, refl, refl, refl, refl, refl)
 
 -- two common sets, of one window and of three, in rows of three, and what lay behind the table's ends
 abbrev worked : Table

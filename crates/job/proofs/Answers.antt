@@ -15,9 +15,9 @@ use Rattle.lists.specs.Answers.{Answer, accepting, refusing, written}
 use Rattle.duration.specs.Promise.{fitted, work_of, early_refusal, Says}
 use Rattle.duration.specs.Shortest.{refusal_of_shortest}
 use Rattle.duration.proofs.Shortest.{shortest-taken}
-use Rattle.lists.proofs.Answers.{refused, refused-is, accepted-is}
+use Rattle.lists.proofs.Answers.{refused, refused_is, accepted_is}
 use Rattle.duration.proofs.Refusals.{fitting}
-use Rattle.lists.proofs.Refusals.{or-none}
+use Rattle.lists.proofs.Refusals.{or_none}
 use Rattle.job.specs.declared.Damage.{Damage}
 use Rattle.job.specs.declared.Damage.TheVariants.{Mark, Version, Count, Length}
 use Rattle.job.specs.declared.finding.Found.TheVariants.{Sound, Wrong}
@@ -35,7 +35,7 @@ use Rattle.job.proofs.Frames.{Bounded, speed-bounded}
 module _ (k : ℕ) (values new : List ℕ) (n : ℕ) (out work out' work' : List ℕ) (c : ℕ) where
   says-refused : (m : ℕ) → Says k (c ∷ []) new n out work (refusing m) out' work' → Says k values new n out work (refusing m) out' work'
   says-refused m f =
-      let s = refused-is m k c [] f.answer in
+      let s = refused_is m k c [] f.answer in
       record { answer = ap refusing (sym s.0) ∙ refused k values s.1; output = f.output; workspace = f.workspace }
 
   says-accepted : (a b : Answer) → k ≡ 0 → a ≡ accepting values → Says k (c ∷ []) new n out work b out' work' → Says k values new n out work a out' work'
@@ -45,21 +45,21 @@ module _ (k : ℕ) (values new : List ℕ) (n : ℕ) (out work out' work' : List
 
 module _ (j : Job) (out work out' : List ℕ) (z : job_refusal j out work ≡ 0) (o : out' ≡ written (job_refusal j out work) (job_fit j).durations out) where
   none : (early_refusal (job_states j) out work ≡ 0) × (refusal_at (job_states j) j.speed ≡ 0)
-  none = or-none (early_refusal (job_states j) out work) (refusal_at (job_states j) j.speed) z
+  none = or_none (early_refusal (job_states j) out work) (refusal_at (job_states j) j.speed) z
 
   pub fit-bounded : Bounded (length j.means) (job_fit j)
   fit-bounded =
-      let e = or-none _ (refusal_of_shortest j.shortest) none.0 in
+      let e = or_none _ (refusal_of_shortest j.shortest) none.0 in
       speed-bounded (job_states j) (fitting _ _ _ _ _ e.0).shortest (shortest-taken j.shortest e.1).few j.speed none.1
 
-  out-is : out' ≡ (job_fit j).durations ++ drop (length (job_fit j).durations) out
-  out-is = o ∙ ap (λ (k : ℕ). written k (job_fit j).durations out) z
+  out_is : out' ≡ (job_fit j).durations ++ drop (length (job_fit j).durations) out
+  out_is = o ∙ ap (λ (k : ℕ). written k (job_fit j).durations out) z
 
   pub fit-room : length j.means ≤ length out'
-  fit-room = rw out-is (simp length-append (omega (arith, fit-bounded.count)))
+  fit-room = rw out_is (simp length-append (omega (arith, fit-bounded.count)))
 
   pub fit-taken : take (length j.means) out' ≡ (job_fit j).durations
-  fit-taken = ap (take (length j.means)) out-is ∙ take_at (job_fit j).durations (drop (length (job_fit j).durations) out) (length j.means) fit-bounded.count
+  fit-taken = ap (take (length j.means)) out_is ∙ take_at (job_fit j).durations (drop (length (job_fit j).durations) out) (length j.means) fit-bounded.count
 
 -- ---- a job that is damaged
 
@@ -79,9 +79,9 @@ damaged_so bytes out work what at e =
 
 -- ---- one with which nothing is wrong, of s states
 
-module _ (bytes : List ℕ) (s : ℕ) (fine : damage_of bytes ≡ Sound) (count-is : s ≡ count_of bytes) where
+module _ (bytes : List ℕ) (s : ℕ) (fine : damage_of bytes ≡ Sound) (count_is : s ≡ count_of bytes) where
   pub few-states : s ≤ most_job_states
-  few-states = rw count-is (sound-job bytes fine).few
+  few-states = rw count_is (sound-job bytes fine).few
 
   abbrev j : Job
   j = job_at bytes s
@@ -94,12 +94,12 @@ module _ (bytes : List ℕ) (s : ℕ) (fine : damage_of bytes ≡ Sound) (count-
     k = job_refusal j out work
 
     pub job-refused : (m number : ℕ) → r ≡ fit.Refused m → number ≡ (fitted r).number → JobSays bytes out work (Refused number) out' work'
-    job-refused m number d q = rw (fine, ← count-is, q ∙ ap (λ (x : Fitted). (fitted x).number) d) (says-refused k _ (job_fit j).durations (length j.means) out work out' work' _ m (rw d at f))
+    job-refused m number d q = rw (fine, ← count_is, q ∙ ap (λ (x : Fitted). (fitted x).number) d) (says-refused k _ (job_fit j).durations (length j.means) out work out' work' _ m (rw d at f))
 
     -- accepted, with c changes
     module _ (c : ℕ) (d : r ≡ fit.Done c) where
       done : (k ≡ 0) × (c ∷ [] ≡ (job_fit j).changes ∷ [])
-      done = accepted-is (fitted (fit.Done c)) k _ (sym (ap fitted d) ∙ f.answer) refl
+      done = accepted_is (fitted (fit.Done c)) k _ (sym (ap fitted d) ∙ f.answer) refl
 
       pub job-room : s ≤ length out'
       job-room = rw long at (fit-room j out work out' done.0 f.output)
@@ -108,18 +108,18 @@ module _ (bytes : List ℕ) (s : ℕ) (fine : damage_of bytes ≡ Sound) (count-
         bounded : Bounded (length j.means) (job_fit j)
         bounded = fit-bounded j out work out' done.0 f.output
 
-        frames-is : frames ≡ total (job_fit j).durations
-        frames-is =
+        frames_is : frames ≡ total (job_fit j).durations
+        frames_is =
             let t : take s out' ≡ (job_fit j).durations = rw long at (fit-taken j out work out' done.0 f.output) in
             let l : length (job_fit j).durations ≤ 4294967296 = omega (arith, bounded.count, long, few-states) in
             q ∙ rw t (total-whole (job_fit j).durations l)
 
         pub job-few : frames ≤ most_frames
-        job-few = rw frames-is bounded.few
+        job-few = rw frames_is bounded.few
 
         pub job-done : JobSays bytes out work (Done s frames c) out' work'
         job-done =
             let v = done.1 in
             let u : c ≡ (job_fit j).changes = cc in
-            rw (fine, ← count-is)
-            (says-accepted k (length j.means ∷ total (job_fit j).durations ∷ (job_fit j).changes ∷ []) (job_fit j).durations (length j.means) out work out' work' _ (accepting (s ∷ frames ∷ c ∷ [])) (fitted r) done.0 (rw (long, frames-is, u)) f)
+            rw (fine, ← count_is)
+            (says-accepted k (length j.means ∷ total (job_fit j).durations ∷ (job_fit j).changes ∷ []) (job_fit j).durations (length j.means) out work out' work' _ (accepting (s ∷ frames ∷ c ∷ [])) (fitted r) done.0 (rw (long, frames_is, u)) f)

@@ -11,8 +11,8 @@ use lib.ListN.{length, take}
 use borrow.Author.Tests.{eq-eqb, ne_eqb, lt-ltb, le-ltb, ltb-false}
 use Rattle.lists.specs.Sizes.{most_job_states}
 use Rattle.lists.specs.Bytes.{alike, word_at}
-use Rattle.lists.proofs.Numbers.{le-or-lt, same_or_not}
-use Rattle.lists.proofs.Fronts.{alike_is, is-alike}
+use Rattle.lists.proofs.Numbers.{le_or_lt, same_or_not}
+use Rattle.lists.proofs.Fronts.{alike_is, is_alike}
 use Rattle.job.specs.declared.Damage.{Damage}
 use Rattle.job.specs.declared.Damage.TheVariants.{Mark, Version, Count, Length}
 use Rattle.job.specs.declared.finding.Found.{Found}
@@ -70,7 +70,7 @@ module _ (bytes : List ℕ) where
     found-short l = ⊎_elim
         (λ (g : 3 ≤ alike mark bytes). rw (marked-sound g, lt-ltb len 5 l))
         (λ (g : alike mark bytes < 3). rw (lt-ltb (alike mark bytes) 3 g, lt-ltb len (alike mark bytes + 1) (omega arith)))
-        (le-or-lt 3 (alike mark bytes))
+        (le_or_lt 3 (alike mark bytes))
 
     module _ (five : 5 ≤ len) where
       marked : mark_found bytes ≡ Sound
@@ -115,8 +115,8 @@ pub data Way (bytes : List ℕ) : Found → Type 0 where
   nowhere : IsJob bytes → Way bytes Sound
 
 module _ (bytes : List ℕ) where
-  marked-is : 3 ≤ alike mark bytes → take 3 bytes ≡ mark
-  marked-is h = alike_is mark bytes 3 h
+  marked_is : 3 ≤ alike mark bytes → take 3 bytes ≡ mark
+  marked_is h = alike_is mark bytes 3 h
 
   module _ (h : min 3 (length bytes) ≤ alike mark bytes) (five : 5 ≤ length bytes) where
     three : 3 ≤ alike mark bytes
@@ -124,7 +124,7 @@ module _ (bytes : List ℕ) where
 
     way-length : is_known (version_of bytes) ≡ true → 7 ≤ length bytes → count_of bytes ≤ most_job_states → Way bytes (damage_of bytes)
     way-length v seven few = ⊎_elim
-        (λ (e : length bytes ≡ whole_of bytes). rw (found_nothing bytes h five v seven few e) (nowhere (record { marked = marked-is three; versioned = v; few = few; whole = e })))
+        (λ (e : length bytes ≡ whole_of bytes). rw (found_nothing bytes h five v seven few e) (nowhere (record { marked = marked_is three; versioned = v; few = few; whole = e })))
         (λ (d : length bytes ≡ whole_of bytes → ⊥). rw (found-length bytes h five v seven few d) (wrong_length three v seven few d))
         (same_or_not (length bytes) (whole_of bytes))
 
@@ -133,9 +133,9 @@ module _ (bytes : List ℕ) where
         (λ (seven : 7 ≤ length bytes). ⊎_elim
         (λ (few : count_of bytes ≤ most_job_states). way-length v seven few)
         (λ (g : most_job_states < count_of bytes). rw (found-count bytes h five v seven g) (wrong_count three v seven g))
-        (le-or-lt (count_of bytes) most_job_states))
+        (le_or_lt (count_of bytes) most_job_states))
         (λ (l : length bytes < 7). rw (found-short-count bytes h five v l) (ends_in_count three v five l))
-        (le-or-lt 7 (length bytes))
+        (le_or_lt 7 (length bytes))
 
     way-version : Way bytes (damage_of bytes)
     way-version =
@@ -150,15 +150,15 @@ module _ (bytes : List ℕ) where
       (λ (h : min 3 (length bytes) ≤ alike mark bytes). ⊎_elim
       (way-version h)
       (λ (l : length bytes < 5). rw (found-short bytes h l) (ends_early l h))
-      (le-or-lt 5 (length bytes)))
+      (le_or_lt 5 (length bytes)))
       (λ (h : alike mark bytes < min 3 (length bytes)). rw (found-mark bytes h) (wrong_mark (omega arith) (omega arith)))
-      (le-or-lt (min 3 (length bytes)) (alike mark bytes))
+      (le_or_lt (min 3 (length bytes)) (alike mark bytes))
 
 -- ---- both directions
 
 pub job-sound : (bytes : List ℕ) → IsJob bytes → damage_of bytes ≡ Sound
 job-sound bytes j =
-    let a : alike mark bytes ≡ 3 = is-alike mark bytes j.marked in
+    let a : alike mark bytes ≡ 3 = is_alike mark bytes j.marked in
     let h : min 3 (length bytes) ≤ alike mark bytes = omega arith in
     found_nothing bytes h (omega (arith, j.whole)) j.versioned (omega (arith, j.whole)) j.few j.whole
 
@@ -240,5 +240,5 @@ module _ (bytes : List ℕ) where
     pub length_wrong : (length bytes ≡ 15 + w * n → ⊥) → (r : ℕ) → r ≡ min (length bytes) (15 + w * n) → Wrong Length r ≡ length_found bytes
     length_wrong d r q = rw (ne_eqb (length bytes) (whole_of bytes) (λ h. d (h ∙ sym whole_is)), q, whole_is)
 
-  pub heading-is : (m v c f h : Found) → m ≡ mark_found bytes → v ≡ word_found 3 1 2 Version bytes → c ≡ word_found 5 0 most_job_states Count bytes → f ≡ else_found m v → h ≡ else_found f c → h ≡ heading_found bytes
-  heading-is m v c f h a b d e g = g ∙ rw (e, a, b, d)
+  pub heading_is : (m v c f h : Found) → m ≡ mark_found bytes → v ≡ word_found 3 1 2 Version bytes → c ≡ word_found 5 0 most_job_states Count bytes → f ≡ else_found m v → h ≡ else_found f c → h ≡ heading_found bytes
+  heading_is m v c f h a b d e g = g ∙ rw (e, a, b, d)

@@ -9,7 +9,7 @@ use lib.ListN.{length, take, drop, length-take, take-append-drop}
 use lib.Seq.{take_all, length-take-le}
 use Rattle.lists.specs.Sizes.{most_job_states}
 use Rattle.lists.specs.Bytes.{little, alike, word_at}
-use Rattle.lists.proofs.Numbers.{le-or-lt}
+use Rattle.lists.proofs.Numbers.{le_or_lt}
 use Rattle.lists.proofs.Fronts.{alike_same, part_same}
 use Rattle.lists.proofs.Answers.{same, written-long}
 use Rattle.lists.proofs.Bytes.{bytes-length}
@@ -32,7 +32,7 @@ use Rattle.job.specs.Linking.{Call, part_of, end_with, CallOutcome, taken, refus
 use Rattle.job.proofs.Damages.{length_most, found-mark, found-version, found-count, found-length, Way, wrong_mark, ends_early, wrong_version, ends_in_count, wrong_count, wrong_length, nowhere, way, sound-job}
 use Rattle.job.proofs.Answers.{damaged_so}
 use Rattle.job.proofs.Outcomes.{answered-one, job_one, job-found, job-told}
-use Rattle.job.proofs.Memory.{is-long, is_open, open_long, held-came, held_open, idle_ended, ended_11, open_0}
+use Rattle.job.proofs.Memory.{is_long, is_open, open_long, held-came, held_open, idle_ended, ended_11, open_0}
 
 -- ---- the room is enough
 
@@ -81,15 +81,15 @@ module _ (bytes : List ℕ) (h : link_room ≤ length bytes) where
   pub room-found : damage_of kept ≡ damage_of bytes
   room-found = way-kept (damage_of bytes) (way bytes)
 
-  no-job : damage_of bytes ≡ Sound → ⊥
-  no-job e = let j = sound-job bytes e in omega (arith, j.whole, whole_below j.few)
+  no_job : damage_of bytes ≡ Sound → ⊥
+  no_job e = let j = sound-job bytes e in omega (arith, j.whole, whole_below j.few)
 
   -- so both have one outcome
   module _ (out work : List ℕ) (r : Answered) (out' work' : List ℕ) where
     full-says : JobSays kept out work r out' work' → JobSays bytes out work r out' work'
     full-says s =
         (elim (damage_of bytes) as (λ f. damage_of bytes ≡ f → JobSays bytes out work r out' work') [
-          | Sound ↦ λ e. absurd (no-job e)
+          | Sound ↦ λ e. absurd (no_job e)
           | Wrong what at ↦ λ e.
               let d = job-found kept out work r out' work' s what at (room-found ∙ e) in
               rw (d.0, d.1, d.2) (damaged_so bytes out work what at e)
@@ -99,7 +99,7 @@ module _ (bytes : List ℕ) (h : link_room ≤ length bytes) where
     says-full : JobSays bytes out work r out' work' → JobSays kept out work r out' work'
     says-full s =
         (elim (damage_of bytes) as (λ f. damage_of bytes ≡ f → JobSays kept out work r out' work') [
-          | Sound ↦ λ e. absurd (no-job e)
+          | Sound ↦ λ e. absurd (no_job e)
           | Wrong what at ↦ λ e.
               let d = job-found bytes out work r out' work' s what at e in
               rw (d.0, d.1, d.2) (damaged_so kept out work what at (room-found ∙ e))
@@ -112,13 +112,13 @@ module _ (bytes out work : List ℕ) (r : Answered) (out' work' : List ℕ) wher
   room_says s = ⊎_elim
       (λ (h : link_room ≤ length bytes). full-says bytes h out work r out' work' s)
       (λ (h : length bytes < link_room). rw (take_all link_room bytes (omega arith)) at s)
-      (le-or-lt link_room (length bytes))
+      (le_or_lt link_room (length bytes))
 
   pub says-room : JobSays bytes out work r out' work' → JobSays (take link_room bytes) out work r out' work'
   says-room s = ⊎_elim
       (λ (h : link_room ≤ length bytes). says-full bytes h out work r out' work' s)
       (λ (h : length bytes < link_room). rw (take_all link_room bytes (omega arith)) s)
-      (le-or-lt link_room (length bytes))
+      (le_or_lt link_room (length bytes))
 
 -- ---- begin and parts
 
@@ -136,7 +136,7 @@ record Coming (bytes link : List ℕ) : Type 0 where
 module _ (link : List ℕ) (h : link_bytes ≤ length link) (r : Linked) (link' : List ℕ) where
   begin-comes : LinkBeginSays link r link' → (r ≡ Taken) × Coming [] link'
   begin-comes p =
-      let z = is-long link h in
+      let z = is_long link h in
       let m : link' ≡ under_way [] ++ drop (length (under_way [])) link = rw z at p.memory in
       (rw z at p.answer, record { taking = rw m (held_open [] link (omega arith) h); came = rw m (held-came [] link (omega arith) h) })
 

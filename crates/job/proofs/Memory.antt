@@ -15,7 +15,7 @@ use Rattle.lists.specs.Bytes.{little, bytes_of}
 use Rattle.lists.proofs.Bytes.{bytes-length, little-bytes}
 use Rattle.lists.proofs.Answers.{written-long}
 use Rattle.lists.proofs.Parts.{take_min}
-use Rattle.lists.proofs.Refusals.{or-none}
+use Rattle.lists.proofs.Refusals.{or_none}
 use Rattle.lists.proofs.Regions.{lent_stored}
 use Rattle.duration.proofs.Refusals.{cond-none}
 use Rattle.job.specs.Link.{head_bytes, link_room, link_bytes, idle, under_way, stage_of, has_ended, came_in, begin_refusal, link_refusal}
@@ -27,14 +27,14 @@ pub long-enough : (link : List ℕ) → begin_refusal link ≡ 0 → link_bytes 
 unfolding begin_refusal
 long-enough link z = ltb-false (length link) link_bytes (cond-none (ltb (length link) link_bytes) 5 0 z).0
 
-pub is-long : (link : List ℕ) → link_bytes ≤ length link → begin_refusal link ≡ 0
+pub is_long : (link : List ℕ) → link_bytes ≤ length link → begin_refusal link ≡ 0
 unfolding begin_refusal
-is-long link h = rw (le-ltb (length link) link_bytes h)
+is_long link h = rw (le-ltb (length link) link_bytes h)
 
 module _ (link : List ℕ) (z : link_refusal link ≡ 0) where
   open_parts : (has_ended link ≡ false) × (begin_refusal link ≡ 0)
   unfolding link_refusal
-  open_parts = let n = or-none (cond (has_ended link) 11 0) (begin_refusal link) z in ((cond-none (has_ended link) 10 0 n.0).0, n.1)
+  open_parts = let n = or_none (cond (has_ended link) 11 0) (begin_refusal link) z in ((cond-none (has_ended link) 10 0 n.0).0, n.1)
 
   pub is_open : has_ended link ≡ false
   is_open = open_parts.0
@@ -73,20 +73,20 @@ module _ (b link : List ℕ) (few : length b ≤ link_room) (long : link_bytes �
   unfolding under_way
   front_long = length-append (bytes_of head_bytes number) b ∙ ap (λ (n : ℕ). n + length b) (bytes-length head_bytes number)
 
-  held-is : held ≡ bytes_of head_bytes number ++ (b ++ rest)
+  held_is : held ≡ bytes_of head_bytes number ++ (b ++ rest)
   unfolding under_way
-  held-is = append_assoc (bytes_of head_bytes number) b rest
+  held_is = append_assoc (bytes_of head_bytes number) b rest
 
   pub held-long : length held ≡ length link
   held-long = written-long 0 (under_way b) link (omega (arith, front_long))
 
   held_stage : stage_of held ≡ number
-  held_stage = ap little (ap (take head_bytes) held-is ∙ take_at (bytes_of head_bytes number) (b ++ rest) head_bytes (bytes-length head_bytes number)) ∙ little-bytes head_bytes number (omega arith)
+  held_stage = ap little (ap (take head_bytes) held_is ∙ take_at (bytes_of head_bytes number) (b ++ rest) head_bytes (bytes-length head_bytes number)) ∙ little-bytes head_bytes number (omega arith)
 
   pub held-came : came_in held ≡ b
   unfolding came_in
   held-came =
-      let d : drop head_bytes held ≡ b ++ rest = ap (drop head_bytes) held-is ∙ drop_at (bytes_of head_bytes number) (b ++ rest) head_bytes (bytes-length head_bytes number) in
+      let d : drop head_bytes held ≡ b ++ rest = ap (drop head_bytes) held_is ∙ drop_at (bytes_of head_bytes number) (b ++ rest) head_bytes (bytes-length head_bytes number) in
       let n : stage_of held - 1 ≡ length b = omega (arith, held_stage) in
       rw (n, d) (take_at b rest (length b) refl)
 
@@ -95,7 +95,7 @@ module _ (b link : List ℕ) (few : length b ≤ link_room) (long : link_bytes �
   held_open =
       let n : number ≡ 0 → ⊥ = λ e. omega arith in
       let g : link_bytes ≤ length held = omega (arith, held-long) in
-      rw (held_stage, ne_eqb number 0 n, le-ltb (link_room + 1) number (omega arith)) (is-long held g)
+      rw (held_stage, ne_eqb number 0 n, le-ltb (link_room + 1) number (omega arith)) (is_long held g)
 
 -- ---- a memory in which a job has ended
 
@@ -111,7 +111,7 @@ ended_11 link e = rw e
 -- and where none has, in a memory that is long enough, they are taken
 pub open_0 : (link : List ℕ) → has_ended link ≡ false → link_bytes ≤ length link → link_refusal link ≡ 0
 unfolding link_refusal
-open_0 link e h = rw e (is-long link h)
+open_0 link e h = rw e (is_long link h)
 
 -- ---- what the calls store
 
@@ -139,9 +139,9 @@ module _ (link bytes : List ℕ) (z : link_refusal link ≡ 0) (came more : ℕ)
   more-long : length (take more bytes) ≡ more
   more-long = length-take-le more bytes (omega arith)
 
-  front-is : drop head_bytes (take (head_bytes + came) link) ≡ came_in link
+  front_is : drop head_bytes (take (head_bytes + came) link) ≡ came_in link
   unfolding came_in
-  front-is = ap (drop head_bytes) (take-add head_bytes came link) ∙ drop_at (take head_bytes link) (take came (drop head_bytes link)) head_bytes (length-take-le head_bytes link (omega (arith, open_long link z))) ∙ rw e
+  front_is = ap (drop head_bytes) (take-add head_bytes came link) ∙ drop_at (take head_bytes link) (take came (drop head_bytes link)) head_bytes (length-take-le head_bytes link (omega (arith, open_long link z))) ∙ rw e
 
   abbrev kept : List ℕ
   kept = came_in link ++ take more bytes
@@ -153,9 +153,9 @@ module _ (link bytes : List ℕ) (z : link_refusal link ≡ 0) (came more : ℕ)
   abbrev behind : List ℕ
   behind = drop (head_bytes + came + length (take more bytes)) link
 
-  kept-is : written 0 (under_way joined) link ≡ bytes_of head_bytes (came + more + 1) ++ (came_in link ++ (take more bytes ++ behind))
+  kept_is : written 0 (under_way joined) link ≡ bytes_of head_bytes (came + more + 1) ++ (came_in link ++ (take more bytes ++ behind))
   unfolding under_way
-  kept-is =
+  kept_is =
       let f : length (under_way kept) ≡ head_bytes + came + length (take more bytes) = omega (arith, length-append (bytes_of head_bytes (length kept + 1)) kept, bytes-length head_bytes (length kept + 1), kept-long, more-long) in
       ap (λ (b : List ℕ). written 0 (under_way b) link) joined_is
       ∙ ap (λ (k : ℕ). under_way kept ++ drop k link) f
@@ -174,5 +174,5 @@ module _ (link bytes : List ℕ) (z : link_refusal link ≡ 0) (came more : ℕ)
       let p : put_mid (head_bytes + came) (length link - (head_bytes + came)) link w ≡ m = lent_stored (head_bytes + came) (length link) link w (take more bytes) (omega arith) (omega arith) (omega arith) q ∙ sets-eq (take more bytes) link (head_bytes + came) b ∙ append_assoc (take (head_bytes + came) link) (take more bytes) behind in
       let t : length (take (head_bytes + came) link) ≡ head_bytes + came = length-take-le (head_bytes + came) link (omega arith) in
       let k : link_bytes ≤ length m = simp (length-append, length-drop) (omega (arith, t)) in
-      let d : drop head_bytes m ≡ came_in link ++ (take more bytes ++ behind) = drop-append-le head_bytes (take (head_bytes + came) link) (take more bytes ++ behind) (omega (arith, t)) ∙ ap (λ (x : List ℕ). x ++ (take more bytes ++ behind)) front-is in
-      ap (λ (x : List ℕ). sets x 0 (bytes_of head_bytes (came + more + 1))) p ∙ numbered (came + more + 1) m k ∙ ap (λ (x : List ℕ). bytes_of head_bytes (came + more + 1) ++ x) d ∙ sym kept-is
+      let d : drop head_bytes m ≡ came_in link ++ (take more bytes ++ behind) = drop-append-le head_bytes (take (head_bytes + came) link) (take more bytes ++ behind) (omega (arith, t)) ∙ ap (λ (x : List ℕ). x ++ (take more bytes ++ behind)) front_is in
+      ap (λ (x : List ℕ). sets x 0 (bytes_of head_bytes (came + more + 1))) p ∙ numbered (came + more + 1) m k ∙ ap (λ (x : List ℕ). bytes_of head_bytes (came + more + 1) ++ x) d ∙ sym kept_is

@@ -13,7 +13,7 @@ use Rattle.lists.specs.Answers.{Answer, given, answer_of}
 use Rattle.lists.specs.Bytes.{starts_with}
 use Rattle.lists.specs.Refusals.{or_else}
 use Rattle.lists.specs.Totals.{total}
-use Rattle.lists.proofs.Fronts.{starts_is, is-starts}
+use Rattle.lists.proofs.Fronts.{starts_is, is_starts}
 use Rattle.duration.specs.Promise.{work_of, Answers, Says}
 use Rattle.job.specs.declared.Damage.{Damage}
 use Rattle.job.specs.declared.Damage.TheVariants.{Mark, Version, Count, Length}
@@ -33,7 +33,7 @@ use Rattle.job.proofs.Telling.{job-none}
 job-accepted : (bytes : List ℕ) → IsJob bytes → format_refusal bytes ≡ 0
 unfolding format_refusal
 job-accepted bytes j =
-    rw (is-starts mark bytes j.marked, j.versioned, le-ltb most_job_states (count_of bytes) j.few, eq-eqb (length bytes) (whole_of bytes) j.whole)
+    rw (is_starts mark bytes j.marked, j.versioned, le-ltb most_job_states (count_of bytes) j.few, eq-eqb (length bytes) (whole_of bytes) j.whole)
 
 passed : (b : Bool) (k : ℕ) → ◌≡◌ {A = ℕ} (cond b 9 k) 0 → (b ≡ false) × (k ≡ 0)
 passed true k e = absurd (omega arith)

@@ -9,7 +9,7 @@ use lib.ListN.{length, take}
 use Rattle.duration.specs.declared.Fitted.{Fitted}
 use Rattle.duration.specs.Promise.{fitted, SpeedSays}
 use Rattle.lists.specs.Answers.{accepting, refusing_at, answer_of}
-use Rattle.lists.proofs.Answers.{Same, same, accepted-is}
+use Rattle.lists.proofs.Answers.{Same, same, accepted_is}
 use Rattle.job.specs.declared.Damage.{Damage}
 use Rattle.job.specs.declared.Damage.TheVariants.{Mark, Version, Count, Length}
 use Rattle.job.specs.declared.finding.Found.{Found}
@@ -72,7 +72,7 @@ told-found zero (Wrong w p) q values what at e =
     rw (damage_one what w (same e).0, z)
 
 accepted-found : (k : ℕ) (f : Found) (q : ℕ) (values xs : List ℕ) → accepting xs ≡ behind k (unless_found f (answer_of q values)) → (k ≡ 0) × (f ≡ Sound) × (q ≡ 0) × (xs ≡ values)
-accepted-found zero Sound q values xs e = let p = accepted-is (accepting xs) q values e refl in (refl, refl, p.0, p.1)
+accepted-found zero Sound q values xs e = let p = accepted_is (accepting xs) q values e refl in (refl, refl, p.0, p.1)
 accepted-found zero (Wrong w p) q values xs e = absurd (let u = (same e).2 in let z : ◌≡◌ {A = ℕ} 0 1 = cc in omega arith)
 accepted-found (suc k) f q values xs e = absurd (omega (arith, (same e).0))
 

@@ -13,7 +13,7 @@ use borrow.Author.Tests.{ne_eqb}
 use Rattle.lists.specs.Sizes.{most_job_states}
 use Rattle.lists.specs.Bytes.{little, alike, Bytes, word_at}
 use Rattle.lists.proofs.Numbers.{by_place}
-use Rattle.lists.proofs.Fronts.{alike_is, is-alike, alike-still, part_same}
+use Rattle.lists.proofs.Fronts.{alike_is, is_alike, alike-still, part_same}
 use Rattle.job.specs.declared.Damage.{Damage}
 use Rattle.job.specs.declared.finding.Found.{Found}
 use Rattle.job.specs.declared.finding.Found.TheVariants.{Sound, Wrong}
@@ -138,8 +138,8 @@ module _ (bytes : List ℕ) where
       (λ q. front-begins bytes 3 (omega arith) (omega arith))
       refl
 
-  in_count-begins : (n : ℕ) → n ≡ length bytes → 3 ≤ alike mark bytes → is_known (version_of bytes) ≡ true → 5 ≤ n → n < 7 → Begins (take (looked_to n) bytes)
-  in_count-begins n e m v l g = by_place
+  in_count_begins : (n : ℕ) → n ≡ length bytes → 3 ≤ alike mark bytes → is_known (version_of bytes) ≡ true → 5 ≤ n → n < 7 → Begins (take (looked_to n) bytes)
+  in_count_begins n e m v l g = by_place
       6
       (λ (k : ℕ). k ≡ n → Begins (take (looked_to k) bytes))
       n
@@ -151,7 +151,7 @@ module _ (bytes : List ℕ) where
   none-marked h g b =
       let front : List ℕ = take (suc (alike mark bytes)) bytes ++ b.rest in
       let j : IsJob front = rw add-one at b.job in
-      omega (arith, is-alike mark front j.marked, alike-still mark bytes b.rest h g)
+      omega (arith, is_alike mark front j.marked, alike-still mark bytes b.rest h g)
 
   none_as_long : (p : ℕ) → 7 ≤ p → p < length bytes → p ≡ whole_of bytes → Begins (take (p + 1) bytes) → ⊥
   none_as_long p l i e b = omega (arith, b.job.whole, like-long bytes b.rest (p + 1) (omega arith), like-whole bytes b.rest (p + 1) (omega arith) (omega arith))
@@ -182,7 +182,7 @@ module _ (bytes : List ℕ) where
   way-right f (ends_in_count m v l g) =
       record {
         within = omega arith;
-        before = in_count-begins (length bytes) refl m v l g;
+        before = in_count_begins (length bytes) refl m v l g;
         there = λ i b. omega arith;
         ends = λ e j. omega (arith, j.whole);
       }

@@ -15,10 +15,10 @@ use borrow.Author.Tests.{eq-eqb}
 use Rattle.lists.specs.Build.{build}
 use Rattle.floats.specs.Numbers.{Held}
 use Rattle.lists.specs.Bytes.{little, bytes_of, Bytes, word_at, pattern_at}
-use Rattle.lists.proofs.Builds.{build-first, build-at, build-is}
+use Rattle.lists.proofs.Builds.{build-first, build-at, build_is}
 use Rattle.lists.proofs.Bytes.{little-bytes}
 use Rattle.lists.proofs.Fills.{build-length}
-use Rattle.lists.proofs.Numbers.{le-or-lt}
+use Rattle.lists.proofs.Numbers.{le_or_lt}
 use Rattle.lists.proofs.Spelled.{part-spelled, part-below, some_below}
 use Rattle.floats.proofs.Patterns.{bits_back, bits_only}
 use Rattle.job.specs.declared.finding.Found.TheVariants.{Sound}
@@ -48,11 +48,11 @@ states-before version f g s rest (suc n) h =
 abbrev short_of : ℕ → List ℕ → ℕ → ℕ
 short_of version bytes i = cond (eqb version 1) 1 (number_at bytes (31 + 20 * i))
 
-shortest-is : (version : ℕ) (bytes : List ℕ) (n : ℕ) → shortest_at version bytes n ≡ build (short_of version bytes) n
+shortest_is : (version : ℕ) (bytes : List ℕ) (n : ℕ) → shortest_at version bytes n ≡ build (short_of version bytes) n
 unfolding numbers_behind
-shortest-is version bytes n =
+shortest_is version bytes n =
     (elim (eqb version 1) as (λ t. cond t (replicate n 1) (numbers_behind bytes n) ≡ build (λ (i : ℕ). cond t 1 (number_at bytes (31 + 20 * i))) n) [
-      | true ↦ build-is (λ (i : ℕ). 1) n (replicate n 1) 0 (length-replicate n 1) (λ i h. get_or-replicate n i 1 0 h)
+      | true ↦ build_is (λ (i : ℕ). 1) n (replicate n 1) 0 (length-replicate n 1) (λ i h. get_or-replicate n i 1 0 h)
       | false ↦ refl
     ])
 
@@ -117,7 +117,7 @@ module _ (bytes : List ℕ) (j : IsJob bytes) (p : Plain bytes) where
   unfolding floats_at
   states_are =
       let z : 15 + step * 0 ≡ 15 = rw (mul-zero step) in
-      rw (shortest-is version bytes n) (states-before version (λ (i : ℕ). float_at bytes (15 + step * i)) (λ (i : ℕ). float_at bytes (23 + step * i)) (short_of version bytes) (λ (i : ℕ). drop (15 + step * i) bytes) n state-before)
+      rw (shortest_is version bytes n) (states-before version (λ (i : ℕ). float_at bytes (15 + step * i)) (λ (i : ℕ). float_at bytes (23 + step * i)) (short_of version bytes) (λ (i : ℕ). drop (15 + step * i) bytes) n state-before)
       ∙ ap (λ (k : ℕ). drop k bytes) z
 
   none_left : drop (15 + step * n) bytes ≡ []
@@ -161,7 +161,7 @@ unfolding fits
 floats-fit bytes at step n i = ⊎_elim
     (λ (g : n ≤ i). let l : length (floats_at bytes at step n) ≤ i = omega (arith, floats-long bytes at step n) in rw (get_or-eq_default (floats_at bytes at step n) nan l) tt)
     (λ (g : i < n). rw (floats_at_lem bytes at step n i g) (of_bits-fits binary64 (pattern_at bytes (at + step * i))))
-    (le-or-lt n i)
+    (le_or_lt n i)
 
 numbers_fit : (bytes : List ℕ) → Bytes bytes → (n i : ℕ) → get_or (numbers_behind bytes n) i 0 < 2 ^ 32
 unfolding numbers_behind
@@ -170,7 +170,7 @@ numbers_fit bytes b n i =
     ⊎_elim
     (λ (g : n ≤ i). let l : length (build f n) ≤ i = omega (arith, build-length f n) in rw (get_or-eq_default (build f n) 0 l) (omega arith))
     (λ (g : i < n). rw (build-at f n i 0 g) (some_below bytes b (31 + 20 * i) 4))
-    (le-or-lt n i)
+    (le_or_lt n i)
 
 module _ (bytes : List ℕ) (b : Bytes bytes) (j : IsJob bytes) where
   abbrev count : ℕ

@@ -47,9 +47,9 @@ cond-none : (b : Bool) (k l : ℕ) → is_damage k ≡ false → is_damage l ≡
 cond-none true k l h g = h
 cond-none false k l h g = g
 
-or-none : (k l : ℕ) → is_damage k ≡ false → is_damage l ≡ false → is_damage (or_else k l) ≡ false
-or-none zero l h g = g
-or-none (suc k) l h g = h
+or_none : (k l : ℕ) → is_damage k ≡ false → is_damage l ≡ false → is_damage (or_else k l) ≡ false
+or_none zero l h g = g
+or_none (suc k) l h g = h
 
 lists-none : (n v l o w : ℕ) → is_damage (refusal_of_lists n v l o w) ≡ false
 unfolding refusal_of_lists
@@ -60,9 +60,9 @@ lists-none n v l o w =
     (cond-none (ltb o n) 6 _ refl
     (cond-none (ltb w n) 6 _ refl refl))))
 
-shortest-none : (ls : List ℕ) → is_damage (refusal_of_shortest ls) ≡ false
+shortest_none : (ls : List ℕ) → is_damage (refusal_of_shortest ls) ≡ false
 unfolding refusal_of_shortest
-shortest-none ls = cond-none (unfit ls) 15 0 refl refl
+shortest_none ls = cond-none (unfit ls) 15 0 refl refl
 
 speed-none : (ss : States) (speed : Float) → is_damage (refusal_at ss speed) ≡ false
 unfolding refusal_at refusal_to
@@ -78,8 +78,8 @@ speed-none ss speed =
 pub job-none : (j : Job) (out work : List ℕ) → is_damage (job_refusal j out work) ≡ false
 job-none j out work =
     let ls = j.shortest in
-    or-none (early_refusal (job_states j) out work) _
-    (or-none (refusal_of_lists (length j.means) (length j.varis) (length ls) (length out) (length work)) (refusal_of_shortest ls) (lists-none _ _ _ _ _) (shortest-none ls))
+    or_none (early_refusal (job_states j) out work) _
+    (or_none (refusal_of_lists (length j.means) (length j.varis) (length ls) (length out) (length work)) (refusal_of_shortest ls) (lists-none _ _ _ _ _) (shortest_none ls))
     (speed-none (job_states j) j.speed)
 
 link_number : (a b : Bool) → is_damage (or_else (cond a 11 0) (cond b 6 0)) ≡ false

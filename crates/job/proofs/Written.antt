@@ -13,7 +13,7 @@ use borrow.Author.Tests.{eqb-true}
 use Rattle.lists.specs.Bytes.{little, bytes_of, Bytes}
 use Rattle.lists.proofs.Bytes.{bytes-length, little-bytes}
 use Rattle.lists.proofs.Spelled.{bytes-append, bytes_of_lem}
-use Rattle.lists.proofs.Builds.{build-is}
+use Rattle.lists.proofs.Builds.{build_is}
 use Rattle.floats.proofs.Fields.{bytes_back}
 use Rattle.job.specs.declared.finding.Found.TheVariants.{Sound}
 use Rattle.job.specs.Format.{float_at, number_at, floats_at, mark, version_of, is_known, count_of, state_bytes, IsJob, Job, numbers_behind, shortest_at, job_of}
@@ -156,15 +156,15 @@ module _ (version : ℕ) (j : Job) (w : Writable version j) where
 
   means-back : floats_at file 15 step n ≡ j.means
   unfolding floats_at
-  means-back = sym (build-is (λ (i : ℕ). float_at file (15 + step * i)) n j.means nan refl (λ i h. sym (mean-back i h)))
+  means-back = sym (build_is (λ (i : ℕ). float_at file (15 + step * i)) n j.means nan refl (λ i h. sym (mean-back i h)))
 
   varis-back : floats_at file 23 step n ≡ j.varis
   unfolding floats_at
-  varis-back = sym (build-is (λ (i : ℕ). float_at file (23 + step * i)) n j.varis nan w.agree.0 (λ i h. sym (vari-back i h)))
+  varis-back = sym (build_is (λ (i : ℕ). float_at file (23 + step * i)) n j.varis nan w.agree.0 (λ i h. sym (vari-back i h)))
 
   numbers-back : eqb version 1 ≡ false → numbers_behind file n ≡ j.shortest
   unfolding numbers_behind
-  numbers-back q = sym (build-is (λ (i : ℕ). number_at file (31 + 20 * i)) n j.shortest 0 w.agree.1 (λ i h. sym (number-back i h q)))
+  numbers-back q = sym (build_is (λ (i : ℕ). number_at file (31 + 20 * i)) n j.shortest 0 w.agree.1 (λ i h. sym (number-back i h q)))
 
   shortest-back : shortest_at version file n ≡ j.shortest
   shortest-back =

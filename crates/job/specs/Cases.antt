@@ -57,9 +57,9 @@ unfolding bytes_of_job bytes_of_heading bytes_of_states bytes_of to_bits of_bits
 worked-bytes = (refl, refl)
 
 -- RULES, Job file: version 1 is read with ones, and a shortest with its least byte first
-pub worked-read : (job_of bytes ≡ worked (1 ∷ 1 ∷ [])) × (job_of bytes2 ≡ worked (5 ∷ 1 ∷ [])) × ((job_of (set (set bytes2 34 1) 52 4)).shortest ≡ 16777221 ∷ 1025 ∷ [])
+pub worked_read : (job_of bytes ≡ worked (1 ∷ 1 ∷ [])) × (job_of bytes2 ≡ worked (5 ∷ 1 ∷ [])) × ((job_of (set (set bytes2 34 1) 52 4)).shortest ≡ 16777221 ∷ 1025 ∷ [])
 unfolding floats_at numbers_behind build little of_bits of_int
-worked-read = (refl, refl, refl)
+worked_read = (refl, refl, refl)
 
 -- an output and a work space of three numbers
 abbrev pub sevens : List ℕ
@@ -69,9 +69,9 @@ abbrev pub nines : List ℕ
 nines = 9 ∷ 9 ∷ 9 ∷ []
 
 -- RULES, Job file: it comes to 2 states and 10 frames after 1 change: 4 and 6
-pub worked-job : JobSays bytes sevens nines (Done 2 10 1) (4 ∷ 6 ∷ 7 ∷ []) (0 ∷ 0 ∷ 9 ∷ [])
+pub worked_job : JobSays bytes sevens nines (Done 2 10 1) (4 ∷ 6 ∷ 7 ∷ []) (0 ∷ 0 ∷ 9 ∷ [])
 unfolding damage_of alike little floats_at build work_of any_none refusal_of_shortest refusal_of_lists refusal_at fit_at naturals target_at refusal_to fit_to settle step keys key_of least_of cost_below abs_of total start_of estimates rounded_of sum_of fold_from pairs_of of_bits of_int add sub mul div lt eq is_nan
-worked-job = record { answer = refl; output = refl; workspace = refl }
+worked_job = record { answer = refl; output = refl; workspace = refl }
 
 -- so does version 2 where its shortest are ones
 pub worked_job_2 : JobSays (set bytes2 31 1) sevens nines (Done 2 10 1) (4 ∷ 6 ∷ 7 ∷ []) (0 ∷ 0 ∷ 9 ∷ [])
@@ -79,10 +79,10 @@ unfolding damage_of alike little floats_at numbers_behind build work_of any_none
 worked_job_2 = record { answer = refl; output = refl; workspace = refl }
 
 -- with its shortest, 5 and 1, the natural durations are 5 and 3, and half the speed asks for 16 frames; at speed 2 there are 4, which the shortest are above
-pub worked-shortest :
+pub worked_shortest :
     JobSays bytes2 sevens nines (Done 2 16 1) (7 ∷ 9 ∷ 7 ∷ []) (0 ∷ 0 ∷ 9 ∷ []) × JobSays (set (set bytes2 13 0) 14 64) sevens nines (Done 2 6 0) (5 ∷ 1 ∷ 7 ∷ []) (0 ∷ 0 ∷ 9 ∷ [])
 unfolding damage_of alike little floats_at numbers_behind build work_of any_none refusal_of_shortest refusal_of_lists refusal_at fit_at naturals target_at refusal_to fit_to settle step keys key_of least_of cost_below abs_of total start_of estimates rounded_of sum_of fold_from pairs_of of_bits of_int add sub mul div lt eq is_nan
-worked-shortest = (record { answer = refl; output = refl; workspace = refl }, record { answer = refl; output = refl; workspace = refl })
+worked_shortest = (record { answer = refl; output = refl; workspace = refl }, record { answer = refl; output = refl; workspace = refl })
 
 -- RULES, Refusals: a shortest of 0 is 15, and the work space is as it was
 pub worked-unfit : JobSays (set bytes2 31 0) sevens nines (Refused 15) sevens nines
@@ -90,9 +90,9 @@ unfolding damage_of alike little floats_at numbers_behind build work_of any_none
 worked-unfit = record { answer = refl; output = refl; workspace = refl }
 
 -- room for one number where the job has two states
-pub worked-no-room : JobSays bytes (7 ∷ []) nines (Refused 6) (7 ∷ []) nines
+pub worked_no_room : JobSays bytes (7 ∷ []) nines (Refused 6) (7 ∷ []) nines
 unfolding damage_of alike little floats_at build work_of any_none refusal_of_shortest refusal_of_lists
-worked-no-room = record { answer = refl; output = refl; workspace = refl }
+worked_no_room = record { answer = refl; output = refl; workspace = refl }
 
 -- RULES, Job file: the third letter is another; nothing but the number and the place is told
 pub wrong_letter : JobSays (set bytes 2 75) sevens nines (Damaged Mark 2) sevens nines
@@ -105,10 +105,10 @@ unfolding damage_of alike little work_of
 wrong_letter_no_room = record { answer = refl; output = refl; workspace = refl }
 
 -- RULES, Job file: of two wrong letters the first is told, and a wrong letter before a wrong version, that before a wrong count, that before a wrong length
-pub first-by_place :
+pub first_by_place :
     (damage_of (set (set bytes 2 75) 0 88) ≡ Wrong Mark 0) × (damage_of (set (set bytes 3 3) 1 81) ≡ Wrong Mark 1) × (damage_of (set (set bytes 6 9) 4 1) ≡ Wrong Version 3) × (damage_of (set (take 46 bytes) 6 9) ≡ Wrong Count 5)
 unfolding damage_of alike little
-first-by_place = (refl, refl, refl, refl)
+first_by_place = (refl, refl, refl, refl)
 
 -- RULES, Job file: a byte too few, a state too few, a byte too many, a state too many
 pub wrong_length : (damage_of (take 46 bytes) ≡ Wrong Length 46) × (damage_of (set bytes 5 3) ≡ Wrong Length 47) × (damage_of (bytes ++ (0 ∷ [])) ≡ Wrong Length 47) × (damage_of (set bytes 5 1) ≡ Wrong Length 31)
@@ -145,9 +145,9 @@ unfolding damage_of alike little
 short_in_version = (refl, refl, refl, refl, refl)
 
 -- RULES, Job file: one byte of a number of states; 1,025 states, and 1,024, and nothing more
-pub short-in_count : (damage_of (SPJ (1 ∷ 0 ∷ 255 ∷ [])) ≡ Wrong Length 6) × (damage_of (SPJ (1 ∷ 0 ∷ 1 ∷ 4 ∷ [])) ≡ Wrong Count 5) × (damage_of (SPJ (1 ∷ 0 ∷ 0 ∷ 4 ∷ [])) ≡ Wrong Length 7)
+pub short_in_count : (damage_of (SPJ (1 ∷ 0 ∷ 255 ∷ [])) ≡ Wrong Length 6) × (damage_of (SPJ (1 ∷ 0 ∷ 1 ∷ 4 ∷ [])) ≡ Wrong Count 5) × (damage_of (SPJ (1 ∷ 0 ∷ 0 ∷ 4 ∷ [])) ≡ Wrong Length 7)
 unfolding damage_of alike little
-short-in_count = (refl, refl, refl)
+short_in_count = (refl, refl, refl)
 
 -- RULES, Job file: the number of each damage, with its place and nothing else
 pub numbers : (answered (Damaged Mark 1) ≡ refusing_at 12 1) × (answered (Damaged Version 3) ≡ refusing_at 13 3) × (answered (Damaged Count 5) ≡ refusing_at 14 5) × (answered (Damaged Length 46) ≡ refusing_at 9 46)

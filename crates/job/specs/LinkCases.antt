@@ -65,13 +65,13 @@ pub nothing-under_way : (link_refusal (holding idle) ≡ 11) × (link_refusal (r
 unfolding under_way has_ended came_in begin_refusal link_refusal little bytes_of
 nothing-under_way = (refl, refl, refl, refl)
 
-pub part-after-end : LinkPartSays (holding idle) bytes (Linked-as-Refused 11) (holding idle)
+pub part_after_end : LinkPartSays (holding idle) bytes (Linked-as-Refused 11) (holding idle)
 unfolding under_way has_ended came_in begin_refusal link_refusal little bytes_of
-part-after-end = record { answer = refl; memory = refl }
+part_after_end = record { answer = refl; memory = refl }
 
-pub end-after-end : LinkEndSays (holding idle) sevens nines (Refused 11) (holding idle) sevens nines
+pub end_after_end : LinkEndSays (holding idle) sevens nines (Refused 11) (holding idle) sevens nines
 unfolding under_way has_ended came_in begin_refusal link_refusal little bytes_of work_of
-end-after-end = record { job = record { answer = refl; output = refl; workspace = refl }; memory = refl }
+end_after_end = record { job = record { answer = refl; output = refl; workspace = refl }; memory = refl }
 
 -- RULES, Serial link: the numbers 1 and 20,497 are of a job that is under way, 0 and 20,498 of none
 abbrev numbered : ℕ → List ℕ

@@ -12,7 +12,7 @@ use Rattle.job.specs.Format.{mark, version_of, is_known, count_of, whole_of, job
 use Rattle.job.specs.Damage.{damage_number, old_number}
 use Rattle.job.specs.Promise.{job_fit, job_refusal}
 
--- every departure from the format was 9 (`starts_with` is said by `alike` since, and `lists/Fronts.starts_is` and `is-starts` say what it is)
+-- every departure from the format was 9 (`starts_with` is said by `alike` since, and `lists/Fronts.starts_is` and `is_starts` say what it is)
 unfoldable pub format_refusal : List ℕ → ℕ
 format_refusal bytes =
     cond (not (starts_with mark bytes)) 9

@@ -58,11 +58,11 @@ written-long zero new old h = length-append new (drop (length new) old) ∙ simp
 written-long (suc q) new old h = refl
 
 -- an answer without a value is a refusal
-pub refused-is : (m k v : ℕ) (vs : List ℕ) → refusing m ≡ answer_of k (v ∷ vs) → (k ≡ m) × (k ≡ 0 → ⊥)
-refused-is m zero v vs e = absurd (let q : ◌≡◌ {A = List ℕ} [] (v ∷ vs) = (same e).1 in let z : ◌≡◌ {A = ℕ} 0 1 = cc in omega arith)
-refused-is m (suc k) v vs e = (sym (same e).0, λ q. omega arith)
+pub refused_is : (m k v : ℕ) (vs : List ℕ) → refusing m ≡ answer_of k (v ∷ vs) → (k ≡ m) × (k ≡ 0 → ⊥)
+refused_is m zero v vs e = absurd (let q : ◌≡◌ {A = List ℕ} [] (v ∷ vs) = (same e).1 in let z : ◌≡◌ {A = ℕ} 0 1 = cc in omega arith)
+refused_is m (suc k) v vs e = (sym (same e).0, λ q. omega arith)
 
 -- and one with the number 0 is none
-pub accepted-is : (a : Answer) (k : ℕ) (vs : List ℕ) → a ≡ answer_of k vs → a.number ≡ 0 → (k ≡ 0) × (a.values ≡ vs)
-accepted-is a zero vs e z = (refl, (same e).1)
-accepted-is a (suc k) vs e z = absurd (let n : a.number ≡ suc k = (same e).0 in omega arith)
+pub accepted_is : (a : Answer) (k : ℕ) (vs : List ℕ) → a ≡ answer_of k vs → a.number ≡ 0 → (k ≡ 0) × (a.values ≡ vs)
+accepted_is a zero vs e z = (refl, (same e).1)
+accepted_is a (suc k) vs e z = absurd (let n : a.number ≡ suc k = (same e).0 in omega arith)

@@ -12,8 +12,8 @@ use Rattle.lists.specs.Build.{build, fold_from}
 use Rattle.lists.specs.Parts.{part}
 use Rattle.lists.specs.Totals.{total}
 use Rattle.lists.proofs.Fills.{build-length}
-use Rattle.lists.proofs.Numbers.{le-or-lt}
-use Rattle.lists.proofs.Parts.{part-is}
+use Rattle.lists.proofs.Numbers.{le_or_lt}
+use Rattle.lists.proofs.Parts.{part_is}
 use Rattle.lists.proofs.Rows.{row_in}
 use Rattle.lists.proofs.Sums.{total-append}
 
@@ -24,11 +24,11 @@ module _ {A : Type 0} (f : ℕ → A) where
   build-at (suc n) j z h = ⊎_elim
       (λ (l : n ≤ j). let e : j ≡ n = omega arith in rw e (get_or_at (build f n) (f n) [] z n (build-length f n)))
       (λ (l : j < n). get_or-append (build f n) (f n ∷ []) z j (rw (build-length f n) l) ∙ build-at n j z l)
-      (le-or-lt n j)
+      (le_or_lt n j)
 
   -- a list with these elements
-  pub build-is : (n : ℕ) (l : List A) (z : A) → length l ≡ n → ((j : ℕ) → j < n → get_or l j z ≡ f j) → l ≡ build f n
-  build-is n l z e h = ext_get_or z l (build f n) (e ∙ sym (build-length f n)) (λ j b. let q : j < n = omega arith in h j q ∙ sym (build-at n j z q))
+  pub build_is : (n : ℕ) (l : List A) (z : A) → length l ≡ n → ((j : ℕ) → j < n → get_or l j z ≡ f j) → l ≡ build f n
+  build_is n l z e h = ext_get_or z l (build f n) (e ∙ sym (build-length f n)) (λ j b. let q : j < n = omega arith in h j q ∙ sym (build-at n j z q))
 
   pub build-same : (g : ℕ → A) (n : ℕ) → ((j : ℕ) → j < n → f j ≡ g j) → build f n ≡ build g n
   unfolding build
@@ -39,13 +39,13 @@ module _ {A : Type 0} (f : ℕ → A) where
   pub build-rest : (d : List A) (m : ℕ) (z : A) → m ≤ length d → ((j : ℕ) → m ≤ j → j < length d → get_or d j z ≡ f j) → build f m ++ drop m d ≡ build f (length d)
   build-rest d m z l h =
       let front : length (build f m) ≡ m = build-length f m in
-      build-is (length d) (build f m ++ drop m d) z (simp (length-append, length-drop) (omega (arith, front)))
+      build_is (length d) (build f m ++ drop m d) z (simp (length-append, length-drop) (omega (arith, front)))
       (λ j b. ⊎_elim
       (λ (g : m ≤ j). let e : j ≡ length (build f m) + (j - m) = omega arith in
       let p : m + (j - m) ≡ j = omega arith in
       ap (λ (i : ℕ). get_or (build f m ++ drop m d) i z) e ∙ get_or-append-add (build f m) (drop m d) (j - m) z ∙ get_or-drop m d (j - m) z ∙ rw p (h j g b))
       (λ (g : j < m). get_or-append (build f m) (drop m d) z j (omega arith) ∙ build-at m j z g)
-      (le-or-lt m j))
+      (le_or_lt m j))
 
 module _ {A : Type 0} where
   -- the first element is the rule's first
@@ -57,7 +57,7 @@ module _ {A : Type 0} where
   -- a part
   pub part-build : (f : ℕ → A) (a m n : ℕ) → a + m ≤ n → part a m (build f n) ≡ build (λ i. f (a + i)) m
   part-build f a m n h =
-      part-is a m (f 0) (build f n) (build (λ i. f (a + i)) m) (rw build-length h) (build-length (λ i. f (a + i)) m)
+      part_is a m (f 0) (build f n) (build (λ i. f (a + i)) m) (rw build-length h) (build-length (λ i. f (a + i)) m)
       (λ u b. build-at f n (a + u) (f 0) (omega arith) ∙ sym (build-at (λ i. f (a + i)) m u (f 0) b))
 
   -- items that lie row after row, v a row

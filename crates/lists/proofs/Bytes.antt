@@ -10,7 +10,7 @@ use lib.Pow.{pow-add, pow_mono}
 use lib.ListN.{length, take, drop, get_or, set, drop_of_length-le, length-take, length-drop}
 use lib.Seq.{sets, drop-cons, get_or-take, get_or-drop, length-take-le, take-nil, take_at, drop_at}
 use Rattle.lists.specs.Bytes.{little, bytes_of}
-use Rattle.lists.proofs.Numbers.{le-or-lt}
+use Rattle.lists.proofs.Numbers.{le_or_lt}
 use Rattle.lists.proofs.Parts.{take_min}
 use Rattle.lists.proofs.Stores.{sets-past}
 
@@ -136,4 +136,4 @@ module _ (whole s : List ℕ) (at width end i rest : ℕ) (k : Writing whole s a
   writing-done e h l = ⊎_elim
       (λ (g : length s ≤ i). sym (sets-past (bytes_of (at + width - i) rest) s i g) ∙ k.left)
       (λ (g : i < length s). let z : at + width - i ≡ 0 = omega arith in rw z at k.left)
-      (le-or-lt (length s) i)
+      (le_or_lt (length s) i)

@@ -14,7 +14,7 @@ use Rattle.lists.specs.Build.{build}
 use Rattle.lists.specs.Frames.{select, fill, count}
 use Rattle.lists.specs.Firsts.{first_at}
 use Rattle.lists.proofs.Counts.{count-append}
-use Rattle.lists.proofs.Numbers.{le-or-lt}
+use Rattle.lists.proofs.Numbers.{le_or_lt}
 
 module _ {A : Type 0} where
   -- within a list it doesn't matter what is read behind its end
@@ -38,7 +38,7 @@ module _ {A : Type 0} where
       let d : get_or (a ++ b) u z ≡ get_or b (u - n) z = ap (λ (i : ℕ). get_or (a ++ b) i z) (sym q) ∙ at_second a b n (u - n) z e in
       rw d (rw q at (g (u - n) (omega arith))))
       (λ (l : u < n). rw (at_first a b n u z e l) (f u l))
-      (le-or-lt n u)
+      (le_or_lt n u)
 
   pub select-append : (bs cs : List Bool) (xs ys : List A) → length xs ≡ length bs → select (bs ++ cs) (xs ++ ys) ≡ select bs xs ++ select cs ys
   unfolding select

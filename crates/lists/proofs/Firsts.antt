@@ -12,9 +12,9 @@ use lib.Seq.{drop-cons}
 use Rattle.lists.specs.Build.{build}
 use borrow.Author.Tests.{eq-eqb, ne_eqb, eqb-true}
 use Rattle.lists.specs.Firsts.{first_at, instead, replaced}
-use Rattle.lists.proofs.Numbers.{le-or-lt}
+use Rattle.lists.proofs.Numbers.{le_or_lt}
 use Rattle.lists.proofs.Fills.{build-read, build-next, build-done}
-use Rattle.lists.proofs.Builds.{build-is}
+use Rattle.lists.proofs.Builds.{build_is}
 
 -- ---- a loop that looks for it has not found it among the first i
 
@@ -55,13 +55,13 @@ first-within v [] = zero-le
 first-within v (x ∷ xs) = (elim (eqb x v) as (λ t. cond t 0 (suc (first_at v xs)) ≤ suc (length xs)) [ true ↦ zero-le | false ↦ omega (arith, first-within v xs) ])
 
 -- the number stands there
-pub first-is : (v : ℕ) (xs : List ℕ) (z : ℕ) → first_at v xs < length xs → get_or xs (first_at v xs) z ≡ v
+pub first_is : (v : ℕ) (xs : List ℕ) (z : ℕ) → first_at v xs < length xs → get_or xs (first_at v xs) z ≡ v
 unfolding first_at
-first-is v [] z h = absurd (omega arith)
-first-is v (x ∷ xs) z h =
+first_is v [] z h = absurd (omega arith)
+first_is v (x ∷ xs) z h =
     (elim (eqb x v) as (λ t. eqb x v ≡ t → cond t 0 (suc (first_at v xs)) < suc (length xs) → get_or (x ∷ xs) (cond t 0 (suc (first_at v xs))) z ≡ v) [
       | true ↦ λ e g. eqb-true x v e
-      | false ↦ λ e g. first-is v xs z (omega arith)
+      | false ↦ λ e g. first_is v xs z (omega arith)
     ])
     refl
     h
@@ -81,16 +81,16 @@ first-before v (x ∷ xs) (suc i) z h e =
 -- so a place where the number stands, and before which it doesn't, is the first
 pub first-at : (v : ℕ) (xs : List ℕ) (i z : ℕ) → i < length xs → get_or xs i z ≡ v → ((j : ℕ) → j < i → get_or xs j z ≢ v) → first_at v xs ≡ i
 first-at v xs i z h e b = ⊎_elim
-    (λ (g : i ≤ first_at v xs). ⊎_elim (λ (k : first_at v xs ≤ i). omega arith) (λ (k : i < first_at v xs). absurd (first-before v xs i z k e)) (le-or-lt (first_at v xs) i))
-    (λ (g : first_at v xs < i). absurd (b (first_at v xs) g (first-is v xs z (omega arith))))
-    (le-or-lt i (first_at v xs))
+    (λ (g : i ≤ first_at v xs). ⊎_elim (λ (k : first_at v xs ≤ i). omega arith) (λ (k : i < first_at v xs). absurd (first-before v xs i z k e)) (le_or_lt (first_at v xs) i))
+    (λ (g : first_at v xs < i). absurd (b (first_at v xs) g (first_is v xs z (omega arith))))
+    (le_or_lt i (first_at v xs))
 
 -- a number that stands nowhere
 pub first-none : (v : ℕ) (xs : List ℕ) (z : ℕ) → ((j : ℕ) → j < length xs → get_or xs j z ≢ v) → first_at v xs ≡ length xs
 first-none v xs z b = ⊎_elim
     (λ (g : length xs ≤ first_at v xs). omega (arith, first-within v xs))
-    (λ (g : first_at v xs < length xs). absurd (b (first_at v xs) g (first-is v xs z g)))
-    (le-or-lt (length xs) (first_at v xs))
+    (λ (g : first_at v xs < length xs). absurd (b (first_at v xs) g (first_is v xs z g)))
+    (le_or_lt (length xs) (first_at v xs))
 
 -- ---- in a list that is joined from two
 
@@ -148,4 +148,4 @@ module _ {old new : ℕ} {d s : List ℕ} {i : ℕ} (k : Replacing old new d s i
   all-replaced h =
       let f : ℕ → ℕ = λ j. instead old new (get_or d j 0) in
       build-done f d s i (length d) (omega (arith, k.within, k.long)) (omega arith) k.so_far
-      ∙ sym (build-is f (length d) (replaced old new d) 0 (length-replaced old new d) (λ j b. replaced-at old new d j 0 b))
+      ∙ sym (build_is f (length d) (replaced old new d) 0 (length-replaced old new d) (λ j b. replaced-at old new d j 0 b))

@@ -11,7 +11,7 @@ use lib.ListN.{length, take, drop, get_or, length-drop, drop_of_length-le}
 use lib.Seq.{drop-cons, take-length, take-append-le, drop-append-le}
 use borrow.Author.Tests.{eq-eqb, ne_eqb, eqb-true}
 use Rattle.lists.specs.Bytes.{alike, starts_with}
-use Rattle.lists.proofs.Numbers.{le-or-lt}
+use Rattle.lists.proofs.Numbers.{le_or_lt}
 
 -- ---- a loop that compares, as far as both go, has found the first i alike
 
@@ -36,7 +36,7 @@ module _ {front bytes : List ℕ} {n i : ℕ} (e : n ≡ min (length bytes) (len
       (λ (g : i < length front).
       let l : length bytes ≤ i = omega arith in
       omega (arith, k.rest, k.within, ap (alike (drop i front)) (drop_of_length-le bytes l), none_left (drop i front)))
-      (le-or-lt (length front) i)
+      (le_or_lt (length front) i)
 
   module _ (h : i < n) where
     next : alike (drop i front) (drop i bytes) ≡ cond (eqb (get_or bytes i 0) (get_or front i 0)) (suc (alike (drop (i + 1) front) (drop (i + 1) bytes))) 0
@@ -69,14 +69,14 @@ alike_is (m ∷ ms) (b ∷ bs) (suc n) h =
     refl
     h
 
-pub is-alike : (front bytes : List ℕ) → take (length front) bytes ≡ front → alike front bytes ≡ length front
+pub is_alike : (front bytes : List ℕ) → take (length front) bytes ≡ front → alike front bytes ≡ length front
 unfolding alike
-is-alike [] bytes e = refl
-is-alike (m ∷ ms) [] e = absurd (let z : ◌≡◌ {A = ℕ} 0 1 = cc in omega arith)
-is-alike (m ∷ ms) (b ∷ bs) e =
+is_alike [] bytes e = refl
+is_alike (m ∷ ms) [] e = absurd (let z : ◌≡◌ {A = ℕ} 0 1 = cc in omega arith)
+is_alike (m ∷ ms) (b ∷ bs) e =
     let p : b ≡ m = cc in
     let q : take (length ms) bs ≡ ms = cc in
-    rw (eq-eqb b m p, is-alike ms bs q)
+    rw (eq-eqb b m p, is_alike ms bs q)
 
 -- where one is another, it is the next, whatever comes behind it
 pub alike-still : (front bytes rest : List ℕ) → alike front bytes < length front → alike front bytes < length bytes → alike front (take (suc (alike front bytes)) bytes ++ rest) ≡ alike front bytes
@@ -99,9 +99,9 @@ starts_is front bytes e =
     let n : length front ≤ alike front bytes = omega (arith, eqb-true (alike front bytes) (length front) e) in
     alike_is front bytes (length front) n ∙ take-length front
 
-pub is-starts : (front bytes : List ℕ) → take (length front) bytes ≡ front → starts_with front bytes ≡ true
+pub is_starts : (front bytes : List ℕ) → take (length front) bytes ≡ front → starts_with front bytes ≡ true
 unfolding starts_with
-is-starts front bytes e = eq-eqb (alike front bytes) (length front) (is-alike front bytes e)
+is_starts front bytes e = eq-eqb (alike front bytes) (length front) (is_alike front bytes e)
 
 -- ---- the same front, whatever comes behind it
 

@@ -10,7 +10,7 @@ use lib.ListN.{length, take, drop, get_or, length-append, length-drop, take-appe
 use lib.Seq.{sets, take_at, take_all, take-take, drop-append-add, drop-drop}
 use Rattle.lists.specs.Build.{build, rows}
 use Rattle.lists.specs.Parts.{part}
-use Rattle.lists.proofs.Numbers.{le-or-lt}
+use Rattle.lists.proofs.Numbers.{le_or_lt}
 use Rattle.lists.proofs.Stores.{sets_behind}
 use Rattle.lists.proofs.Fills.{build-length}
 use Rattle.lists.proofs.Builds.{build-at}
@@ -68,7 +68,7 @@ module _ {A : Type 0} where
         ∙ part-behind (rows r n) (r n ++ rest) (n * w) (n * w) 0 w (rows-length n (λ i l. each i (omega arith))) (omega arith)
         ∙ part-first (r n) rest w (each n (omega arith)) ∙ ap r (sym e))
         (λ (g : t < n). rows-part n t (r n ++ rest) g (λ i l. each i (omega arith)))
-        (le-or-lt n t))
+        (le_or_lt n t))
 
     -- with nothing behind them
     pub rows-own : (n t : ℕ) → t < n → ((i : ℕ) → i < n → length (r i) ≡ w) → part (t * w) w (rows r n) ≡ r t

@@ -6,7 +6,7 @@ use native.Mathlib.Nat.{add-zero, add-suc}
 use native.Mathlib.Numerals.{add-one}
 use native.Mathlib.Omega.{arith}
 use Rattle.lists.specs.Build.{over}
-use Rattle.lists.proofs.Numbers.{le-or-lt}
+use Rattle.lists.proofs.Numbers.{le_or_lt}
 
 module _ {A : Type 0} (g : ℕ → A → A) where
   pub over-step : (k : ℕ) (y : A) → g k (over g k y) ≡ over g (k + 1) y
@@ -32,4 +32,4 @@ module _ {A : Type 0} (g : ℕ → A → A) where
   over-idle a (suc b) y l h = ⊎_elim
       (λ (i : a ≤ b). h b (over g b y) i (omega arith) ∙ over-idle a b y i (λ f z p q. h f z p (omega arith)))
       (λ (i : b < a). let e : a ≡ suc b = omega arith in rw e)
-      (le-or-lt a b)
+      (le_or_lt a b)

@@ -47,8 +47,8 @@ module _ {A : Type 0} where
     part-within = rw (add-sub_cancel_left from count)
 
   -- a part by its items
-  pub part-is : (o n : ℕ) (z : A) (xs ys : List A) → o + n ≤ length xs → length ys ≡ n → ((u : ℕ) → u < n → get_or xs (o + u) z ≡ get_or ys u z) → part o n xs ≡ ys
-  part-is o n z xs ys h e each =
+  pub part_is : (o n : ℕ) (z : A) (xs ys : List A) → o + n ≤ length xs → length ys ≡ n → ((u : ℕ) → u < n → get_or xs (o + u) z ≡ get_or ys u z) → part o n xs ≡ ys
+  part_is o n z xs ys h e each =
       let long : length (part o n xs) ≡ n = cut-length o n xs h in
       ext_get_or z (part o n xs) ys (long ∙ sym e) (λ u l. let b : u < n = omega arith in get_or-take n (drop o xs) u z b ∙ get_or-drop o xs u z ∙ each u b)
 

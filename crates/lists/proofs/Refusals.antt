@@ -6,9 +6,9 @@ use native.Mathlib.Omega.{arith}
 use Rattle.lists.specs.Refusals.{or_else}
 
 -- the first that is given stands
-pub or-first : (k l : ℕ) → (k ≡ 0 → ⊥) → or_else k l ≡ k
-or-first zero l z = absurd (z refl)
-or-first (suc k) l z = refl
+pub or_first : (k l : ℕ) → (k ≡ 0 → ⊥) → or_else k l ≡ k
+or_first zero l z = absurd (z refl)
+or_first (suc k) l z = refl
 
 -- a test that refuses where it fails has held
 pub none_then : (t : Bool) (k : ℕ) → cond t 0 (suc k) ≡ 0 → t ≡ true
@@ -21,16 +21,16 @@ then-none true k e = absurd (omega arith)
 then-none false k e = refl
 
 -- neither is above m
-pub or-below : (k l m : ℕ) → k ≤ m → l ≤ m → or_else k l ≤ m
-or-below zero l m h g = g
-or-below (suc k) l m h g = h
+pub or_below : (k l m : ℕ) → k ≤ m → l ≤ m → or_else k l ≤ m
+or_below zero l m h g = g
+or_below (suc k) l m h g = h
 
 -- none is given where neither is
-pub or-none : (k l : ℕ) → or_else k l ≡ 0 → (k ≡ 0) × (l ≡ 0)
-or-none zero l e = (refl, e)
-or-none (suc k) l e = absurd (omega arith)
+pub or_none : (k l : ℕ) → or_else k l ≡ 0 → (k ≡ 0) × (l ≡ 0)
+or_none zero l e = (refl, e)
+or_none (suc k) l e = absurd (omega arith)
 
 -- no next one
-pub or-zero : (k : ℕ) → or_else k 0 ≡ k
-or-zero zero = refl
-or-zero (suc k) = refl
+pub or_zero : (k : ℕ) → or_else k 0 ≡ k
+or_zero zero = refl
+or_zero (suc k) = refl

@@ -9,7 +9,7 @@ use borrow.Rule.Slice.PartMut.{mid_of, post_of, put_mid, Post-is, mid_len}
 use lib.ListN.{length, set, take, drop, get_or, replicate, length-drop, length-set, length-replicate, take-append-drop}
 use lib.Seq.{sets, sets-eq, drop-append-le, drop-drop, drop-set-add, drop-set-lt, take-set-le, take-set-lt, take-suc-set, get_or-take, get_or-drop, length-take-le, append_snoc}
 use Rattle.lists.specs.Build.{build}
-use Rattle.lists.proofs.Numbers.{less-or-more}
+use Rattle.lists.proofs.Numbers.{less_or_more}
 use Rattle.lists.proofs.Rows.{row_fits}
 use Rattle.lists.proofs.Fills.{build-length}
 use Rattle.lists.proofs.Stores.{sets-append}
@@ -53,7 +53,7 @@ module _ {A : Type 0} where
   sets_aside vs l w q s d h = ⊎_elim
       (λ (g : q < s). stored-behind vs l (q * w) w (s * w) (row_fits w q s g))
       (λ (g : s < q). stored-before vs l (q * w) w (s * w) (omega (arith, row_fits w s q g)))
-      (less-or-more q s d)
+      (less_or_more q s d)
 
   -- and stores before a place leave what lies behind it
   pub dropped_before : (vs l : List A) (o i : ℕ) → i + length vs ≤ o → drop o (sets l i vs) ≡ drop o l

@@ -7,7 +7,7 @@ use native.Mathlib.Nat.{mul-le-mul_right, suc-mul, mul-zero, le-div_iff_mul-le, 
 use native.Mathlib.Omega.{arith}
 use borrow.Author.Tests.{le-leb, lt-leb}
 use lib.Dec.{leb}
-use Rattle.lists.proofs.Numbers.{le-or-lt}
+use Rattle.lists.proofs.Numbers.{le_or_lt}
 
 -- a row before row n ends before it
 pub row_fits : (w p n : ℕ) → p < n → p * w + w ≤ n * w
@@ -27,4 +27,4 @@ room-divided count size length n =
     ⊎_elim
     (λ (h : count * size ≤ length). le-leb count (length / size) ((le-div_iff_mul-le {k = size} {x = count} {y = length} pos).1 h) ∙ sym (le-leb (count * size) length h))
     (λ (h : length < count * size). lt-leb count (length / size) ((div-lt_iff_lt-mul {k = size} {x = length} {y = count} pos).1 h) ∙ sym (lt-leb (count * size) length h))
-    (le-or-lt (count * size) length)
+    (le_or_lt (count * size) length)

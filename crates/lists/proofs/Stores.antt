@@ -8,7 +8,7 @@ use native.Mathlib.Numerals.{add-one}
 use native.Mathlib.Omega.{arith}
 use lib.ListN.{length, take, drop, get_or, set, replicate, length-append, length-take, length-drop, length-replicate, length-set, get_or-replicate, take-append-drop, drop_of_length-le}
 use lib.Seq.{sets, length-sets, sets-eq, set_out, take-suc, take_all, take_at, take-length, length-take-le, get_or-take, drop-append-add, drop-cons, drop-drop, get_or_at, set-set, set_comm}
-use Rattle.lists.proofs.Numbers.{le-or-lt}
+use Rattle.lists.proofs.Numbers.{le_or_lt}
 
 module _ {A : Type 0} where
   pub sets-append : (xs ys l : List A) (i : ℕ) → sets l i (xs ++ ys) ≡ sets (sets l i xs) (i + length xs) ys
@@ -56,7 +56,7 @@ module _ {A : Type 0} where
       let l : length (take i xs) ≡ i = length-take-le i xs (omega arith) in
       let p : length (sets d at (take i xs)) ≤ at + length (take i xs) = rw (length-sets d at (take i xs), l) (omega arith) in
       e ∙ sym (ap (sets d at) (sym (take-append-drop i xs)) ∙ sets-append (take i xs) (drop i xs) d at ∙ sets-past (drop i xs) (sets d at (take i xs)) (at + length (take i xs)) p))
-      (le-or-lt (length xs) i)
+      (le_or_lt (length xs) i)
 
   -- p is done, a run is stored behind it, and the rest is as it was
   pub sets-next : (p vs d : List A) (t u : ℕ) → length p ≡ t → t + length vs ≡ u → u ≤ length d → sets (p ++ drop t d) t vs ≡ p ++ vs ++ drop u d

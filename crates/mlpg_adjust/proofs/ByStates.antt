@@ -11,7 +11,7 @@ use lib.Ieee.{Float, nan}
 use Rattle.lists.specs.Build.{build}
 use Rattle.lists.specs.Parts.{part}
 use Rattle.lists.specs.Frames.{count}
-use Rattle.lists.proofs.Builds.{build-is, build-same}
+use Rattle.lists.proofs.Builds.{build_is, build-same}
 use Rattle.lists.proofs.Columns.{count_columns, totals_most}
 use Rattle.lists.proofs.Regions.{cut-length}
 use Rattle.lists.proofs.Rows.{row_fits}
@@ -45,7 +45,7 @@ record_varis size records s k half room =
     let lin = part (s * size) size records in
     let mid : length lin / 2 ≡ k = ap (λ (n : ℕ). n / 2) (cut-length (s * size) size records room) ∙ half in
     variances_are lin
-    ∙ build-is (λ j. elem records (s * size + (k + j))) k (varis_of lin) nan (varis-length lin ∙ mid)
+    ∙ build_is (λ j. elem records (s * size + (k + j))) k (varis_of lin) nan (varis-length lin ∙ mid)
     (λ j h. rw mid (get_or-take k (drop k lin) j nan h ∙ get_or-drop k lin j nan ∙ sym (part_elem (s * size) size (k + j) records (omega arith))))
 
 -- each pair once a voiced frame are each state's pairs, times its frames where it is voiced

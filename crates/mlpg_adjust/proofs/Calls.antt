@@ -64,13 +64,13 @@ module _ (p : Plan) (widths : List ℕ) (coefs records : List Float) (ds marks :
   size_is : p.size ≡ state_size s widths
   size_is = ap (λ (q : Plan). q.size) r.plan
 
-  frames-is : p.frames ≡ total ds
-  frames-is = ap (λ (q : Plan). q.frames) r.plan
+  frames_is : p.frames ≡ total ds
+  frames_is = ap (λ (q : Plan). q.frames) r.plan
 
   -- as many lanes as the work space holds, and no fewer than one
-  module _ (k : ℕ) (k-is : k ≡ region.floats_of p.layout) where
+  module _ (k : ℕ) (k_is : k ≡ region.floats_of p.layout) where
     small : (0 < k) × (k ≤ 48)
-    small = let z : k ≡ region.floats_of g = k-is ∙ ap (λ (q : Layout). region.floats_of q) layout_is in
+    small = let z : k ≡ region.floats_of g = k_is ∙ ap (λ (q : Layout). region.floats_of q) layout_is in
         (omega (arith, z), omega (arith, z, r.shaped.most-windows, r.shaped.most_width))
 
     pub lanes_some : 0 < 48 / k
@@ -81,13 +81,13 @@ module _ (p : Plan) (widths : List ℕ) (coefs records : List Float) (ds marks :
         let n : ℕ = p.layout.n in
         let few : n ≤ total ds = omega (arith, ap (λ (q : Layout). q.n) layout_is, r.marked.most) in
         let e : lanes * region.size_of p.layout ≡ n * (lanes * k) =
-        ap (λ (j : ℕ). lanes * j) (size-floats p.layout ∙ ap (λ (j : ℕ). n * j) (sym k-is)) ∙ ap (λ (j : ℕ). lanes * j) (mul_comm n k) ∙ sym (mul_assoc lanes k n) ∙ mul_comm (lanes * k) n in
+        ap (λ (j : ℕ). lanes * j) (size-floats p.layout ∙ ap (λ (j : ℕ). n * j) (sym k_is)) ∙ ap (λ (j : ℕ). lanes * j) (mul_comm n k) ∙ sym (mul_assoc lanes k n) ∙ mul_comm (lanes * k) n in
         let most : lanes * k ≤ 48 = omega (arith, mul-le-mul_right k h, div-mul-le_self 48 k) in
         rw (e, o) (mul-le-mul few most)
 
   module _ (c : Group) (e : c.v ≡ s.v) (h : c.first + c.lanes ≤ c.v) (work : List Float) (room : c.lanes * region.size_of p.layout ≤ length work) where
-    room-is : c.lanes * region.size_of g ≤ length work
-    room-is = rw layout_is at room
+    room_is : c.lanes * region.size_of g ≤ length work
+    room_is = rw layout_is at room
 
     pub group-solved : (work₁ work₂ work₃ : List Float) → length work₁ ≡ length work → length work₂ ≡ length work₁
         → CloseSays p.size records widths ds marks p.layout c work work₁ → RowsSay widths coefs p.layout c.lanes work₁ work₂ → SolveSays p.layout c.lanes work₂ work₃
@@ -95,9 +95,9 @@ module _ (p : Plan) (widths : List ℕ) (coefs records : List Float) (ds marks :
         (each_region p.layout c.lanes (λ l. paired_in p.size records c.v widths (mask_in ds marks) ds (c.first + l)) work))
     group-solved work₁ work₂ work₃ a b k₁ k₂ k₃ =
         let o₁ : closes p.size records widths ds marks p.layout c (length work) ≡ true =
-        rw (layout_is, size_is) (closing-opens s widths coefs records ds r.shaped marks r.marked c e h (length work) room-is) in
-        let o₂ : band.opens widths coefs p.layout c.lanes (length work₁) ≡ true = rw layout_is (band-opens s widths coefs records ds r.shaped c.lanes (length work₁) (rw a room-is)) in
-        let o₃ : solve.opens p.layout c.lanes (length work₂) ≡ true = rw layout_is (solve_opens s widths coefs records ds r.shaped c.lanes (length work₂) (rw (b, a) room-is)) in
+        rw (layout_is, size_is) (closing-opens s widths coefs records ds r.shaped marks r.marked c e h (length work) room_is) in
+        let o₂ : band.opens widths coefs p.layout c.lanes (length work₁) ≡ true = rw layout_is (band-opens s widths coefs records ds r.shaped c.lanes (length work₁) (rw a room_is)) in
+        let o₃ : solve.opens p.layout c.lanes (length work₂) ≡ true = rw layout_is (solve_opens s widths coefs records ds r.shaped c.lanes (length work₂) (rw (b, a) room_is)) in
         let e₁ = opened _ _ _ _ o₁ k₁.space in
         let e₂ = opened _ _ _ _ o₂ k₂.space in
         opened _ _ _ _ o₃ k₃.space ∙ rw (e₂, e₁)
@@ -109,8 +109,8 @@ module _ (p : Plan) (widths : List ℕ) (coefs records : List Float) (ds marks :
           some = rw layout_is (omega arith);
           few_windows = rw layout_is r.shaped.most-windows;
           few = omega (arith, n-is, r.marked.most, r.shaped.frames);
-          frames = omega (arith, frames-is, r.shaped.frames);
-          switches = omega (arith, n-is, frames-is, r.marked.room);
+          frames = omega (arith, frames_is, r.shaped.frames);
+          switches = omega (arith, n-is, frames_is, r.marked.room);
           components = h;
           most_v = rw e r.shaped.most_v;
           room = room;

@@ -10,7 +10,7 @@ use lib.ListN.{length, take, drop, get_or, length-map, length-take, get_or-map, 
 use lib.Ieee.{Float}
 use Rattle.lists.specs.Totals.{total}
 use Rattle.lists.specs.Build.{build}
-use Rattle.lists.proofs.Numbers.{le-or-lt}
+use Rattle.lists.proofs.Numbers.{le_or_lt}
 use Rattle.lists.proofs.Fills.{build-length}
 use Rattle.lists.proofs.Builds.{build-at, build-same}
 use Rattle.lists.proofs.Chosen.{at_any}
@@ -98,7 +98,7 @@ module _ (so : Clamp → Bool) (size : ℕ) (records : List Float) (threshold : 
     each-few : (i : ℕ) → get_or each i 0 ≤ 256
     each-few i =
         ⊎_elim (λ (h : length ds ≤ i). let z : get_or each i 0 ≡ 0 = get_or-eq_default each 0 (omega (arith, each_long)) in omega (arith, z))
-        (λ (h : i < length ds). omega (arith, each_at i h, clamped-few i)) (le-or-lt (length ds) i)
+        (λ (h : i < length ds). omega (arith, each_at i h, clamped-few i)) (le_or_lt (length ds) i)
 
     module _ (frames : total ds ≤ 65536) where
       pub clamped-fits : clamped_by_states so size records threshold ds ≤ 16777216

@@ -14,9 +14,9 @@ use Rattle.lists.specs.Build.{build}
 use Rattle.lists.specs.Parts.{part}
 use Rattle.lists.specs.Flags.{is_on}
 use Rattle.lists.specs.Frames.{expand, select, fill, count}
-use Rattle.lists.proofs.Numbers.{le-or-lt}
+use Rattle.lists.proofs.Numbers.{le_or_lt}
 use Rattle.lists.proofs.Fills.{build-length}
-use Rattle.lists.proofs.Builds.{build-at, build-is, build-same}
+use Rattle.lists.proofs.Builds.{build-at, build_is, build-same}
 use Rattle.model.specs.Windows.{band_width}
 use Rattle.region.specs.Rows.{elem}
 use Rattle.region.specs.Region as region
@@ -53,7 +53,7 @@ module _ (f : ℕ → List Float) (none : Float) (mask : List Bool) (g : Layout)
         let e : c.first + (p % c.v - c.first) ≡ p % c.v = omega arith in
         inside p a h ∙ ap (λ (x : List Float). elem x (p / c.v)) (sym (q (p % c.v - c.first) (omega arith)) ∙ ap f e))
         (λ (a : p % c.v < c.first). under p a ∙ k.stands p i a)
-        (le-or-lt c.first (p % c.v));
+        (le_or_lt c.first (p % c.v));
   }
 
 pub columned_none : (f : ℕ → List Float) (v : ℕ) (out : List Float) → Columned f v 0 out
@@ -62,7 +62,7 @@ columned_none f v out = record { stands = λ p b h. absurd (omega arith) }
 -- ---- all columns
 
 columned_all : (f : ℕ → List Float) (v n : ℕ) (out : List Float) → length out ≡ n * v → 0 < v → Columned f v v out → out ≡ build (λ p. elem (f (p % v)) (p / v)) (n * v)
-columned_all f v n out long b k = build-is (λ p. elem (f (p % v)) (p / v)) (n * v) out nan long (λ j h. k.stands j (omega arith) (mod-lt j b))
+columned_all f v n out long b k = build_is (λ p. elem (f (p % v)) (p / v)) (n * v) out nan long (λ j h. k.stands j (omega arith) (mod-lt j b))
 
 with_same : {A : Type 0} (switch : GlobalVariance) (f h : Float → A) (x : A) → (gv_on switch ≡ true → (weight : Float) → f weight ≡ h weight) → with_gv switch f x ≡ with_gv switch h x
 with_same Off f h x e = refl

@@ -56,17 +56,17 @@ module _ (s : Stream) (widths : List ℕ) (coefs records : List Float) (ds : Lis
   solved_region component r = solved_in g (rowed_in widths coefs g (paired_in (state_size s widths) records s.v widths (voiced_in s widths records ds) ds component r))
 
   module _ (component : ℕ) (r : Region) where
-    matrix-is : (solved_region component r).matrix ≡ matrix (state_size s widths) records s.threshold ds s.v widths coefs component
+    matrix_is : (solved_region component r).matrix ≡ matrix (state_size s widths) records s.threshold ds s.v widths coefs component
     unfolding matrix voiced_ivars
-    matrix-is = refl
+    matrix_is = refl
 
-    side-is : (solved_region component r).side ≡ side (state_size s widths) records s.threshold ds s.v widths coefs component
+    side_is : (solved_region component r).side ≡ side (state_size s widths) records s.threshold ds s.v widths coefs component
     unfolding side voiced_ivars voiced_means
-    side-is = refl
+    side_is = refl
 
-    solved-is : (solved_region component r).values ≡ solved (state_size s widths) records s.threshold ds s.v widths coefs component
+    solved_is : (solved_region component r).values ≡ solved (state_size s widths) records s.threshold ds s.v widths coefs component
     unfolding solved matrix side voiced_ivars voiced_means
-    solved-is = refl
+    solved_is = refl
 
   -- ---- the values of each lane, after the global variance where it is on
 
@@ -81,14 +81,14 @@ module _ (s : Stream) (widths : List ℕ) (coefs records : List Float) (ds : Lis
           (λ weight. parmgen (band_width widths) (matrix (state_size s widths) records s.threshold ds s.v widths coefs (first + l)) (side (state_size s widths) records s.threshold ds s.v widths coefs (first + l))
           (map is_on on) (length widths) (mul binary64 (elem gv (first + l)) weight) (elem gv (s.v + (first + l))) (solved (state_size s widths) records s.threshold ds s.v widths coefs (first + l)))
           (solved (state_size s widths) records s.threshold ds s.v widths coefs (first + l))
-      lane_values Off = ap (λ (q : Region). q.values) at ∙ solved-is (first + l) r
+      lane_values Off = ap (λ (q : Region). q.values) at ∙ solved_is (first + l) r
       lane_values (On weight) =
           let mean-is : elem (part first lanes gv) l ≡ elem gv (first + l) = sym (part_elem first lanes l gv h) in
           let o : s.v + first + l ≡ s.v + (first + l) = omega arith in
           let vari-is : elem (part (s.v + first) lanes gv) l ≡ elem gv (s.v + (first + l)) = sym (part_elem (s.v + first) lanes l gv h) ∙ ap (elem gv) o in
           ap (λ (q : Region). q.values) (step-at g lanes (target weight) (keeps weight) work fit l h)
           ∙ ap (λ (q : Region). (target weight l q).values) at
-          ∙ rw (mean-is, vari-is, solved-is (first + l) r, matrix-is (first + l) r, side-is (first + l) r)
+          ∙ rw (mean-is, vari-is, solved_is (first + l) r, matrix_is (first + l) r, side_is (first + l) r)
 
       pub values_are : (region_at g lanes l (with_gv s.gv (λ weight. each_region g lanes (target weight) work) work)).values ≡ component_values s widths coefs records ds on gv (first + l)
       values_are = lane_values s.gv

@@ -14,7 +14,7 @@ use Rattle.lists.specs.Sizes.{outside}
 use Rattle.lists.specs.Totals.{total}
 use Rattle.lists.specs.Refusals.{or_else}
 use Rattle.lists.proofs.Flags.{neither}
-use Rattle.lists.proofs.Refusals.{or-first, or-none}
+use Rattle.lists.proofs.Refusals.{or_first, or_none}
 use Rattle.lists.proofs.Sums.{total-whole}
 use Rattle.lists.proofs.Stores.{filled}
 use Rattle.lists.proofs.Fills.{build-length}
@@ -199,7 +199,7 @@ module _ (s : Stream) (ws : List ℕ) (cs : List Float) (ds : List ℕ) (n : Len
 module _ (s : Stream) (ws : List ℕ) (cs : List Float) (ds : List ℕ) (lengths : Lengths) (k : ℕ) (e : k ≡ stream_refusal s ws cs ds lengths) where
   pub refused-before : (k ≡ 0 → ⊥) → k ≡ create_refusal s ws cs ds lengths
   unfolding create_refusal
-  refused-before h = rw (← e) (sym (or-first k (cond (short s.v (total ds) lengths) 6 0) h))
+  refused-before h = rw (← e) (sym (or_first k (cond (short s.v (total ds) lengths) 6 0) h))
 
   module _ (z : k ≡ 0) where
     pub range_passed : InRange s.v (length ds) × (total ds ≤ 65536)
@@ -217,7 +217,7 @@ module _ (s : Stream) (ws : List ℕ) (cs rs : List Float) (ds : List ℕ) (gv :
 
   six : (stream_refusal s ws cs ds n ≡ 0) × ◌≡◌ {A = ℕ} (cond (short s.v (total ds) n) 6 0) 0
   unfolding create_refusal
-  six = or-none (stream_refusal s ws cs ds n) (cond (short s.v (total ds) n) 6 0) z
+  six = or_none (stream_refusal s ws cs ds n) (cond (short s.v (total ds) n) 6 0) z
 
   pub accepted_shape : Shaped s ws cs rs ds
   accepted_shape = passed_shape s ws cs ds n six.0 rs refl

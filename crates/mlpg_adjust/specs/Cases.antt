@@ -74,9 +74,9 @@ unfolding clamped_over clamped_in clamp_of count mask_of weights_of lt of_bits f
 clamped_low_lem = refl
 
 -- so a call that is accepted answers, high before low, and one that is refused has no counts
-pub clamped-answer : (created (created_of 0 high low)).values ≡ 2 ∷ 4 ∷ []
+pub clamped_answer : (created (created_of 0 high low)).values ≡ 2 ∷ 4 ∷ []
 unfolding clamped_over clamped_in clamp_of count mask_of weights_of lt of_bits from_linear abs_of
-clamped-answer = refl
+clamped_answer = refl
 
-pub refused-answer : (created (created_of 6 high low)).values ≡ []
-refused-answer = refl
+pub refused_answer : (created (created_of 6 high low)).values ≡ []
+refused_answer = refl

@@ -27,18 +27,18 @@ created_of zero high low = Done high low
 created_of (suc k) high low = Refused (suc k)
 
 -- RULES, Sizes: a trajectory's work space is 48 floats and 4 whole numbers a frame
-abbrev pub floats_aFrame : ℕ
-floats_aFrame = 48
+abbrev pub floats_a_frame : ℕ
+floats_a_frame = 48
 
-abbrev pub marks_aFrame : ℕ
-marks_aFrame = 4
+abbrev pub marks_a_frame : ℕ
+marks_a_frame = 4
 
 -- RULES, Refusals: an accepted call zeros that much of the work space
 abbrev pub zero_floats : ℕ → List Float
-zero_floats frames = replicate (frames * floats_aFrame) nought
+zero_floats frames = replicate (frames * floats_a_frame) nought
 
 abbrev pub zero_marks : ℕ → List ℕ
-zero_marks frames = replicate (frames * marks_aFrame) 0
+zero_marks frames = replicate (frames * marks_a_frame) 0
 
 -- the lengths of lists that are not looked into
 abbrev pub lengths_of : List Float → List Float → List ℕ → List Float → List Float → List ℕ → Lengths
@@ -60,7 +60,7 @@ disagree s widths coefs states n = not (eqb coefs (total widths)) || not (eqb n.
 
 -- RULES, Refusals: 6 for an output or work space that is too short
 abbrev pub short : ℕ → ℕ → Lengths → Bool
-short v frames n = ltb n.out (frames * v) || ltb n.work (frames * floats_aFrame) || ltb n.marks (frames * marks_aFrame)
+short v frames n = ltb n.out (frames * v) || ltb n.work (frames * floats_a_frame) || ltb n.marks (frames * marks_a_frame)
 
 -- RULES, Refusals: the smallest of 1 to 5 that applies, and 0 for none
 unfoldable pub stream_refusal : Stream → List ℕ → List Float → List ℕ → Lengths → ℕ

@@ -9,7 +9,7 @@ use lib.ListN.{length, take, drop, get_or, set, length-append, length-drop, take
 use lib.Seq.{drop-cons, drop-drop, drop-set-lt, take_all, take_at, drop_at}
 use borrow.Rule.Slice.PartMut.{put_mid}
 use lib.Ieee.{Float}
-use Rattle.lists.proofs.Numbers.{le-or-lt}
+use Rattle.lists.proofs.Numbers.{le_or_lt}
 use Rattle.lists.proofs.Fills.{stored, finished}
 use Rattle.model.specs.declared.mean_vari.MeanVari.{MeanVari}
 use Rattle.model.specs.Pair.{pair, pairs_of}
@@ -78,7 +78,7 @@ module _ {A : Type 0} (f : A → A → A) where
     shorter_done h = ⊎_elim
         (λ (g : length s ≤ i). finished s i (over_shorter f (drop i s) (drop i rhs)) whole g (rw (drop_of_length-le s g)) k)
         (λ (g : i < length s). let r : length rhs ≤ i = omega arith in sym (take-append-drop i s) ∙ (rw (drop_of_length-le rhs r, shorter_none) at k))
-        (le-or-lt (length s) i)
+        (le_or_lt (length s) i)
 
 -- ---- x over the first n of a list, y over the next n, and then z over the rest: what the third part is, and what stands at the end
 
@@ -101,8 +101,8 @@ module _ {A : Type 0} (l x y : List A) (n : ℕ) (e : length x ≡ n) (d : lengt
   left : length (drop (2 * n) second) ≡ length second - 2 * n
   left = length-drop (2 * n) second
 
-  pub third-is : let s = xy_over l x y n in take (length s - 2 * n) (drop (2 * n) s) ≡ drop (2 * n) l
-  third-is =
+  pub third_is : let s = xy_over l x y n in take (length s - 2 * n) (drop (2 * n) s) ≡ drop (2 * n) l
+  third_is =
       take_all (length second - 2 * n) (drop (2 * n) second) (omega (arith, left))
       ∙ ap (drop (2 * n)) second_is
       ∙ drop_at (x ++ y) (drop (2 * n) l) (2 * n) front

@@ -32,9 +32,9 @@ module _ (v size : Float) (e : size ≡ abs_of v) where
   unfolding clamp_of
   clamp-low h l = rw (← e, h, l)
 
-  pub clamp-no : lt high_bound size ≡ false → lt size low_bound ≡ false → No ≡ clamp_of v
+  pub clamp_no : lt high_bound size ≡ false → lt size low_bound ≡ false → No ≡ clamp_of v
   unfolding clamp_of
-  clamp-no h l = rw (← e, h, l)
+  clamp_no h l = rw (← e, h, l)
 
 -- ---- a variance between the bounds is not clamped
 
@@ -42,10 +42,10 @@ between-size : (v : Float) → lt low_bound v ≡ true → abs_of v ≡ v
 unfolding of_bits
 between-size v h = above-size _ _ v h
 
-pub between-no : (v : Float) → lt low_bound v ≡ true → lt v high_bound ≡ true → No ≡ clamp_of v
-between-no v l h =
+pub between_no : (v : Float) → lt low_bound v ≡ true → lt v high_bound ≡ true → No ≡ clamp_of v
+between_no v l h =
     let e : v ≡ abs_of v = sym (between-size v l) in
-    clamp-no v v e (lt_asym v high_bound h) (lt_asym low_bound v l)
+    clamp_no v v e (lt_asym v high_bound h) (lt_asym low_bound v l)
 
 -- ---- what a clamp says of the inverse
 
@@ -59,9 +59,9 @@ unfolding clamp_of ivar_of
 tied v = tied_by (lt high_bound (abs_of v)) (lt (abs_of v) low_bound) v
 
 -- NaN is neither above nor below a bound
-pub nan-no : clamp_of nan ≡ No
+pub nan_no : clamp_of nan ≡ No
 unfolding clamp_of abs_of lt of_bits
-nan-no = refl
+nan_no = refl
 
 -- ---- how many are clamped
 
@@ -90,8 +90,8 @@ module _ (so : Clamp → Bool) (vs : List Float) where
       counted-few = omega (arith, counted_next, clamped-most)
 
     -- one that isn't clamped adds nothing
-    pub counted-no : i < length vs → so No ≡ false → No ≡ clamp_of (get_or vs i nan) → Counted (i + 1) n
-    counted-no h z e = omega (arith, counted_next h No e 0 (ap flag (sym z)))
+    pub counted_no : i < length vs → so No ≡ false → No ≡ clamp_of (get_or vs i nan) → Counted (i + 1) n
+    counted_no h z e = omega (arith, counted_next h No e 0 (ap flag (sym z)))
 
     pub counted-all : length vs ≤ i → n ≡ clamped_in so vs
     unfolding clamped_in count

@@ -15,7 +15,7 @@ use Rattle.model.specs.Record.{means_of, varis_of, rest_of}
 use Rattle.model.specs.Mixing.{more_by}
 use Rattle.model.proofs.Records.{means-length, varis-length}
 use Rattle.model.proofs.Scaling.{times, scaled-flat}
-use Rattle.model.proofs.Adding.{more, added-flat, shorter_length, xy_over, third-is, all_three}
+use Rattle.model.proofs.Adding.{more, added-flat, shorter_length, xy_over, third_is, all_three}
 
 -- where a contract is one equation
 pub answer-one : {A : Type 0} {v r s : A} → r ≡ v → s ≡ v → r ≡ s
@@ -71,5 +71,5 @@ module _ (l r : List Float) (w : Float) where
     pub mul-add_done : let s = xy_over l x y n in z ≡ more w (take (length s - 2 * n) (drop (2 * n) s)) (take (length r - 2 * m) (drop (2 * m) r)) → MulAddSays l w r (put_mid (2 * n) (length s - 2 * n) s z)
     mul-add_done c =
         let t : length (rest_of r) ≤ length r - 2 * m = rw length-drop (omega arith) in
-        let p : z ≡ more w (rest_of l) (rest_of r) = c ∙ rw (third-is l x y n first-length second-length, take_all (length r - 2 * m) (rest_of r) t) in
+        let p : z ≡ more w (rest_of l) (rest_of r) = c ∙ rw (third_is l x y n first-length second-length, take_all (length r - 2 * m) (rest_of r) t) in
         record { output = all_three l x y n first-length second-length z ∙ rw (a, second-part, p, added-flat w l r) }

@@ -16,7 +16,7 @@ use Rattle.lists.specs.Build.{build, fold_from}
 use Rattle.lists.specs.Parts.{part}
 use Rattle.lists.specs.Totals.{total}
 use Rattle.lists.proofs.Flags.{both, by_test}
-use Rattle.lists.proofs.Numbers.{le-or-lt, by_place}
+use Rattle.lists.proofs.Numbers.{le_or_lt, by_place}
 use Rattle.lists.proofs.Parts.{take_min, take-both}
 use Rattle.lists.proofs.Sums.{total-whole}
 use Rattle.floats.specs.Numbers.{nought}
@@ -145,7 +145,7 @@ pub finite-part : (xs : List Float) (a w j : ℕ) → all_finite xs ≡ true →
 finite-part xs a w j h = ⊎_elim
     (λ (l : w ≤ j). rw (get_or-eq_default (part a w xs) nought {n = j} (simp length-take (omega arith))) (zero-finite nought nought-zero))
     (λ (l : j < w). rw (get_or-take w (drop a xs) j nought l, get_or-drop a xs j nought) (finite-at xs (a + j) h))
-    (le-or-lt w j)
+    (le_or_lt w j)
 
 -- a set that fits has 1 to 4 windows
 module _ (ws : List ℕ) (f : widths_fit ws ≡ true) where

@@ -7,8 +7,8 @@ use lib.ListN.{length, take, drop}
 use lib.Seq.{take_at}
 use Rattle.lists.specs.Bytes.{Bytes}
 use Rattle.lists.specs.Answers.{Answer, accepting}
-use Rattle.lists.proofs.Refusals.{or-none, none_then}
-use Rattle.lists.proofs.Answers.{accepted-is}
+use Rattle.lists.proofs.Refusals.{or_none, none_then}
+use Rattle.lists.proofs.Answers.{accepted_is}
 use Rattle.read_along.specs.declared.Counted.{Counted}
 use Rattle.read_along.specs.declared.Counted.TheVariants.{Number}
 use Rattle.read_along.specs.declared.file.Written.TheVariants as bytes
@@ -25,9 +25,9 @@ use Rattle.read_along.proofs.Files.{formed-file, file-formed}
 -- an accepted call that writes: nothing was refused, and the answer is in front
 writes_accepted : (first value : ℕ) (answer out : List ℕ) (n : ℕ) (out' : List ℕ) → Writes first value answer out (accepting (n ∷ [])) out' → (first ≡ 0) × (n ≡ value) × (out' ≡ answer ++ drop (length answer) out)
 writes_accepted first value answer out n out' w =
-    let a = accepted-is (accepting (n ∷ [])) (room_refusal first answer out) (value ∷ []) w.counts refl in
+    let a = accepted_is (accepting (n ∷ [])) (room_refusal first answer out) (value ∷ []) w.counts refl in
     let e : n ∷ [] ≡ value ∷ [] = a.1 in
-    ((or-none first _ a.0).0, cc, w.output ∙ rw a.0)
+    ((or_none first _ a.0).0, cc, w.output ∙ rw a.0)
 
 -- the same of the same numbers
 writes_same : (first first' value value' : ℕ) (answer answer' out : List ℕ) (r : Answer) (out' : List ℕ) → first ≡ first' → value ≡ value' → answer ≡ answer' → Writes first value answer out r out' → Writes first' value' answer' out r out'

@@ -8,7 +8,7 @@ use native.Mathlib.Numerals.{add-one}
 use native.Mathlib.Omega.{arith}
 use lib.ListN.{length, take, drop, get_or}
 use Rattle.lists.specs.Totals.{total}
-use Rattle.lists.proofs.Numbers.{le-or-lt}
+use Rattle.lists.proofs.Numbers.{le_or_lt}
 use Rattle.lists.proofs.Sums.{total-part, total-none}
 use Rattle.lists.proofs.Builds.{build-at}
 use Rattle.read_along.specs.Words.{Span, span, states_before, first_frame, own_frames, span_of, spans_of, Sounds}
@@ -70,7 +70,7 @@ module _ (words : List ℕ) (nstate : ℕ) (ds : List ℕ) where
     not_earlier i j h a b = ⊎_elim
         (λ (g : j ≤ i). g)
         (λ (g : i < j). absurd (omega (arith, a.still, b.begun, first_next words nstate ds i h, first-grows (i + 1) j (omega arith))))
-        (le-or-lt j i)
+        (le_or_lt j i)
 
     pub sounds-one : (i j : ℕ) → i < length words → j < length words → Sounds frame (span_of words nstate ds i) → Sounds frame (span_of words nstate ds j) → i ≡ j
     sounds-one i j h g a b = omega (arith, not_earlier i j h a b, not_earlier j i g b a)
@@ -81,7 +81,7 @@ module _ (words : List ℕ) (nstate : ℕ) (ds : List ℕ) where
     before (suc n) h l = ⊎_elim
         (λ (g : first_frame words nstate ds n ≤ frame). (n, omega arith, record { begun = g; still = omega (arith, rw add-one at (first_next words nstate ds n h)) }))
         (λ (g : frame < first_frame words nstate ds n). let w = before n (omega arith) g in (w.0, omega (arith, w.1), w.2))
-        (le-or-lt (first_frame words nstate ds n) frame)
+        (le_or_lt (first_frame words nstate ds n) frame)
 
     pub frame_in_one : timing_refusal words nstate ds ≡ 0 → frame < total ds → InOne frame (spans_of words nstate ds)
     frame_in_one e l =
@@ -98,8 +98,8 @@ module _ (words : List ℕ) (nstate : ℕ) (ds : List ℕ) where
 
   module _ (i : ℕ) where
     -- a word of no labels has no frames
-    pub no-labels : get_or words i 0 ≡ 0 → own_frames words nstate ds i ≡ 0
-    no-labels e =
+    pub no_labels : get_or words i 0 ≡ 0 → own_frames words nstate ds i ≡ 0
+    no_labels e =
         let z : get_or words i 0 * nstate ≡ 0 = ap (λ (n : ℕ). n * nstate) e ∙ zero-mul nstate in
         ap (λ (n : ℕ). total (take n (drop (states_before words nstate i) ds))) z ∙ total-none [] 0 (omega arith)
 

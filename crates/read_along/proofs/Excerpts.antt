@@ -12,12 +12,12 @@ use lib.Ieee.{Float}
 use lib.ListN.{length, take, drop}
 use lib.Seq.{take-add, take_all}
 use Rattle.lists.specs.Build.{rows}
-use Rattle.lists.proofs.Answers.{accepted-is}
-use Rattle.lists.proofs.Refusals.{or-none, none_then}
+use Rattle.lists.proofs.Answers.{accepted_is}
+use Rattle.lists.proofs.Refusals.{or_none, none_then}
 use Rattle.lists.proofs.Joins.{rows_none, rows_next}
 use Rattle.spool.specs.Refusal.{trajectory_refusal}
 use Rattle.spool.specs.Promise.{ExcerptSays as StateSays}
-use Rattle.spool.proofs.Excerpts.{excerpts-from as states-from}
+use Rattle.spool.proofs.Excerpts.{excerpts_from as states-from}
 use Rattle.read_along.specs.declared.Part.TheVariants.{Numbers}
 use Rattle.read_along.specs.Words.{states_before, states_of, first_frame, own_frames, span_of, excerpt_start, excerpt_count}
 use Rattle.read_along.specs.Promise.{parted_as, words_refusal, excerpt_refusal, PartOfSays, ExcerptSays}
@@ -26,8 +26,8 @@ use Rattle.read_along.proofs.Refusing.{passed, timed_with, excerpt_0}
 
 module _ (words : List ℕ) (nstate : ℕ) (ds : List ℕ) where
   -- a word's numbers begin with its first frame, and end with its last
-  count-is : (v word : ℕ) → excerpt_count v (span_of words nstate ds word) ≡ own_frames words nstate ds word * v
-  count-is v word = ap (λ (n : ℕ). n * v) (add-sub_cancel_left (first_frame words nstate ds word) (own_frames words nstate ds word))
+  count_is : (v word : ℕ) → excerpt_count v (span_of words nstate ds word) ≡ own_frames words nstate ds word * v
+  count_is v word = ap (λ (n : ℕ). n * v) (add-sub_cancel_left (first_frame words nstate ds word) (own_frames words nstate ds word))
 
   ends_with : (v word : ℕ) → word < length words → first_frame words nstate ds (word + 1) * v ≡ first_frame words nstate ds word * v + own_frames words nstate ds word * v
   ends_with v word h = ap (λ (n : ℕ). n * v) (first_next words nstate ds word h) ∙ add-mul (first_frame words nstate ds word) (own_frames words nstate ds word) v
@@ -37,17 +37,17 @@ module _ (words : List ℕ) (nstate : ℕ) (ds : List ℕ) where
   module _ (t : Bor (List Float)) (v word first count : ℕ) (says : PartOfSays words nstate ds t.now v word (Numbers first count)) where
     told : (excerpt_refusal words nstate ds (length t.now) v word ≡ 0) × (first ≡ excerpt_start v (span_of words nstate ds word)) × (count ≡ excerpt_count v (span_of words nstate ds word))
     told =
-        let a = accepted-is (parted_as (Numbers first count)) _ _ says refl in
+        let a = accepted_is (parted_as (Numbers first count)) _ _ says refl in
         let l : first ∷ count ∷ [] ≡ excerpt_start v (span_of words nstate ds word) ∷ excerpt_count v (span_of words nstate ds word) ∷ [] = a.1 in
         (a.0, cc, cc)
 
     -- it lies in the trajectory
     pub part-fits : first + count ≤ length t.now
     part-fits =
-        let z = or-none (words_refusal (trajectory_refusal (length t.now) ds v) words nstate ds) _ told.0 in
+        let z = or_none (words_refusal (trajectory_refusal (length t.now) ds v) words nstate ds) _ told.0 in
         let h : word < length words = ltb-true word (length words) (none_then (ltb word (length words)) 1 z.1) in
         let k = timed_with (length t.now) v words nstate ds z.0 in
-        omega (arith, told.1, told.2, count-is v word, ends_with v word h, mul-le-mul_right v (first-within words nstate ds (word + 1)), k.1.agree)
+        omega (arith, told.1, told.2, count_is v word, ends_with v word h, mul-le-mul_right v (first-within words nstate ds (word + 1)), k.1.agree)
 
     -- and is what `excerpt` hands back
     pub part-handed : (r : Bor (List Float)) → ExcerptSays words nstate ds t v word r → r.now ≡ take count (drop first t.now)

@@ -15,8 +15,8 @@ use Rattle.lists.specs.Bytes.{Bytes, little, bytes_of, starts_with}
 use Rattle.lists.proofs.Flags.{both}
 use Rattle.lists.proofs.Bytes.{bytes-length, little-at}
 use Rattle.lists.proofs.Spelled.{part-spelled, part-below}
-use Rattle.lists.proofs.Fronts.{starts_is, is-starts}
-use Rattle.lists.proofs.Builds.{build-is}
+use Rattle.lists.proofs.Fronts.{starts_is, is_starts}
+use Rattle.lists.proofs.Builds.{build_is}
 use Rattle.lists.proofs.Joins.{part-part, part-joined, part-behind, rows-own, rows_cut, rows_same, flatten_rows, flatten_build}
 use Rattle.read_along.specs.Words.{Span, span}
 use Rattle.read_along.specs.Format.{mark, version, version_of, number_at, count_of, head_bytes, span_bytes, span_at, spans_in, touching, formed, bytes_of_span, bytes_of_spans, bytes_of_heading, bytes_of_file}
@@ -34,13 +34,13 @@ head_touches a s ss e =
     let q = both (leb a s.after) _ p.1 in
     (eqb-true s.first a p.0, leb-true a s.after q.0, q.1)
 
-from-there : (a : ℕ) (ss : List Span) → touching a ss ≡ true → 0 < length ss → (at ss 0).first ≡ a
-from-there a [] e h = absurd (omega arith)
-from-there a (s ∷ ss) e h = (head_touches a s ss e).0
+from_there : (a : ℕ) (ss : List Span) → touching a ss ≡ true → 0 < length ss → (at ss 0).first ≡ a
+from_there a [] e h = absurd (omega arith)
+from_there a (s ∷ ss) e h = (head_touches a s ss e).0
 
 next-there : (a : ℕ) (ss : List Span) → touching a ss ≡ true → (i : ℕ) → suc i < length ss → (at ss (suc i)).first ≡ (at ss i).after
 next-there a [] e i h = absurd (omega arith)
-next-there a (s ∷ ss) e zero h = from-there s.after ss (head_touches a s ss e).2 (omega arith)
+next-there a (s ∷ ss) e zero h = from_there s.after ss (head_touches a s ss e).2 (omega arith)
 next-there a (s ∷ ss) e (suc i) h = next-there s.after ss (head_touches a s ss e).2 i (omega arith)
 
 forth-there : (a : ℕ) (ss : List Span) → touching a ss ≡ true → (i : ℕ) → i < length ss → (at ss i).first ≤ (at ss i).after
@@ -49,7 +49,7 @@ forth-there a (s ∷ ss) e zero h = let t = head_touches a s ss e in omega (arit
 forth-there a (s ∷ ss) e (suc i) h = forth-there s.after ss (head_touches a s ss e).2 i (omega arith)
 
 pub touching-touch : (ss : List Span) → touching 0 ss ≡ true → Touch ss
-touching-touch ss e = record { from_0 = from-there 0 ss e; next = next-there 0 ss e; forth = forth-there 0 ss e }
+touching-touch ss e = record { from_0 = from_there 0 ss e; next = next-there 0 ss e; forth = forth-there 0 ss e }
 
 touching-from : (a : ℕ) (ss : List Span) → (0 < length ss → (at ss 0).first ≡ a) → ((i : ℕ) → suc i < length ss → (at ss (suc i)).first ≡ (at ss i).after) → ((i : ℕ) → i < length ss → (at ss i).first ≤ (at ss i).after) → touching a ss ≡ true
 unfolding touching
@@ -87,7 +87,7 @@ module _ (ss : List Span) where
   file-parts = ap (λ (l : List ℕ). mark ++ l) (append_assoc (bytes_of 2 version) (bytes_of 4 (length ss)) (bytes_of_spans ss))
 
   marked : starts_with mark file ≡ true
-  marked = is-starts mark file (ap (take 3) file-parts)
+  marked = is_starts mark file (ap (take 3) file-parts)
 
   version-back : version_of file ≡ version
   version-back = ap version_of file-parts ∙ little-at mark (bytes_of 4 (length ss) ++ bytes_of_spans ss) 3 2 version refl (omega arith)
@@ -115,7 +115,7 @@ module _ (ss : List Span) where
     -- it says these spans
     pub written_back : spans_in file ≡ ss
     unfolding spans_in
-    written_back = rw count-back (sym (build-is (span_at file) (length ss) ss (span 0 0) refl (λ i h. sym (span-back i h))))
+    written_back = rw count-back (sym (build_is (span_at file) (length ss) ss (span 0 0) refl (λ i h. sym (span-back i h))))
 
     -- and is accepted where they touch
     pub written-formed : Touch ss → formed file ≡ true

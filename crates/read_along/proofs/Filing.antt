@@ -93,9 +93,9 @@ module _ (bytes : List ℕ) where
 
   -- ---- whether it is well formed
 
-  pub not-marked : starts_with mark bytes ≡ false → false ≡ formed bytes
+  pub not_marked : starts_with mark bytes ≡ false → false ≡ formed bytes
   unfolding formed
-  not-marked e = rw e
+  not_marked e = rw e
 
   module _ (m : starts_with mark bytes ≡ true) (v : ℕ) (w : v ≡ version_of bytes) where
     pub other-version : (v ≡ 1 → ⊥) → false ≡ formed bytes

@@ -14,10 +14,10 @@ use Rattle.lists.specs.Flags.{is_on}
 use Rattle.lists.specs.Totals.{total}
 use Rattle.lists.proofs.Numbers.{same_or_not}
 use Rattle.lists.proofs.Flags.{both, neither, off_zero}
-use Rattle.lists.proofs.Refusals.{or-none, none_then}
+use Rattle.lists.proofs.Refusals.{or_none, none_then}
 use Rattle.lists.proofs.Sums.{total-whole}
 use Rattle.spool.specs.Refusal.{durations_refusal, trajectory_refusal}
-use Rattle.spool.specs.Refusal.Laws.{durations_0, durations-accepts, Accepted, accepts}
+use Rattle.spool.specs.Refusal.Laws.{durations_0, durations_accepts, Accepted, accepts}
 use Rattle.read_along.specs.Promise.{label_outside, agreeing, words_refusal, timing_refusal, at_refusal, excerpt_refusal, room_refusal}
 use Rattle.read_along.specs.Inner.Steps.{Timed}
 
@@ -82,7 +82,7 @@ module _ (below : ℕ) (words : List ℕ) (nstate : ℕ) (ds : List ℕ) where
   pub passed : words_refusal below words nstate ds ≡ 0 → Passed
   unfolding words_refusal
   passed e =
-      let a = or-none (cond (label_outside nstate || is_on below) 5 0) (cond (agreeing words nstate ds) 0 1) e in
+      let a = or_none (cond (label_outside nstate || is_on below) 5 0) (cond (agreeing words nstate ds) 0 1) e in
       let b = neither (label_outside nstate) (is_on below) (none_fails (label_outside nstate || is_on below) a.0) in
       let c = both (leb (length words) most_words) (eqb (total words * nstate) (length ds)) (none_then (agreeing words nstate ds) 0 a.1) in
       record {
@@ -100,7 +100,7 @@ module _ (below : ℕ) (words : List ℕ) (nstate : ℕ) (ds : List ℕ) where
 pub timed : (words : List ℕ) (nstate : ℕ) (ds : List ℕ) → timing_refusal words nstate ds ≡ 0 → Timed words nstate ds
 timed words nstate ds e =
     let p = passed (durations_refusal ds) words nstate ds e in
-    let d = durations-accepts ds p.lower in
+    let d = durations_accepts ds p.lower in
     record { few = p.few; narrow = p.narrow; agree = p.agree; states = d.0; short = d.1 }
 
 -- and in no other case are they refused

@@ -10,8 +10,8 @@ use lib.Seq.{sets, sets-eq}
 use Rattle.lists.specs.Totals.{total}
 use Rattle.lists.specs.Parts.{PartSays}
 use Rattle.lists.specs.Answers.{accepting, refusing}
-use Rattle.lists.proofs.Refusals.{or-first}
-use Rattle.lists.proofs.Answers.{given-none, refused, refused_as, refused-is, untouched, accepted, accepted-is, in_front}
+use Rattle.lists.proofs.Refusals.{or_first}
+use Rattle.lists.proofs.Answers.{given-none, refused, refused_as, refused_is, untouched, accepted, accepted_is, in_front}
 use Rattle.spool.specs.Refusal.{trajectory_refusal}
 use Rattle.read_along.specs.declared.Counted.TheVariants.{Number, Refused}
 use Rattle.read_along.specs.declared.Part.{Part}
@@ -27,7 +27,7 @@ module _ (first value : ℕ) (answer out : List ℕ) where
   pub writes_refused : (k : ℕ) → k ≡ first → (k ≡ 0 → ⊥) → Writes first value answer out (refusing k) out
   writes_refused k e z =
       let f : (first ≡ 0 → ⊥) = λ q. z (e ∙ q) in
-      let q : k ≡ room_refusal first answer out = e ∙ sym (or-first first _ f) in
+      let q : k ≡ room_refusal first answer out = e ∙ sym (or_first first _ f) in
       record { counts = rw (← q) (refused k (value ∷ []) z); output = rw (← q) (untouched k answer out z) }
 
   pub writes_short : first ≡ 0 → length out < length answer → Writes first value answer out (refusing 4) out
@@ -47,7 +47,7 @@ module _ (words : List ℕ) (nstate : ℕ) (ds : List ℕ) (frame : ℕ) where
   pub at-refused : (k : ℕ) → k ≡ timing_refusal words nstate ds → (k ≡ 0 → ⊥) → AtSays words nstate ds frame (Refused k)
   at-refused k e z =
       let f : (timing_refusal words nstate ds ≡ 0 → ⊥) = λ q. z (e ∙ q) in
-      let q : k ≡ at_refusal words nstate ds frame = e ∙ sym (or-first (timing_refusal words nstate ds) _ f) in
+      let q : k ≡ at_refusal words nstate ds frame = e ∙ sym (or_first (timing_refusal words nstate ds) _ f) in
       record { word = 0; answer = rw (← q) (refused k (0 ∷ []) z); sounds = λ n. absurd (z (q ∙ n)) }
 
   module _ (none : timing_refusal words nstate ds ≡ 0) (r : ℕ) (found : FoundAt words nstate ds frame r) where
@@ -74,7 +74,7 @@ module _ (words : List ℕ) (nstate : ℕ) (ds : List ℕ) (trajectory : List Fl
   pub part-refused : (k : ℕ) → k ≡ before → (k ≡ 0 → ⊥) → PartOfSays words nstate ds trajectory v word (part.Refused k)
   part-refused k e z =
       let f : (before ≡ 0 → ⊥) = λ q. z (e ∙ q) in
-      let q : k ≡ excerpt_refusal words nstate ds numbers v word = e ∙ sym (or-first before _ f) in
+      let q : k ≡ excerpt_refusal words nstate ds numbers v word = e ∙ sym (or_first before _ f) in
       rw (← q) (refused k _ z)
 
   module _ (none : before ≡ 0) where
@@ -90,12 +90,12 @@ module _ (words : List ℕ) (nstate : ℕ) (ds : List ℕ) (trajectory : List Fl
 module _ (words : List ℕ) (nstate : ℕ) (ds : List ℕ) (t : Bor (List Float)) (v word : ℕ) (r : Part) (says : PartOfSays words nstate ds t.now v word r) where
   pub excerpt_none : (k : ℕ) → r ≡ part.Refused k → (q : Bor (List Float)) → PartSays 8 t 0 0 q → ExcerptSays words nstate ds t v word q
   excerpt_none k e q p =
-      let z = (refused-is k _ _ _ (sym (ap parted_as e) ∙ says)).1 in
+      let z = (refused_is k _ _ _ (sym (ap parted_as e) ∙ says)).1 in
       rw (given-none _ (excerpt_start v (span_of words nstate ds word)) 0 z, given-none _ (excerpt_count v (span_of words nstate ds word)) 0 z) p
 
   pub excerpt_some : (first count : ℕ) → r ≡ part.Numbers first count → (q : Bor (List Float)) → PartSays 8 t first count q → ExcerptSays words nstate ds t v word q
   excerpt_some first count e q p =
-      let a = accepted-is (parted_as (part.Numbers first count)) _ _ (sym (ap parted_as e) ∙ says) refl in
+      let a = accepted_is (parted_as (part.Numbers first count)) _ _ (sym (ap parted_as e) ∙ says) refl in
       let l : first ∷ count ∷ [] ≡ excerpt_start v (span_of words nstate ds word) ∷ excerpt_count v (span_of words nstate ds word) ∷ [] = a.1 in
       let f : first ≡ excerpt_start v (span_of words nstate ds word) = cc in
       let c : count ≡ excerpt_count v (span_of words nstate ds word) = cc in

@@ -79,9 +79,9 @@ module _ (g : Layout) (lanes : ℕ) (f : ℕ → Region → Region) (work : List
   before l = region_in g (region_of (size_of g) l work)
 
   -- each region is so, and what lies behind them is as it was
-  pub across-is : (work' : List Float) → Across (λ l b e. e ≡ flat (f l (region_in g b))) (size_of g) lanes work work' → work' ≡ each_region g lanes f work
+  pub across_is : (work' : List Float) → Across (λ l b e. e ≡ flat (f l (region_in g b))) (size_of g) lanes work work' → work' ≡ each_region g lanes f work
   unfolding each_region
-  across-is work' k =
+  across_is work' k =
       sym (rows_cut (size_of g) lanes work')
       ∙ rw k.behind
       (ap (λ (x : List Float). x ++ drop (lanes * size_of g) work) (rows_same (λ l. region_of (size_of g) l work') (λ l. flat (f l (before l))) lanes k.each))
@@ -89,7 +89,7 @@ module _ (g : Layout) (lanes : ℕ) (f : ℕ → Region → Region) (work : List
   -- each region's six lists are so
   pub lists_are : (work' : List Float) → Across (λ l b e. region_in g e ≡ f l (region_in g b)) (size_of g) lanes work work' → work' ≡ each_region g lanes f work
   lists_are work' k =
-      across-is work' (record {
+      across_is work' (record {
         long = k.long;
         each = λ l h. sym (flat-read g (region_of (size_of g) l work') (region-long (size_of g) lanes l work' h (omega (arith, k.long)))) ∙ ap flat (k.each l h);
         behind = k.behind;

@@ -9,7 +9,7 @@ use borrow.Rule.Slice.PartMut.{put_mid}
 use lib.ListN.{length, take, drop}
 use lib.Seq.{sets, length-sets}
 use lib.Ieee.{Float}
-use Rattle.lists.proofs.Numbers.{le-or-lt}
+use Rattle.lists.proofs.Numbers.{le_or_lt}
 use Rattle.lists.proofs.Rows.{row_fits}
 use Rattle.lists.proofs.Expansions.{part_length}
 use Rattle.region.specs.Region.{region_of}
@@ -45,7 +45,7 @@ module _ (Step : ℕ → List Float → List Float → Type 0) (size lanes : ℕ
             subst (λ (z : ℕ). Step z (region_of size z d) (region_of size z (sets m (l * size) x))) (sym q)
             (rw (stored-whole x m (l * size) size e f) (rw (k.left l (omega arith) h) at s)))
             (λ (g : j < l). rw (stored-behind x m (j * size) size (l * size) (row_fits size j l g)) (k.done j g))
-            (le-or-lt l j);
+            (le_or_lt l j);
         left = λ j i g. let o : l * size + size ≤ j * size = row_fits size l j (omega arith) in
             stored-before x m (j * size) size (l * size) (omega arith) ∙ k.left j (omega arith) g;
         behind = dropped_before x m (lanes * size) (l * size) (omega (arith, row_fits size l lanes h)) ∙ k.behind;

@@ -11,7 +11,7 @@ use lib.ListN.{length, drop, get_or, replicate}
 use lib.Seq.{get_or-drop}
 use lib.Ieee.{Float}
 use Rattle.lists.specs.Frames.{expand}
-use Rattle.lists.proofs.Numbers.{le-or-lt}
+use Rattle.lists.proofs.Numbers.{le_or_lt}
 use Rattle.lists.proofs.Parts.{drop-next}
 use Rattle.model.specs.Weight.{voiced_at}
 use Rattle.voicing.specs.Mask.{mask_of, weights_of, stream_mask}
@@ -53,7 +53,7 @@ module _ (z : Run) where
       ⊎_elim
       (λ (l : ahead bs ≤ t). let i = in_from f true (suc p) bs t (omega arith) l v in (suc i.0, omega (arith, i.1), i.2, i.3))
       (λ (l : t < ahead bs). (0, omega arith, omega arith, omega arith))
-      (le-or-lt (ahead bs) t)
+      (le_or_lt (ahead bs) t)
 
   -- and begin behind the frame that ends an open run
   first-from : (inside : Bool) (p : ℕ) (bs : List Bool) (k : ℕ) → k < length (runs_from inside p bs) → p + cond inside (suc (ahead bs)) 0 ≤ (get_or (runs_from inside p bs) k z).first
@@ -88,7 +88,7 @@ pub runs-apart : (bs : List Bool) (j k : ℕ) → j < k → k < length (runs_of 
 runs-apart bs j k l h = apart_from _ false 0 bs j k l h
 
 not-later : (bs : List Bool) (f j k : ℕ) → k < length (runs_of bs) → f < (run_at bs j).first + (run_at bs j).frames → (run_at bs k).first ≤ f → k ≤ j
-not-later bs f j k h a b = ⊎_elim (λ (l : k ≤ j). l) (λ (l : j < k). absurd (omega (arith, runs-apart bs j k l h))) (le-or-lt k j)
+not-later bs f j k h a b = ⊎_elim (λ (l : k ≤ j). l) (λ (l : j < k). absurd (omega (arith, runs-apart bs j k l h))) (le_or_lt k j)
 
 -- so a frame names one run
 pub one-run : (bs : List Bool) (f j k : ℕ) → j < length (runs_of bs) → k < length (runs_of bs) → (run_at bs j).first ≤ f → f < (run_at bs j).first + (run_at bs j).frames

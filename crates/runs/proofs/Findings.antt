@@ -11,7 +11,7 @@ use lib.ListN.{length, take, drop, get_or, set, replicate, length-drop, length-m
 use lib.Seq.{drop-drop, get_or-drop}
 use lib.Ieee.{Float}
 use Rattle.lists.specs.Totals.{total}
-use Rattle.lists.proofs.Numbers.{le-or-lt}
+use Rattle.lists.proofs.Numbers.{le_or_lt}
 use Rattle.lists.proofs.Fills.{stored, finished}
 use Rattle.lists.proofs.Sums.{total-front}
 use Rattle.model.specs.declared.voice.model.Weight.TheVariants.{Absent}
@@ -186,11 +186,11 @@ module _ {ds : List ℕ} {mask : List Bool} {f : Found} (a : FoundAt ds mask f) 
 
   -- and so the number of all
   pub found_all : (k : ℕ) → length (runs_of mask) ≤ k → (f.number < k → f.end.frame ≡ f.begin.frame) → f.number ≡ length (runs_of mask)
-  found_all k h few = ⊎_elim (λ (g : k ≤ f.number). omega (arith, a.before)) (λ (g : f.number < k). found_none (few g)) (le-or-lt k f.number)
+  found_all k h few = ⊎_elim (λ (g : k ≤ f.number). omega (arith, a.before)) (λ (g : f.number < k). found_none (few g)) (le_or_lt k f.number)
 
   -- it has no frames, or some
   either : {P : Type 0} → (f.end.frame ≡ f.begin.frame → P) → (f.begin.frame < f.end.frame → P) → P
-  either none some = ⊎_elim (λ (g : f.end.frame ≤ f.begin.frame). none (omega (arith, a.ends.forth))) some (le-or-lt f.end.frame f.begin.frame)
+  either none some = ⊎_elim (λ (g : f.end.frame ≤ f.begin.frame). none (omega (arith, a.ends.forth))) some (le_or_lt f.end.frame f.begin.frame)
 
   found_has : f.number < length (runs_of mask) → f.begin.frame < f.end.frame
   found_has h = either (λ e. absurd (omega (arith, found_none e))) (λ g. g)
@@ -256,7 +256,7 @@ module _ (ds : List ℕ) (mask : List Bool) (f : Found) (k : ℕ) (a : FoundAt d
   pub found-run : 0 < f.end.frame - f.begin.frame → (run_at mask k ≡ run_of f) × (k < length (runs_of mask))
   found-run h =
       let s : f.begin.frame < f.end.frame = omega arith in
-      let n : f.number ≡ k = ⊎_elim (λ (g : k ≤ f.number). omega arith) (λ (g : f.number < k). absurd (omega (arith, few g))) (le-or-lt k f.number) in
+      let n : f.number ≡ k = ⊎_elim (λ (g : k ≤ f.number). omega arith) (λ (g : f.number < k). absurd (omega (arith, few g))) (le_or_lt k f.number) in
       let z : f.number + 0 ≡ k = omega arith in
       (rw z at (sym (get_or-drop f.number (runs_of mask) 0 (record { first = 0; frames = 0 }))) ∙ ap (λ (l : List Run). get_or l 0 (record { first = 0; frames = 0 })) (found_some a s), rw (← n) (found_within a s))
 

@@ -11,8 +11,8 @@ use lib.Dec.{ltb, leb, eqb}
 use lib.ListN.{length, get_or-eq_default}
 use lib.Ieee.{Float}
 use Rattle.lists.proofs.Flags.{both}
-use Rattle.lists.proofs.Numbers.{le-or-lt}
-use Rattle.lists.proofs.Refusals.{none_then, then-none, or-none}
+use Rattle.lists.proofs.Numbers.{le_or_lt}
+use Rattle.lists.proofs.Refusals.{none_then, then-none, or_none}
 use Rattle.model.proofs.Windows.{fit-some}
 use Rattle.voicing.specs.Mask.{stream_mask}
 use Rattle.mlpg_adjust.specs.Trajectory.{state_size, gv_on}
@@ -60,13 +60,13 @@ module _ (s : Stream) (widths : List ℕ) (coefs records : List Float) (ds : Lis
         fit = has_room s.v n (length out) (length work) (length marks)
 
         in_turn_lem : ◌≡◌ {A = ℕ} (cond fit 0 6) 0 × (stays_refusal s.gv n widths ≡ 0)
-        in_turn_lem = or-none (cond fit 0 6) (stays_refusal s.gv n widths) accepted
+        in_turn_lem = or_none (cond fit 0 6) (stays_refusal s.gv n widths) accepted
 
         -- what 20 and 21 leave
         left : (gv_on s.gv ≡ false) × (eqb n 0 ≡ false)
         left =
-            let (b, u) = or-none (cond (gv_on s.gv) 20 0) _ in_turn_lem.1 in
-            let (d, _) = or-none (cond (eqb n 0) 21 0) _ u in
+            let (b, u) = or_none (cond (gv_on s.gv) 20 0) _ in_turn_lem.1 in
+            let (d, _) = or_none (cond (eqb n 0) 21 0) _ u in
             (then-none (gv_on s.gv) 19 b, then-none (eqb n 0) 20 d)
 
         some : 0 < n
@@ -99,7 +99,7 @@ module _ (s : Stream) (widths : List ℕ) (coefs records : List Float) (ds : Lis
   asked-few run = ⊎_elim
       (λ (g : length (runs_of mask) ≤ run). rw (get_or-eq_default (runs_of mask) (record { first = 0; frames = 0 }) g) (omega arith))
       (λ (g : run < length (runs_of mask)). omega (arith, run_lies mask run g, mask-long s widths records ds, shaped.frames))
-      (le-or-lt (length (runs_of mask)) run)
+      (le_or_lt (length (runs_of mask)) run)
 
   pub windows-some : 0 < length widths
   windows-some = fit-some widths shaped.fit

@@ -17,16 +17,16 @@ use Rattle.runs.specs.Alone.{of_run}
 
 -- ---- how many there are
 
-few-from : (inside : Bool) (p : ℕ) (bs : List Bool) → length (runs_from inside p bs) ≤ length bs
+few_from : (inside : Bool) (p : ℕ) (bs : List Bool) → length (runs_from inside p bs) ≤ length bs
 unfolding runs_from
-few-from inside p [] = omega arith
-few-from inside p (false ∷ bs) = omega (arith, few-from false (suc p) bs)
-few-from true p (true ∷ bs) = omega (arith, few-from true (suc p) bs)
-few-from false p (true ∷ bs) = omega (arith, few-from true (suc p) bs)
+few_from inside p [] = omega arith
+few_from inside p (false ∷ bs) = omega (arith, few_from false (suc p) bs)
+few_from true p (true ∷ bs) = omega (arith, few_from true (suc p) bs)
+few_from false p (true ∷ bs) = omega (arith, few_from true (suc p) bs)
 
 -- there are no more runs than frames
 pub runs-few : (bs : List Bool) → length (runs_of bs) ≤ length bs
-runs-few bs = few-from false 0 bs
+runs-few bs = few_from false 0 bs
 
 -- ---- the frames that are voiced from here on without a gap
 
@@ -47,14 +47,14 @@ record Lies (n : ℕ) (ls rs : List ℕ) (r : Run) : Type 0 where
 
 -- each run from frame p on, with l frames of an open run before it
 module _ (n : ℕ) (ls rs : List ℕ) (z : Run) where
-  lies-from : (inside : Bool) (l p : ℕ) (bs : List Bool) → p + length bs ≡ n → drop p ls ≡ lefts (cond inside l 0) bs → drop p rs ≡ rights bs
+  lies_from : (inside : Bool) (l p : ℕ) (bs : List Bool) → p + length bs ≡ n → drop p ls ≡ lefts (cond inside l 0) bs → drop p rs ≡ rights bs
       → (k : ℕ) → k < length (runs_from inside p bs) → Lies n ls rs (get_or (runs_from inside p bs) k z)
   unfolding runs_from lefts rights ahead
-  lies-from inside l p [] e a b k h = absurd (omega arith)
-  lies-from inside l p (false ∷ bs) e a b k h = lies-from false l (suc p) bs (omega arith) (drop-next p ls a) (drop-next p rs b) k h
-  lies-from true l p (true ∷ bs) e a b k h = lies-from true (suc l) (suc p) bs (omega arith) (drop-next p ls a) (drop-next p rs b) k h
-  lies-from false l p (true ∷ bs) e a b (suc k) h = lies-from true 1 (suc p) bs (omega arith) (drop-next p ls a) (drop-next p rs b) k (omega arith)
-  lies-from false l p (true ∷ bs) e a b zero h = record {
+  lies_from inside l p [] e a b k h = absurd (omega arith)
+  lies_from inside l p (false ∷ bs) e a b k h = lies_from false l (suc p) bs (omega arith) (drop-next p ls a) (drop-next p rs b) k h
+  lies_from true l p (true ∷ bs) e a b k h = lies_from true (suc l) (suc p) bs (omega arith) (drop-next p ls a) (drop-next p rs b) k h
+  lies_from false l p (true ∷ bs) e a b (suc k) h = lies_from true 1 (suc p) bs (omega arith) (drop-next p ls a) (drop-next p rs b) k (omega arith)
+  lies_from false l p (true ∷ bs) e a b zero h = record {
     some = omega arith;
     within = omega (arith, ahead-most bs);
     left = λ u g. sym (get_or-drop p ls u 0) ∙ ap (λ (m : List ℕ). get_or m u 0) a ∙ lefts-ahead 0 (true ∷ bs) u g ∙ omega arith;
@@ -63,7 +63,7 @@ module _ (n : ℕ) (ls rs : List ℕ) (z : Run) where
 
 module _ (bs : List Bool) (k : ℕ) (h : k < length (runs_of bs)) where
   lies : Lies (length bs) (lefts 0 bs) (rights bs) (run_at bs k)
-  lies = lies-from (length bs) (lefts 0 bs) (rights bs) _ false 0 0 bs (omega arith) refl refl k h
+  lies = lies_from (length bs) (lefts 0 bs) (rights bs) _ false 0 0 bs (omega arith) refl refl k h
 
   pub run-some : 0 < (run_at bs k).frames
   run-some = lies.some

@@ -18,7 +18,7 @@ use Rattle.lists.proofs.Chosen.{select-all, fill_on}
 use Rattle.lists.proofs.Counts.{count-all}
 use Rattle.lists.proofs.Expansions.{expand-length, expand-part}
 use Rattle.lists.proofs.Joins.{part-part, rows_same}
-use Rattle.lists.proofs.Parts.{part-is, map-part}
+use Rattle.lists.proofs.Parts.{part_is, map-part}
 use Rattle.lists.proofs.Regions.{cut-length}
 use Rattle.lists.proofs.Rows.{row_fits, row_in}
 use Rattle.lists.proofs.Sums.{total-part, total-front}
@@ -57,13 +57,13 @@ module _ (bs : List Bool) (k : ℕ) (h : k < length (runs_of bs)) where
 
   lefts-run : of_run run (lefts 0 bs) ≡ lefts 0 (replicate run.frames true)
   lefts-run =
-      part-is run.first run.frames 0 (lefts 0 bs) (lefts 0 (replicate run.frames true)) (rw lefts-length (run_lies bs k h)) (lefts-length 0 (replicate run.frames true) ∙ length-replicate run.frames true)
+      part_is run.first run.frames 0 (lefts 0 bs) (lefts 0 (replicate run.frames true)) (rw lefts-length (run_lies bs k h)) (lefts-length 0 (replicate run.frames true) ∙ length-replicate run.frames true)
       (λ u b. omega (arith, run-left bs k h u b, rw append-nil at (lefts-at run.frames u [] b 0)))
 
   rights-run : of_run run (rights bs) ≡ rights (replicate run.frames true)
   unfolding ahead
   rights-run =
-      part-is run.first run.frames 0 (rights bs) (rights (replicate run.frames true)) (rw rights-length (run_lies bs k h)) (rights-length (replicate run.frames true) ∙ length-replicate run.frames true)
+      part_is run.first run.frames 0 (rights bs) (rights (replicate run.frames true)) (rw rights-length (run_lies bs k h)) (rights-length (replicate run.frames true) ∙ length-replicate run.frames true)
       (λ u b. omega (arith, run-right bs k h u b, rw append-nil at (rights-at run.frames u [] b)))
 
   -- so that inverse variances are zeroed alike

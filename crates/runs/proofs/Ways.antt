@@ -16,7 +16,7 @@ use Rattle.lists.specs.declared.Filled.{Filled}
 use Rattle.lists.specs.declared.Filled.TheVariants.{Done, Refused}
 use Rattle.lists.proofs.Flags.{neither}
 use Rattle.lists.proofs.Answers.{refused, untouched, accepted, in_front}
-use Rattle.lists.proofs.Refusals.{or-first}
+use Rattle.lists.proofs.Refusals.{or_first}
 use Rattle.model.specs.Windows.{width_of}
 use Rattle.voicing.specs.Mask.{stream_mask}
 use Rattle.voicing.specs.declared.Voicing.{Voicing}
@@ -102,7 +102,7 @@ module _ (v : ℕ) (masked : Bool) (threshold : Float) (windows : ℕ) (records 
 
   pub lists-refused : (k : ℕ) → k ≡ lists → (k ≡ 0 → ⊥) → Told (Refused k) out
   unfolding runs_refusal
-  lists-refused k e h = untold k (e ∙ sym (or-first lists _ (λ z. h (e ∙ z)))) h
+  lists-refused k e h = untold k (e ∙ sym (or_first lists _ (λ z. h (e ∙ z)))) h
 
   module _ (none : lists ≡ 0) (n : ℕ) (en : n ≡ length found) where
     pub runs-short : leb (n * 2) (length out) ≡ false → Told (Refused 6) out
@@ -139,7 +139,7 @@ module _ (s : Stream) (widths : List ℕ) (coefs records : List Float) (ds : Lis
 
   pub inputs-refused : (k : ℕ) → k ≡ inputs → (k ≡ 0 → ⊥) → Says (Refused k) out work marks
   unfolding run_refusal
-  inputs-refused k e h = still k (e ∙ sym (or-first inputs _ (λ z. h (e ∙ z)))) h
+  inputs-refused k e h = still k (e ∙ sym (or_first inputs _ (λ z. h (e ∙ z)))) h
 
   -- of a run of n frames, which is there where it has some
   module _ (none : inputs ≡ 0) (n : ℕ) (en : (run_at mask run).frames ≡ n) where

@@ -63,10 +63,10 @@ unfolding run_refusal widths_fit all_finite finite disagree runs_from mask_of we
 twenty = refl
 
 -- and 21 with GV off
-pub twenty-one : number Off 2 3 0 ≡ 21
+pub twenty_one : number Off 2 3 0 ≡ 21
 unfolding run_refusal widths_fit all_finite finite disagree runs_from mask_of weights_of lt of_bits from_linear
-twenty-one = refl
+twenty_one = refl
 
-pub twenty-two : number Off 0 3 2 ≡ 22
+pub twenty_two : number Off 0 3 2 ≡ 22
 unfolding run_refusal widths_fit all_finite finite disagree runs_from mask_of weights_of lt of_bits from_linear
-twenty-two = refl
+twenty_two = refl

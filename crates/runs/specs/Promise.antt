@@ -10,7 +10,7 @@ use Rattle.lists.specs.declared.Filled.{Filled}
 use Rattle.model.specs.Windows.{width_of}
 use Rattle.voicing.specs.Mask.{mask_of, weights_of, stream_mask}
 use Rattle.mlpg_adjust.specs.Trajectory.{record_size, state_size, gv_on}
-use Rattle.mlpg_adjust.specs.Promise.{lengths_of, out_of_range, stream_refusal, floats_aFrame, marks_aFrame, zero_floats, zero_marks}
+use Rattle.mlpg_adjust.specs.Promise.{lengths_of, out_of_range, stream_refusal, floats_a_frame, marks_a_frame, zero_floats, zero_marks}
 use Rattle.mlpg_adjust.specs.declared.Stream.{Stream}
 use Rattle.runs.specs.declared.Run.{Run}
 use Rattle.runs.specs.Runs.{runs_from, runs_of, run_at, pairs_of}
@@ -47,7 +47,7 @@ module _ (v : ℕ) (masked : Bool) (threshold : Float) (windows : ℕ) (records 
 
 -- RULES, One run alone: an output and a work space that are long enough for so many frames
 abbrev pub has_room : ℕ → ℕ → ℕ → ℕ → ℕ → Bool
-has_room v frames out work marks = (leb (frames * v) out && leb (frames * floats_aFrame) work) && leb (frames * marks_aFrame) marks
+has_room v frames out work marks = (leb (frames * v) out && leb (frames * floats_a_frame) work) && leb (frames * marks_a_frame) marks
 
 module _ (s : Stream) (widths : List ℕ) (coefs records : List Float) (ds : List ℕ) (gv : List Float) (switches : List ℕ) (run : ℕ) where
   -- the runs of the stream, and the one that is asked for

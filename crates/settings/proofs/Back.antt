@@ -14,11 +14,11 @@ use Rattle.lists.specs.Frames.{select, count}
 use Rattle.lists.specs.Bytes.{Bytes}
 use Rattle.lists.specs.Firsts.{first_at}
 use Rattle.lists.specs.Refusals.{or_else}
-use Rattle.lists.proofs.Numbers.{le-or-lt}
-use Rattle.lists.proofs.Refusals.{or-none}
+use Rattle.lists.proofs.Numbers.{le_or_lt}
+use Rattle.lists.proofs.Refusals.{or_none}
 use Rattle.lists.proofs.Fills.{build-length}
-use Rattle.lists.proofs.Builds.{build-at, build-is, map-build, fold_append}
-use Rattle.lists.proofs.Firsts.{first-within, first-is, first-before, first-none}
+use Rattle.lists.proofs.Builds.{build-at, build_is, map-build, fold_append}
+use Rattle.lists.proofs.Firsts.{first-within, first_is, first-before, first-none}
 use Rattle.lists.proofs.Chosen.{select-append, select-at, select-each, select-front, select-map, select-first, select-none}
 use Rattle.lists.specs.declared.Changed.{Changed}
 use Rattle.lists.specs.declared.Changed.TheVariants.{Done}
@@ -32,7 +32,7 @@ use Rattle.settings.specs.Promise.{store_refusal, file_in, write_refusal, ReadSa
 use Rattle.settings.specs.Laws.{SameSettings}
 use Rattle.settings.specs.Written.{Fits, nothing, Writable}
 use Rattle.settings.proofs.Places.{holding-long, holding-at}
-use Rattle.settings.proofs.Gathering.{names, put-behind, all, Closed, none-closed, names-long, voices-long, held-there, behind-free, first-there, not_there, three-more}
+use Rattle.settings.proofs.Gathering.{names, put-behind, all, Closed, none-closed, names-long, voices-long, held_there, behind-free, first-there, not_there, three-more}
 use Rattle.settings.proofs.Writing.{entries-held}
 use Rattle.settings.proofs.Holding.{held-most}
 use Rattle.settings.proofs.Setting.{holds-first, held_first}
@@ -75,8 +75,8 @@ module _ (es : List Entry) (t : Store) (k : Closed es t) where
       (λ (b : n ≤ j).
       let o : j ≡ length (replicate n true) + (j - n) = omega arith in
       behind-free es t k j b g ∙ sym (ap (λ (i : ℕ). get_or (replicate n true ++ replicate (most_voices - n) false) i false) o ∙ get_or-append-add (replicate n true) (replicate (most_voices - n) false) (j - n) false ∙ get_or-replicate (most_voices - n) (j - n) false false (omega arith)))
-      (λ (b : j < n). held-there es t k j b ∙ sym (get_or-append (replicate n true) (replicate (most_voices - n) false) false j (omega arith) ∙ get_or-replicate n j true false b))
-      (le-or-lt n j))
+      (λ (b : j < n). held_there es t k j b ∙ sym (get_or-append (replicate n true) (replicate (most_voices - n) false) false j (omega arith) ∙ get_or-replicate n j true false b))
+      (le_or_lt n j))
 
   entry-there : (j : ℕ) → j < length es → entry_in t j ≡ get_or es j nothing
   entry-there j h =
@@ -153,7 +153,7 @@ module _ (s : Store) where
 
   names_are : names (entries_in s) ≡ select bs vs
   unfolding holding
-  names_are = ap names all-some ∙ some-names (length vs) ∙ ap (select (build (holds_at vs) (length vs))) (sym (build-is (λ j. get_or vs j free) (length vs) vs free refl (λ j h. refl)))
+  names_are = ap names all-some ∙ some-names (length vs) ∙ ap (select (build (holds_at vs) (length vs))) (sym (build_is (λ j. get_or vs j free) (length vs) vs free refl (λ j h. refl)))
 
   -- what holds of each place that holds a voice holds of each record
   each-entry : (P : Entry → Type 0) → ((i : ℕ) → i < length vs → holds_at vs i ≡ true → P (entry_in s i)) → (j : ℕ) → j < length (entries_in s) → P (get_or (entries_in s) j nothing)
@@ -211,13 +211,13 @@ module _ (s : Store) where
         rank = ap (first_at v) names_are ∙ select-first v bs vs (sym (holding-long vs)) h on
 
         name_there : get_or (names (entries_in s)) q free ≡ v
-        name_there = ap (λ (x : List ℕ). get_or x q free) names_are ∙ select-at bs vs p free (rw (holding-long vs) h) (sym (holding-long vs)) on ∙ first-is v vs free h
+        name_there = ap (λ (x : List ℕ). get_or x q free) names_are ∙ select-at bs vs p free (rw (holding-long vs) h) (sym (holding-long vs)) on ∙ first_is v vs free h
 
         within : q < length (entries_in s)
         within = ⊎_elim
             (λ (g : length (names (entries_in s)) ≤ q). absurd (let z : free ≡ v = sym (get_or-eq_default (names (entries_in s)) free g) ∙ name_there in omega arith))
             (λ (g : q < length (names (entries_in s))). rw (names-long (entries_in s)) at g)
-            (le-or-lt (length (names (entries_in s))) q)
+            (le_or_lt (length (names (entries_in s))) q)
 
         pub place-back : first_at v t.voices ≡ q
         place-back = first-there (entries_in s) t closed v m (rw rank within) ∙ rank
@@ -235,7 +235,7 @@ module _ (s : Store) where
           (λ (h : first_at v vs < length vs).
           got_held v t (omega (arith, place-back h, within h, few, voices-long (entries_in s) t closed))
           ∙ ap Held (ap (settings_at t.settings) (place-back h) ∙ settings-back h) ∙ sym (got_held v s h))
-          (le-or-lt (length vs) (first_at v vs))
+          (le_or_lt (length vs) (first_at v vs))
 
 -- ---- over the calls
 
@@ -270,13 +270,13 @@ module _ (voices settings out out' : List ℕ) (m : ℕ) (wrote : WriteSays voic
 
   usable : store_refusal voices settings ≡ 0
   unfolding write_refusal
-  usable = (or-none (store_refusal voices settings) _ was.0).0
+  usable = (or_none (store_refusal voices settings) _ was.0).0
 
   long : length x.voices ≡ most_voices
   long = length-take-le most_voices voices (has_places voices settings usable).0
 
-  file-is : take m out' ≡ bytes
-  file-is = ap (take m) (wrote.output ∙ rw was.0) ∙ take_at bytes (drop (length bytes) out) m (sym was.1)
+  file_is : take m out' ≡ bytes
+  file_is = ap (take m) (wrote.output ∙ rw was.0) ∙ take_at bytes (drop (length bytes) out) m (sym was.1)
 
   room : Writable 2 (entries_in x)
   room = writable x (front-bits store_settings settings bits) (omega (arith, long))
@@ -289,7 +289,7 @@ module _ (voices settings out out' : List ℕ) (m : ℕ) (wrote : WriteSays voic
   accepted =
       let n : held_in (voices_of (entries_in x)) ≡ length (entries_in x) = sym (different_voices (entries_in x) (entry-numbers x)) ∙ ap length (settled-entries x) in
       let l : held_in (voices_of (entries_of bytes)) ≤ most_voices = rw (says, n) (few x long) in
-      rw (u, file-is, written-formed 2 (entries_in x) room, le-ltb most_voices (held_in (voices_of (entries_of bytes))) l)
+      rw (u, file_is, written-formed 2 (entries_in x) room, le-ltb most_voices (held_in (voices_of (entries_of bytes))) l)
 
   done : r ≡ Done
   done = reads.answer ∙ ap changed_of accepted
@@ -299,7 +299,7 @@ module _ (voices settings out out' : List ℕ) (m : ℕ) (wrote : WriteSays voic
 
   is_read : read_in (take m out') ≡ t x long
   unfolding read_in
-  is_read = rw (file-is, says)
+  is_read = rw (file_is, says)
 
   read-sized : Sized (read_in (take m out'))
   read-sized = rw is_read (closed-sized (entries_in x) (t x long) (closed x long))

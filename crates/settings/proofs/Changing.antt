@@ -13,7 +13,7 @@ use Rattle.lists.specs.Refusals.{or_else}
 use Rattle.lists.specs.Bytes.{Bytes}
 use Rattle.lists.specs.Firsts.{first_at, replaced as exchanged}
 use Rattle.lists.proofs.Answers.{untouched, in_front, front-written}
-use Rattle.lists.proofs.Refusals.{or-first}
+use Rattle.lists.proofs.Refusals.{or_first}
 use Rattle.lists.proofs.Regions.{sets-within, dropped_before}
 use Rattle.lists.proofs.Stores.{filled, copied}
 use Rattle.lists.proofs.Firsts.{first-within, length-replaced}
@@ -85,12 +85,12 @@ module _ (voice number : ℕ) (voices settings : List ℕ) (e : number ≡ voice
   pub set-refused : (given : Settings) → (number ≡ 0 → ⊥) → SetSays voices settings voice given (Changed-as-Refused number) voices settings
   unfolding set_refusal
   set-refused given z =
-      let q : number ≡ set_refusal voice voices settings = e ∙ sym (or-first (voice_refusal voice voices settings) _ (λ (n : voice_refusal voice voices settings ≡ 0). z (e ∙ n))) in
+      let q : number ≡ set_refusal voice voices settings = e ∙ sym (or_first (voice_refusal voice voices settings) _ (λ (n : voice_refusal voice voices settings ≡ 0). z (e ∙ n))) in
       refused_change number (set_refusal voice voices settings) _ voices settings q z
 
   held_first : (number ≡ 0 → ⊥) → number ≡ held_refusal voice voices settings
   unfolding held_refusal
-  held_first z = e ∙ sym (or-first (voice_refusal voice voices settings) _ (λ (n : voice_refusal voice voices settings ≡ 0). z (e ∙ n)))
+  held_first z = e ∙ sym (or_first (voice_refusal voice voices settings) _ (λ (n : voice_refusal voice voices settings ≡ 0). z (e ∙ n)))
 
   pub remove_refused : (number ≡ 0 → ⊥) → RemoveSays voices settings voice (Changed-as-Refused number) voices settings
   remove_refused z = refused_change number (held_refusal voice voices settings) _ voices settings (held_first z) z
@@ -191,12 +191,12 @@ module _ (voices settings bytes : List ℕ) where
   number = or_else (store_refusal voices settings) (read_refusal bytes)
 
   pub read_short : (k : ℕ) → k ≡ store_refusal voices settings → (k ≡ 0 → ⊥) → ReadSays voices settings bytes (Changed-as-Refused k) voices settings
-  read_short k e z = refused_change k number _ voices settings (e ∙ sym (or-first (store_refusal voices settings) (read_refusal bytes) (λ (n : store_refusal voices settings ≡ 0). z (e ∙ n)))) z
+  read_short k e z = refused_change k number _ voices settings (e ∙ sym (or_first (store_refusal voices settings) (read_refusal bytes) (λ (n : store_refusal voices settings ≡ 0). z (e ∙ n)))) z
 
   module _ (s : store_refusal voices settings ≡ 0) where
     pub read-malformed : (k : ℕ) → k ≡ format_refusal bytes → (k ≡ 0 → ⊥) → ReadSays voices settings bytes (Changed-as-Refused k) voices settings
     unfolding read_refusal
-    read-malformed k e z = refused_change k number _ voices settings (rw s (e ∙ sym (or-first (format_refusal bytes) _ (λ (n : format_refusal bytes ≡ 0). z (e ∙ n))))) z
+    read-malformed k e z = refused_change k number _ voices settings (rw s (e ∙ sym (or_first (format_refusal bytes) _ (λ (n : format_refusal bytes ≡ 0). z (e ∙ n))))) z
 
     -- the records are gathered in a store of its own
     module _ (all : Bool) (new-voices new-settings : List ℕ) (g : Gathered bytes all new-voices new-settings) where

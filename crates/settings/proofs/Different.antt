@@ -14,12 +14,12 @@ use Rattle.lists.specs.Build.{build, fold_from}
 use Rattle.lists.specs.Frames.{count}
 use Rattle.lists.specs.Bytes.{Bytes}
 use Rattle.lists.specs.Firsts.{first_at}
-use Rattle.lists.proofs.Numbers.{le-or-lt, same_or_not}
+use Rattle.lists.proofs.Numbers.{le_or_lt, same_or_not}
 use Rattle.lists.proofs.Spelled.{word_below}
 use Rattle.lists.proofs.Fills.{build-length}
 use Rattle.lists.proofs.Builds.{build-at, build-same}
 use Rattle.lists.proofs.Counts.{count-append}
-use Rattle.lists.proofs.Firsts.{first-within, first-is, first-before, first-left, first-right}
+use Rattle.lists.proofs.Firsts.{first-within, first_is, first-before, first-left, first-right}
 use Rattle.settings.specs.Store.{free, holds_at, holding, held_in, Entry}
 use Rattle.settings.specs.Format.{count_of, version_of, entry_bytes, entry_at, entries_of, put_entry, settled}
 use Rattle.settings.specs.Written.{nothing}
@@ -47,7 +47,7 @@ in_last w xs = ⊎_elim
     let e : first_at w (w ∷ []) ≡ 0 = rw (eq-eqb w w refl) in
     omega (arith, first-right w xs (w ∷ []) (omega (arith, first-within w xs)), longer xs w))
     (λ (h : first_at w xs < length xs). in_more w w xs h)
-    (le-or-lt (length xs) (first_at w xs))
+    (le_or_lt (length xs) (first_at w xs))
 
 in_less : (v w : ℕ) (xs : List ℕ) → (w ≡ v → ⊥) → In v (xs ++ (w ∷ [])) → In v xs
 unfolding first_at
@@ -56,7 +56,7 @@ in_less v w xs d h = ⊎_elim
     let e : first_at v (w ∷ []) ≡ 1 = rw (ne_eqb w v d) in
     absurd (omega (arith, first-right v xs (w ∷ []) (omega (arith, first-within v xs)), longer xs w)))
     (λ (g : first_at v xs < length xs). g)
-    (le-or-lt (length xs) (first_at v xs))
+    (le_or_lt (length xs) (first_at v xs))
 
 -- ---- how many numbers are held, with one number more
 
@@ -72,7 +72,7 @@ module _ (xs : List ℕ) (w : ℕ) where
   same-before j h =
       let v : ℕ = get_or xs j free in
       let g : get_or ys j free ≡ v = get_or-append xs (w ∷ []) free j h in
-      let i : In v xs = ⊎_elim (λ (k : first_at v xs ≤ j). omega arith) (λ (k : j < first_at v xs). absurd (first-before v xs j free k refl)) (le-or-lt (first_at v xs) j) in
+      let i : In v xs = ⊎_elim (λ (k : first_at v xs ≤ j). omega arith) (λ (k : j < first_at v xs). absurd (first-before v xs j free k refl)) (le_or_lt (first_at v xs) j) in
       rw (g, first-left v xs (w ∷ []) i)
 
   last-there : get_or ys (length xs) free ≡ w
@@ -96,7 +96,7 @@ module _ (xs : List ℕ) (w : ℕ) where
   held_new : w ≤ most_voice → (In w xs → ⊥) → held_in ys ≡ suc (held_in xs)
   unfolding count first_at
   held_new m d =
-      let n : first_at w xs ≡ length xs = ⊎_elim (λ (k : length xs ≤ first_at w xs). omega (arith, first-within w xs)) (λ (k : first_at w xs < length xs). absurd (d k)) (le-or-lt (length xs) (first_at w xs)) in
+      let n : first_at w xs ≡ length xs = ⊎_elim (λ (k : length xs ≤ first_at w xs). omega (arith, first-within w xs)) (λ (k : first_at w xs < length xs). absurd (d k)) (le_or_lt (length xs) (first_at w xs)) in
       let f : first_at w (w ∷ []) ≡ 0 = rw (eq-eqb w w refl) in
       let g : first_at w ys ≡ length xs = first-right w xs (w ∷ []) n ∙ omega (arith, f) in
       let e : holds_at ys (length xs) ≡ true = rw (last-there, g, le-leb w most_voice m, eq-eqb (length xs) (length xs) refl) in
@@ -124,13 +124,13 @@ settle-next xs got x m k =
       back = λ v i. ⊎_elim (λ (e : w ≡ v). rw (← e) (in_last w xs)) (λ e. in_more v w xs (k.back v (in_less v w (names got) e (rw n at i)))) (same_or_not w v);
     })
     (λ (h : first_at w (names got) < length (names got)).
-    let n : names (put_entry got x) ≡ names got = names-put got x (first_at w (names got)) (rw (names-long got) at h) (first-is w (names got) free h) in
+    let n : names (put_entry got x) ≡ names got = names-put got x (first_at w (names got)) (rw (names-long got) at h) (first_is w (names got) free h) in
     record {
       many = sym (names-long (put_entry got x)) ∙ ap length n ∙ names-long got ∙ k.many ∙ sym (held_again xs w (k.back w h));
       there = λ v i. rw n (⊎_elim (λ (e : w ≡ v). rw (← e) h) (λ e. k.there v (in_less v w xs e i)) (same_or_not w v));
       back = λ v i. in_more v w xs (k.back v (rw n at i));
     })
-    (le-or-lt (length (names got)) (first_at w (names got)))
+    (le_or_lt (length (names got)) (first_at w (names got)))
 
 settle-all : (es got : List Entry) (xs : List ℕ) → Numbers es → Settling xs got → length (fold_from put_entry got es) ≡ held_in (xs ++ names es)
 unfolding fold_from

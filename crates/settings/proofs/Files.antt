@@ -13,11 +13,11 @@ use Rattle.lists.specs.Sizes.{most_voices}
 use Rattle.lists.specs.Build.{rows}
 use Rattle.lists.specs.Parts.{part}
 use Rattle.lists.specs.Bytes.{Bytes, little, bytes_of, word_at, pattern_at, starts_with}
-use Rattle.lists.proofs.Refusals.{or-none, none_then}
+use Rattle.lists.proofs.Refusals.{or_none, none_then}
 use Rattle.lists.proofs.Bytes.{little-bytes}
 use Rattle.lists.proofs.Spelled.{part-spelled, part-below, word_below}
-use Rattle.lists.proofs.Fronts.{starts_is, is-starts}
-use Rattle.lists.proofs.Builds.{build-is, build-at}
+use Rattle.lists.proofs.Fronts.{starts_is, is_starts}
+use Rattle.lists.proofs.Builds.{build_is, build-at}
 use Rattle.lists.proofs.Fills.{build-length}
 use Rattle.lists.proofs.Joins.{part-part, part-joined, part-last, part-behind, rows-own, rows_cut, rows_same, flatten_rows}
 use Rattle.settings.specs.declared.Settings.{Settings}
@@ -114,10 +114,10 @@ module _ (version : ℕ) (es : List Entry) (k : Writable version es) where
   -- it says these records
   pub written_back : entries_of file ≡ es
   unfolding entries_of
-  written_back = rw (version-back, count-back) (sym (build-is (entry_at version file) (length es) es nothing refl (λ i h. sym (entry-own version file (head_bytes + w * i) (get_or es i nothing) (entry-part i h) (k.each i h)))))
+  written_back = rw (version-back, count-back) (sym (build_is (entry_at version file) (length es) es nothing refl (λ i h. sym (entry-own version file (head_bytes + w * i) (get_or es i nothing) (entry-part i h) (k.each i h)))))
 
   marked : starts_with mark file ≡ true
-  marked = is-starts mark file (unfold bytes_of_file bytes_of_heading in refl)
+  marked = is_starts mark file (unfold bytes_of_file bytes_of_heading in refl)
 
   -- and is well formed
   pub written-formed : format_refusal file ≡ 0
@@ -135,7 +135,7 @@ module _ (version : ℕ) (es : List Entry) (k : Writable version es) where
 -- as every file that is accepted is
 pub read-formed : (bytes : List ℕ) → read_refusal bytes ≡ 0 → format_refusal bytes ≡ 0
 unfolding read_refusal
-read-formed bytes e = (or-none (format_refusal bytes) _ e).0
+read-formed bytes e = (or_none (format_refusal bytes) _ e).0
 
 module _ (bytes : List ℕ) (b : Bytes bytes) (z : format_refusal bytes ≡ 0) where
   abbrev v : ℕ
@@ -150,9 +150,9 @@ module _ (bytes : List ℕ) (b : Bytes bytes) (z : format_refusal bytes ≡ 0) w
   parts : (starts_with mark bytes ≡ true) × (is_known v ≡ true) × (length bytes ≡ head_bytes + size * n)
   unfolding format_refusal
   parts =
-      let a = or-none (cond (starts_with mark bytes) 0 18) _ z in
-      let c = or-none (cond (ltb (length bytes) 5) 18 0) _ a.1 in
-      let d = or-none (cond (is_known v) 0 16) _ c.1 in
+      let a = or_none (cond (starts_with mark bytes) 0 18) _ z in
+      let c = or_none (cond (ltb (length bytes) 5) 18 0) _ a.1 in
+      let d = or_none (cond (is_known v) 0 16) _ c.1 in
       (none_then (starts_with mark bytes) 17 a.0, none_then (is_known v) 15 d.0, eqb-true (length bytes) (head_bytes + size * n) (none_then (eqb (length bytes) (head_bytes + size * n)) 17 d.1))
 
   -- one record, at a place from which its bytes are there

@@ -13,12 +13,12 @@ use Rattle.lists.specs.Sizes.{most_voices, most_voice}
 use Rattle.lists.specs.Build.{fold_from}
 use Rattle.lists.specs.Bytes.{Bytes, word_at}
 use Rattle.lists.specs.Firsts.{first_at}
-use Rattle.lists.proofs.Numbers.{le-or-lt}
+use Rattle.lists.proofs.Numbers.{le_or_lt}
 use Rattle.lists.proofs.Fills.{build-length}
 use Rattle.lists.proofs.Builds.{build-at, fold_append}
 use Rattle.lists.proofs.Stores.{sets-past-first}
 use Rattle.lists.proofs.Spelled.{word_below}
-use Rattle.lists.proofs.Firsts.{first-within, first-is, first-none, first-left, first-right}
+use Rattle.lists.proofs.Firsts.{first-within, first_is, first-none, first-left, first-right}
 use Rattle.settings.specs.declared.Settings.{Settings}
 use Rattle.settings.specs.Store.{Store, store_settings, store, free, holds_at, free_place, holding, in_order, Entry}
 use Rattle.settings.specs.Changes.{empty, place_for, set_in}
@@ -110,7 +110,7 @@ more-each : (xs : List ℕ) (v : ℕ) → ((j : ℕ) → j < length xs → get_o
 more-each xs v k m j h = ⊎_elim
     (λ (i : length xs ≤ j). let o : j ≡ length xs + 0 = omega arith in rw (o, get_or-append-add xs (v ∷ []) 0 free) m)
     (λ (i : j < length xs). rw (get_or-append xs (v ∷ []) free j i) (k j i))
-    (le-or-lt (length xs) j)
+    (le_or_lt (length xs) j)
 
 more-once : (xs : List ℕ) (v : ℕ) → first_at v xs ≡ length xs → ((j : ℕ) → j < length xs → first_at (get_or xs j free) xs ≡ j) → (j : ℕ) → j < suc (length xs) → first_at (get_or (xs ++ (v ∷ [])) j free) (xs ++ (v ∷ [])) ≡ j
 unfolding first_at
@@ -121,7 +121,7 @@ more-once xs v n k j h = ⊎_elim
     let f : first_at v (v ∷ []) ≡ 0 = rw (eq-eqb v v refl) in
     rw g (first-right v xs (v ∷ []) n ∙ omega (arith, f)))
     (λ (i : j < length xs). rw (get_or-append xs (v ∷ []) free j i) (first-left (get_or xs j free) xs (v ∷ []) (rw (k j i) i) ∙ k j i))
-    (le-or-lt (length xs) j)
+    (le_or_lt (length xs) j)
 
 module _ (es : List Entry) (s : Store) (k : Closed es s) where
   pub voices-long : length s.voices ≡ most_voices
@@ -131,8 +131,8 @@ module _ (es : List Entry) (s : Store) (k : Closed es s) where
   settings-long = ap length k.kept ∙ length-append (all es) _ ∙ rw (length-replicate {A = ℕ} (store_settings - 3 * length es) 0, all-long es) (omega (arith, k.few))
 
   -- the places of the records hold their voices, and those behind them are free
-  pub held-there : (j : ℕ) → j < length es → holds_at s.voices j ≡ true
-  held-there j h =
+  pub held_there : (j : ℕ) → j < length es → holds_at s.voices j ≡ true
+  held_there j h =
       let l : j < length (names es) = rw (names-long es) h in
       let g : get_or s.voices j free ≡ get_or (names es) j free = ap (λ (x : List ℕ). get_or x j free) k.numbers ∙ get_or-append (names es) _ free j l in
       let o : first_at (get_or (names es) j free) (names es) ≡ j = k.once j h in
@@ -149,7 +149,7 @@ module _ (es : List Entry) (s : Store) (k : Closed es s) where
   first-free h =
       off_at (holding s.voices) (length es) true (rw (holding-long s.voices, voices-long) h)
       (holding-at s.voices (length es) true (rw voices-long h) ∙ behind-free (length es) (omega arith) h)
-      (λ j l. holding-at s.voices j true (rw voices-long (omega arith)) ∙ held-there j l)
+      (λ j l. holding-at s.voices j true (rw voices-long (omega arith)) ∙ held_there j l)
 
   -- a voice is where it is among those of the records, or nowhere
   module _ (v : ℕ) (m : v ≤ most_voice) where
@@ -178,12 +178,12 @@ module _ (es : List Entry) (s : Store) (k : Closed es s) where
         (λ (g : p < length es).
         let f : first_at e.voice s.voices ≡ p = first-there e.voice m g in
         sym (own-place e.voice s.voices (omega (arith, voices-long))) ∙ f)
-        (le-or-lt (length es) p)
+        (le_or_lt (length es) p)
 
     -- where it is put
     put-own : p < length es → Closed (put_entry es e) (store (set s.voices p e.voice) (sets s.settings (3 * p) (in_order e.settings)))
     put-own g =
-        let q : get_or (names es) p free ≡ e.voice = first-is e.voice (names es) free (rw (names-long es) g) in
+        let q : get_or (names es) p free ≡ e.voice = first_is e.voice (names es) free (rw (names-long es) g) in
         let n : names (put_entry es e) ≡ names es = names-put es e p g q in
         let l : length (put_entry es e) ≡ length es = sym (names-long (put_entry es e)) ∙ ap length n ∙ names-long es in
         let b : get_or s.voices p free ≡ e.voice = ap (λ (x : List ℕ). get_or x p free) k.numbers ∙ get_or-append (names es) _ free p (rw (names-long es) g) ∙ q in
@@ -222,7 +222,7 @@ module _ (es : List Entry) (s : Store) (k : Closed es s) where
 
     pub put-closed : p < most_voices → Closed (put_entry es e) (set_entry s e)
     unfolding set_in
-    put-closed h = rw (place_is h) (⊎_elim (λ (g : length es ≤ p). put_next (omega (arith, p-within)) h) (λ (g : p < length es). put-own g) (le-or-lt (length es) p))
+    put-closed h = rw (place_is h) (⊎_elim (λ (g : length es ≤ p). put_next (omega (arith, p-within)) h) (λ (g : p < length es). put-own g) (le_or_lt (length es) p))
 
 -- how many there are then
 pub put-long : (es : List Entry) (e : Entry) → length (put_entry es e) ≡ max (length es) (first_at e.voice (names es) + 1)
@@ -287,8 +287,8 @@ module _ (bytes : List ℕ) where
       abbrev e : Entry
       e = entry_at (version_of bytes) bytes i
 
-      voice-is : voice ≡ e.voice
-      voice-is = v ∙ ap (word_at bytes) a
+      voice_is : voice ≡ e.voice
+      voice_is = v ∙ ap (word_at bytes) a
 
       front : take held voices ≡ names (settled (take i es))
       front =
@@ -296,7 +296,7 @@ module _ (bytes : List ℕ) where
           ap (take held) k.closed.numbers ∙ take_at (names (settled (take i es))) _ held n
 
       place_of : place ≡ first_at e.voice (names (settled (take i es)))
-      place_of = p ∙ rw (front, voice-is)
+      place_of = p ∙ rw (front, voice_is)
 
       settled-next : settled (take (i + 1) es) ≡ put_entry (settled (take i es)) e
       unfolding settled fold_from
@@ -320,7 +320,7 @@ module _ (bytes : List ℕ) where
           let u : first_at e.voice (names (settled (take i es))) < most_voices = rw (← place_of) (place-within d) in
           let m : e.voice ≤ most_voice = let w = word_below bytes b (head_bytes + entry_bytes (version_of bytes) * i) in omega arith in
           let q : place_for e.voice voices ≡ place = place_is (settled (take i es)) (store voices settings) k.closed e m u ∙ sym place_of in
-          let s : store (set voices place voice) settings' ≡ set_entry (store voices settings) e = rw (g, q, voice-is, a) in
+          let s : store (set voices place voice) settings' ≡ set_entry (store voices settings) e = rw (g, q, voice_is, a) in
           record {
             within = omega arith;
             so_many = l ∙ sym (ap length settled-next ∙ put-long (settled (take i es)) e ∙ rw (← place_of, k.so_many));

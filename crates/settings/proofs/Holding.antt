@@ -19,8 +19,8 @@ use Rattle.settings.specs.Store.{free, holds_at, holding, held_in}
 use Rattle.settings.specs.Promise.{CountSays}
 use Rattle.settings.proofs.Places.{holding-long}
 
-pub holds-is : (voices : List ℕ) (i first : ℕ) → i < length voices → first ≡ first_at (get_or voices i 0) voices → leb (get_or voices i 0) most_voice && eqb first i ≡ holds_at voices i
-holds-is voices i first h e = rw (e, at_any voices i 0 free h)
+pub holds_is : (voices : List ℕ) (i first : ℕ) → i < length voices → first ≡ first_at (get_or voices i 0) voices → leb (get_or voices i 0) most_voice && eqb first i ≡ holds_at voices i
+holds_is voices i first h e = rw (e, at_any voices i 0 free h)
 
 -- a loop that counts, as lists' laws say, has counted all
 pub held_all : (voices : List ℕ) (n : ℕ) → n ≡ count (build (holds_at voices) (length voices)) → n ≡ held_in voices

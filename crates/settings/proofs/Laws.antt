@@ -13,10 +13,10 @@ use Rattle.lists.specs.Sizes.{most_voices, most_voice}
 use Rattle.lists.specs.Build.{build}
 use Rattle.lists.specs.Frames.{count}
 use Rattle.lists.specs.Firsts.{first_at}
-use Rattle.lists.proofs.Numbers.{le-or-lt, same_or_not}
-use Rattle.lists.proofs.Refusals.{or-none}
+use Rattle.lists.proofs.Numbers.{le_or_lt, same_or_not}
+use Rattle.lists.proofs.Refusals.{or_none}
 use Rattle.lists.proofs.Counts.{count_most}
-use Rattle.lists.proofs.Firsts.{first-is, first-none, length-replaced}
+use Rattle.lists.proofs.Firsts.{first_is, first-none, length-replaced}
 use Rattle.settings.specs.declared.Settings.{Settings}
 use Rattle.lists.specs.declared.Changed.TheVariants.{Done, Refused as Changed-as-Refused}
 use Rattle.settings.specs.declared.Got.{Got}
@@ -76,7 +76,7 @@ got_same : (v : ℕ) (s t : Store) → length t.voices ≡ length s.voices → f
 got_same v s t l f g = ⊎_elim
     (λ (h : length s.voices ≤ first_at v s.voices). got_none v t (omega arith) ∙ sym (got_none v s h))
     (λ (h : first_at v s.voices < length s.voices). got_held v t (omega arith) ∙ ap Held (ap (settings_at t.settings) f ∙ g h) ∙ sym (got_held v s h))
-    (le-or-lt (length s.voices) (first_at v s.voices))
+    (le_or_lt (length s.voices) (first_at v s.voices))
 
 module _ (s : Store) (z : Sized s) (v : ℕ) where
   module _ (given : Settings) (h : place_for v s.voices < most_voices) where
@@ -106,7 +106,7 @@ module _ (s : Store) (z : Sized s) (v : ℕ) where
         let l : length t.voices ≡ length s.voices = length-set s.voices p v in
         got_same w s t l f
         (λ g. put_aside s.settings p given room (first_at w s.voices) (λ q.
-        d (sym (first-is w t.voices free (omega arith)) ∙ ap (λ (i : ℕ). get_or t.voices i free) (f ∙ q ∙ sym (set_there s.voices v h')) ∙ first-is v t.voices free (omega (arith, set_there s.voices v h')))))
+        d (sym (first_is w t.voices free (omega arith)) ∙ ap (λ (i : ℕ). get_or t.voices i free) (f ∙ q ∙ sym (set_there s.voices v h')) ∙ first_is v t.voices free (omega (arith, set_there s.voices v h')))))
 
   module _ (m : v ≤ most_voice) (h : first_at v s.voices < most_voices) where
     abbrev zeros : Settings
@@ -126,7 +126,7 @@ module _ (s : Store) (z : Sized s) (v : ℕ) where
         let t : Store = remove_in v s in
         got_same w s t (length-replaced v free s.voices) (left s.voices v m w d n)
         (λ g. put_aside s.settings (first_at v s.voices) zeros (omega (arith, z.settings)) (first_at w s.voices) (λ q.
-        d (sym (first-is w s.voices free g) ∙ ap (λ (i : ℕ). get_or s.voices i free) q ∙ first-is v s.voices free (rw z.numbers h))))
+        d (sym (first_is w s.voices free g) ∙ ap (λ (i : ℕ). get_or s.voices i free) q ∙ first_is v s.voices free (rw z.numbers h))))
 
 -- ---- over the calls
 
@@ -141,10 +141,10 @@ module _ (voices settings : List ℕ) (v : ℕ) (e : voice_refusal v voices sett
   small = ⊎_elim
       (λ (h : v ≤ most_voice). h)
       (λ (h : most_voice < v). absurd (let z : ◌≡◌ {A = ℕ} 3 0 = rw (lt-ltb most_voice v h) at e in omega arith))
-      (le-or-lt v most_voice)
+      (le_or_lt v most_voice)
 
   usable : store_refusal voices settings ≡ 0
-  usable = (or-none (cond (ltb most_voice v) 3 0) (store_refusal voices settings) e).1
+  usable = (or_none (cond (ltb most_voice v) 3 0) (store_refusal voices settings) e).1
 
   sized : Sized (store_of voices settings)
   sized = let b = placed v voices settings e in record { numbers = length-take-le most_voices voices b.0; settings = length-take-le store_settings settings b.1 }
@@ -164,7 +164,7 @@ pub get_same : (voices settings voices' settings' : List ℕ) (w : ℕ) (r r' : 
 get_same voices settings voices' settings' w r r' u u' e g g' = ⊎_elim
     (λ (m : w ≤ most_voice). get_is voices' settings' w r' m u' g' ∙ e m ∙ sym (get_is voices settings w r m u g))
     (λ (m : most_voice < w). get_large voices' settings' w r' m g' ∙ sym (get_large voices settings w r m g))
-    (le-or-lt w most_voice)
+    (le_or_lt w most_voice)
 
 -- ---- clear
 
@@ -191,7 +191,7 @@ module _ (voices settings : List ℕ) (v : ℕ) (given : Settings) (voices' sett
 
   accepted : (voice_refusal v voices settings ≡ 0) × (◌≡◌ {A = ℕ} (cond (is_held v s.voices || ltb (held_in s.voices) most_voices) 0 17) 0)
   unfolding set_refusal
-  accepted = or-none (voice_refusal v voices settings) _ (done_none (set_refusal v voices settings) c.answer)
+  accepted = or_none (voice_refusal v voices settings) _ (done_none (set_refusal v voices settings) c.answer)
 
   number : v ≤ most_voice
   number = small voices settings v accepted.0
@@ -245,7 +245,7 @@ module _ (voices settings : List ℕ) (v : ℕ) (voices' settings' : List ℕ) (
 
   was : (voice_refusal v voices settings ≡ 0) × (◌≡◌ {A = ℕ} (cond (is_held v t.voices) 0 19) 0)
   unfolding held_refusal
-  was = or-none (voice_refusal v voices settings) _ (done_none (held_refusal v voices settings) c.answer)
+  was = or_none (voice_refusal v voices settings) _ (done_none (held_refusal v voices settings) c.answer)
 
   y : Sized t
   y = sized voices settings v was.0
@@ -254,7 +254,7 @@ module _ (voices settings : List ℕ) (v : ℕ) (voices' settings' : List ℕ) (
   held = ⊎_elim
       (λ (h : length t.voices ≤ first_at v t.voices). absurd (let x : ◌≡◌ {A = ℕ} 19 0 = rw (le-ltb (first_at v t.voices) (length t.voices) h) at was.1 in omega arith))
       (λ (h : first_at v t.voices < length t.voices). omega (arith, y.numbers))
-      (le-or-lt (length t.voices) (first_at v t.voices))
+      (le_or_lt (length t.voices) (first_at v t.voices))
 
   after : store_of voices' settings' ≡ remove_in v t
   after = store_then c (remove_sized t y v (small voices settings v was.0) held)
@@ -300,7 +300,7 @@ module _ (voice : ℕ) (voices settings : List ℕ) where
         | false ↦ λ q x. ⊎_elim
             (λ (k : most_voices ≤ held_in vs). record { fits = m; numbers = h; kept = g; other = q; all = omega arith })
             (λ (k : held_in vs < most_voices). absurd (let y : ◌≡◌ {A = ℕ} 0 17 = rw (lt-ltb (held_in vs) most_voices k) at x in omega arith))
-            (le-or-lt most_voices (held_in vs))
+            (le_or_lt most_voices (held_in vs))
       ])
       refl
       e
@@ -312,8 +312,8 @@ module _ (voice : ℕ) (voices settings : List ℕ) where
       (λ (h : most_voices ≤ length voices). ⊎_elim
       (λ (g : store_settings ≤ length settings). full m h g (rw (le-ltb most_voice voice m, enough voices settings h g) at e))
       (λ (g : length settings < store_settings). absurd (let y : ◌≡◌ {A = ℕ} 6 17 = rw (le-ltb most_voice voice m, le-ltb (length voices) most_voices h, lt-ltb (length settings) store_settings g) at e in omega arith))
-      (le-or-lt store_settings (length settings)))
+      (le_or_lt store_settings (length settings)))
       (λ (h : length voices < most_voices). absurd (let y : ◌≡◌ {A = ℕ} 6 17 = rw (le-ltb most_voice voice m, lt-ltb (length voices) most_voices h) at e in omega arith))
-      (le-or-lt most_voices (length voices)))
+      (le_or_lt most_voices (length voices)))
       (λ (m : most_voice < voice). absurd (let y : ◌≡◌ {A = ℕ} 3 17 = rw (lt-ltb most_voice voice m) at e in omega arith))
-      (le-or-lt voice most_voice)
+      (le_or_lt voice most_voice)

@@ -13,8 +13,8 @@ use Rattle.lists.specs.Sizes.{most_voices, most_voice}
 use Rattle.lists.specs.Build.{fold_from}
 use Rattle.lists.specs.Bytes.{Bytes}
 use Rattle.lists.specs.Firsts.{first_at}
-use Rattle.lists.proofs.Numbers.{le-or-lt}
-use Rattle.lists.proofs.Refusals.{or-none}
+use Rattle.lists.proofs.Numbers.{le_or_lt}
+use Rattle.lists.proofs.Refusals.{or_none}
 use Rattle.lists.specs.declared.Changed.{Changed}
 use Rattle.lists.specs.declared.Changed.TheVariants.{Done}
 use Rattle.settings.specs.Store.{Store, store_settings, store_of, Entry, held_in}
@@ -94,14 +94,14 @@ sets_fold (x ∷ es) got rs voices settings voices' settings' k u m h (set_then 
     record { done = rw (i.done, q.done); then = q.then ∙ ap (λ (y : Store). fold_from set_entry y es) i.then; numbers = q.numbers ∙ i.numbers; kept = q.kept ∙ i.kept }
 
 few_0 : (n : ℕ) → ◌≡◌ {A = ℕ} (cond (ltb most_voices n) 17 0) 0 → n ≤ most_voices
-few_0 n e = ⊎_elim (λ (h : n ≤ most_voices). h) (λ (h : most_voices < n). absurd (let z : ◌≡◌ {A = ℕ} 17 0 = rw (lt-ltb most_voices n h) at e in omega arith)) (le-or-lt n most_voices)
+few_0 n e = ⊎_elim (λ (h : n ≤ most_voices). h) (λ (h : most_voices < n). absurd (let z : ◌≡◌ {A = ℕ} 17 0 = rw (lt-ltb most_voices n h) at e in omega arith)) (le_or_lt n most_voices)
 
 -- what a file that is read leaves is closed up: its records, a later one in the place of an earlier of its voice
 module _ (voices settings bytes : List ℕ) (b : Bytes bytes) (v₂ s₂ : List ℕ) (read : ReadSays voices settings bytes Done v₂ s₂) where
   read-few : length (fold_from put_entry [] (entries_of bytes)) ≤ most_voices
   unfolding read_refusal settled
   read-few =
-      let n : held_in (voices_of (entries_of bytes)) ≤ most_voices = few_0 (held_in (voices_of (entries_of bytes))) (or-none (format_refusal bytes) _ (or-none (store_refusal voices settings) (read_refusal bytes) (done_none _ read.answer)).1).1 in
+      let n : held_in (voices_of (entries_of bytes)) ≤ most_voices = few_0 (held_in (voices_of (entries_of bytes))) (or_none (format_refusal bytes) _ (or_none (store_refusal voices settings) (read_refusal bytes) (done_none _ read.answer)).1).1 in
       let d : length (fold_from put_entry [] (entries_of bytes)) ≡ held_in (voices_of (entries_of bytes)) = different_voices (entries_of bytes) (file-numbers bytes b) in
       omega arith
 

@@ -12,7 +12,7 @@ use lib.ListN.{length, drop, get_or, drop_of_length-le}
 use lib.Seq.{drop-cons}
 use Rattle.lists.specs.Frames.{count}
 use Rattle.lists.specs.Firsts.{first_at}
-use Rattle.lists.proofs.Numbers.{le-or-lt}
+use Rattle.lists.proofs.Numbers.{le_or_lt}
 use Rattle.lists.proofs.Counts.{count_most}
 use Rattle.lists.proofs.Fills.{build-length}
 use Rattle.lists.proofs.Builds.{build-at}
@@ -90,19 +90,19 @@ module _ {voices : List ℕ} {i : ℕ} (k : Looking voices i) where
       omega (arith, k.rest)
 
   module _ (h : i < length voices) where
-    from-here : drop i (holding voices) ≡ holds_at voices i ∷ drop (i + 1) (holding voices)
-    from-here = drop-cons (holding voices) i true (rw (holding-long voices) h) ∙ rw (holding-at voices i true h, add-one)
+    from_here : drop i (holding voices) ≡ holds_at voices i ∷ drop (i + 1) (holding voices)
+    from_here = drop-cons (holding voices) i true (rw (holding-long voices) h) ∙ rw (holding-at voices i true h, add-one)
 
     pub free-here : holds_at voices i ≡ false → i ≡ free_place voices
     unfolding first_off
     free-here e =
-        let z : first_off (drop i (holding voices)) ≡ 0 = ap first_off from-here ∙ rw e in
+        let z : first_off (drop i (holding voices)) ≡ 0 = ap first_off from_here ∙ rw e in
         omega (arith, k.rest)
 
     pub look_next : holds_at voices i ≡ true → Looking voices (i + 1)
     unfolding first_off
     look_next e =
-        let z : first_off (drop i (holding voices)) ≡ suc (first_off (drop (i + 1) (holding voices))) = ap first_off from-here ∙ rw e in
+        let z : first_off (drop i (holding voices)) ≡ suc (first_off (drop (i + 1) (holding voices))) = ap first_off from_here ∙ rw e in
         record { within = omega arith; rest = omega (arith, k.rest) }
 
 -- ---- where a voice goes
@@ -118,7 +118,7 @@ module _ (voice : ℕ) (voices : List ℕ) where
   place-within = ⊎_elim
       (λ (h : length voices ≤ first_at voice voices). rw (← free-place h) (rw (← holding-long voices) (off-within (holding voices))))
       (λ (h : first_at voice voices < length voices). rw (← own-place h) (first-within voice voices))
-      (le-or-lt (length voices) (first_at voice voices))
+      (le_or_lt (length voices) (first_at voice voices))
 
   -- there is no place exactly where the voice isn't held and all places hold others
   module _ (n : ℕ) (e : length voices ≡ n) where
@@ -129,7 +129,7 @@ module _ (voice : ℕ) (voices : List ℕ) where
         let m : held_in voices ≡ length voices = all-on (holding voices) f ∙ holding-long voices in
         rw (le-ltb (first_at voice voices) (length voices) h) (le-ltb (held_in voices) n (omega arith)))
         (λ (h : first_at voice voices < length voices). absurd (omega (arith, own-place h)))
-        (le-or-lt (length voices) (first_at voice voices))
+        (le_or_lt (length voices) (first_at voice voices))
 
     pub some-place : place_for voice voices < n → is_held voice voices || ltb (held_in voices) n ≡ true
     some-place l = ⊎_elim
@@ -138,4 +138,4 @@ module _ (voice : ℕ) (voices : List ℕ) where
         let m : held_in voices < n = omega (arith, one-off (holding voices) f, holding-long voices) in
         rw (le-ltb (first_at voice voices) (length voices) h) (lt-ltb (held_in voices) n m))
         (λ (h : first_at voice voices < length voices). rw (lt-ltb (first_at voice voices) (length voices) h))
-        (le-or-lt (length voices) (first_at voice voices))
+        (le_or_lt (length voices) (first_at voice voices))

@@ -11,7 +11,7 @@ use lib.ListN.{length}
 use Rattle.lists.specs.Sizes.{most_voices, most_voice}
 use Rattle.lists.specs.Bytes.{Bytes, starts_with}
 use Rattle.lists.proofs.Spelled.{word_below}
-use Rattle.lists.proofs.Refusals.{or-none}
+use Rattle.lists.proofs.Refusals.{or_none}
 use Rattle.settings.specs.Store.{store_settings}
 use Rattle.settings.specs.Format.{mark, version_of, is_known, count_of, head_bytes, entry_bytes, format_refusal}
 use Rattle.settings.specs.Promise.{store_refusal, voice_refusal}
@@ -46,14 +46,14 @@ has_places voices settings e =
 
 -- and so has one in which a voice isn't refused
 pub placed : (voice : ℕ) (voices settings : List ℕ) → voice_refusal voice voices settings ≡ 0 → (most_voices ≤ length voices) × (store_settings ≤ length settings)
-placed voice voices settings e = has_places voices settings (or-none (cond (ltb most_voice voice) 3 0) (store_refusal voices settings) e).1
+placed voice voices settings e = has_places voices settings (or_none (cond (ltb most_voice voice) 3 0) (store_refusal voices settings) e).1
 
 -- ---- a file
 
 module _ (bytes : List ℕ) where
-  pub not-marked : starts_with mark bytes ≡ false → 18 ≡ format_refusal bytes
+  pub not_marked : starts_with mark bytes ≡ false → 18 ≡ format_refusal bytes
   unfolding format_refusal
-  not-marked m = rw m
+  not_marked m = rw m
 
   module _ (m : starts_with mark bytes ≡ true) where
     pub ends_early : length bytes < 5 → 18 ≡ format_refusal bytes

@@ -12,8 +12,8 @@ use lib.ListN.{length, get_or, set, length-set}
 use lib.Seq.{sets, get_or-set_same, get_or-set_other, set-get_or}
 use Rattle.lists.specs.Sizes.{most_voice}
 use Rattle.lists.specs.Firsts.{first_at, replaced}
-use Rattle.lists.proofs.Numbers.{le-or-lt, same_or_not}
-use Rattle.lists.proofs.Firsts.{first-within, first-is, first-before, first-at, first-none, length-replaced, replaced-at}
+use Rattle.lists.proofs.Numbers.{le_or_lt, same_or_not}
+use Rattle.lists.proofs.Firsts.{first-within, first_is, first-before, first-at, first-none, length-replaced, replaced-at}
 use Rattle.settings.specs.declared.Settings.{Settings}
 use Rattle.settings.specs.Store.{free, holds_at, holding, first_off, free_place, in_order, settings_at}
 use Rattle.settings.specs.Changes.{place_for}
@@ -22,7 +22,7 @@ use Rattle.settings.proofs.Places.{off-there, on-before, off_at, holding-long, h
 -- ---- a place that is the first of a voice holds it, and one that is free doesn't
 
 pub holds-first : (voices : List ℕ) (v : ℕ) → v ≤ most_voice → first_at v voices < length voices → holds_at voices (first_at v voices) ≡ true
-holds-first voices v m h = rw (first-is v voices free h, le-leb v most_voice m, eq-eqb (first_at v voices) (first_at v voices) refl)
+holds-first voices v m h = rw (first_is v voices free h, le-leb v most_voice m, eq-eqb (first_at v voices) (first_at v voices) refl)
 
 pub free-there : (voices : List ℕ) → free_place voices < length voices → holds_at voices (free_place voices) ≡ false
 free-there voices h =
@@ -54,7 +54,7 @@ module _ (voices : List ℕ) (v : ℕ) (h : place_for v voices < length voices) 
   pub same_numbers : first_at v voices < length voices → set voices p v ≡ voices
   same_numbers g =
       let e : p ≡ first_at v voices = sym (own-place v voices g) in
-      rw e (ap (set voices (first_at v voices)) (sym (first-is v voices free g)) ∙ set-get_or voices (first_at v voices) free)
+      rw e (ap (set voices (first_at v voices)) (sym (first_is v voices free g)) ∙ set-get_or voices (first_at v voices) free)
 
   -- it is then where it was put
   pub set_there : first_at v (set voices p v) ≡ p
@@ -63,7 +63,7 @@ module _ (voices : List ℕ) (v : ℕ) (h : place_for v voices < length voices) 
       first-at v (set voices p v) p free (rw length-set h) (get_or-set_same voices p v free h)
       (λ j l e. first-before v voices j free (omega arith) (sym (get_or-set_other voices p j v free (λ q. omega arith)) ∙ e)))
       (λ (g : first_at v voices < length voices). ap (first_at v) (same_numbers g) ∙ own-place v voices g)
-      (le-or-lt (length voices) (first_at v voices))
+      (le_or_lt (length voices) (first_at v voices))
 
   -- and every other voice is where it was, or not there
   pub set_aside : (w : ℕ) → w ≢ v → w ≤ most_voice → first_at w (set voices p v) ≡ first_at w voices
@@ -79,10 +79,10 @@ module _ (voices : List ℕ) (v : ℕ) (h : place_for v voices < length voices) 
       first-none w (set voices p v) free (λ j l. o j (omega (arith, rw length-set at l))) ∙ rw length-set (omega (arith, first-within w voices)))
       (λ (n : first_at w voices < length voices).
       let q : first_at w voices ≢ p = λ e. (let z : false ≡ true = sym (free-there voices (rw f h)) ∙ ap (holds_at voices) (f ∙ sym e) ∙ holds-first voices w m n in let y : ◌≡◌ {A = ℕ} 0 1 = cc in omega arith) in
-      first-at w (set voices p v) (first_at w voices) free (rw length-set n) (get_or-set_other voices p (first_at w voices) v free q ∙ first-is w voices free n) o)
-      (le-or-lt (length voices) (first_at w voices)))
+      first-at w (set voices p v) (first_at w voices) free (rw length-set n) (get_or-set_other voices p (first_at w voices) v free q ∙ first_is w voices free n) o)
+      (le_or_lt (length voices) (first_at w voices)))
       (λ (g : first_at v voices < length voices). ap (first_at w) (same_numbers g))
-      (le-or-lt (length voices) (first_at v voices))
+      (le_or_lt (length voices) (first_at v voices))
 
 -- ---- settings that are put into a place
 
@@ -144,14 +144,14 @@ module _ (voices : List ℕ) (v : ℕ) (m : v ≤ most_voice) where
       ⊎_elim
       (λ (g : length voices ≤ first_at w voices). first-none w without free (λ j l. o j (omega (arith, rw (length-replaced v free voices) at l))) ∙ rw (length-replaced v free voices) (omega (arith, first-within w voices)))
       (λ (g : first_at w voices < length voices).
-      let i : get_or voices (first_at w voices) free ≡ w = first-is w voices free g in
+      let i : get_or voices (first_at w voices) free ≡ w = first_is w voices free g in
       first-at w without (first_at w voices) free (rw (length-replaced v free voices) g) (kept (first_at w voices) g (λ e. d (sym i ∙ e)) ∙ i) o)
-      (le-or-lt (length voices) (first_at w voices))
+      (le_or_lt (length voices) (first_at w voices))
 
   -- its place is free, and the others are as they were
   module _ (h : first_at v voices < length voices) where
     freed : holds_at without (first_at v voices) ≡ false
-    freed = rw (swapped (first_at v voices) h (first-is v voices free h))
+    freed = rw (swapped (first_at v voices) h (first_is v voices free h))
 
     still : (j : ℕ) → j < length voices → j ≢ first_at v voices → holds_at without j ≡ holds_at voices j
     still j l d = ⊎_elim
@@ -159,7 +159,7 @@ module _ (voices : List ℕ) (v : ℕ) (m : v ≤ most_voice) where
         (λ (q : get_or voices j free ≢ v). ⊎_elim
         (λ (g : get_or voices j free ≤ most_voice). rw (kept j l q, left (get_or voices j free) q g))
         (λ (g : most_voice < get_or voices j free). rw (kept j l q, lt-leb (get_or voices j free) most_voice g))
-        (le-or-lt (get_or voices j free) most_voice))
+        (le_or_lt (get_or voices j free) most_voice))
         (same_or_not (get_or voices j free) v)
 
     -- so the first free place is then this or an earlier one

@@ -71,14 +71,14 @@ pub by_another_hand : (holding foreign ≡ true ∷ true ∷ false ∷ false ∷
 unfolding holding build first_at first_off count
 by_another_hand = (refl, refl, refl)
 
-pub held-there : entries_in (store foreign numbered) ≡ entry 7 (settings 0 1 2) ∷ entry 300 (settings 3 4 5) ∷ entry 65535 (settings 12 13 14) ∷ []
+pub held_there : entries_in (store foreign numbered) ≡ entry 7 (settings 0 1 2) ∷ entry 300 (settings 3 4 5) ∷ entry 65535 (settings 12 13 14) ∷ []
 unfolding entries_in holding build select first_at
-held-there = refl
+held_there = refl
 
 -- RULES, Settings: a new voice takes the first free place, and one that is held keeps its own
-pub sets-there : (set_in 9 (settings 90 91 92) (store foreign numbered) ≡ store (set foreign 2 9) (0 ∷ 1 ∷ 2 ∷ 3 ∷ 4 ∷ 5 ∷ 90 ∷ 91 ∷ 92 ∷ 9 ∷ 10 ∷ 11 ∷ 12 ∷ 13 ∷ 14 ∷ [])) × (set_in 300 (settings 90 91 92) (store foreign numbered) ≡ store foreign (0 ∷ 1 ∷ 2 ∷ 90 ∷ 91 ∷ 92 ∷ 6 ∷ 7 ∷ 8 ∷ 9 ∷ 10 ∷ 11 ∷ 12 ∷ 13 ∷ 14 ∷ []))
+pub sets_there : (set_in 9 (settings 90 91 92) (store foreign numbered) ≡ store (set foreign 2 9) (0 ∷ 1 ∷ 2 ∷ 3 ∷ 4 ∷ 5 ∷ 90 ∷ 91 ∷ 92 ∷ 9 ∷ 10 ∷ 11 ∷ 12 ∷ 13 ∷ 14 ∷ [])) × (set_in 300 (settings 90 91 92) (store foreign numbered) ≡ store foreign (0 ∷ 1 ∷ 2 ∷ 90 ∷ 91 ∷ 92 ∷ 6 ∷ 7 ∷ 8 ∷ 9 ∷ 10 ∷ 11 ∷ 12 ∷ 13 ∷ 14 ∷ []))
 unfolding set_in holding build first_at first_off
-sets-there = (refl, refl)
+sets_there = (refl, refl)
 
 -- RULES, Settings: the place of a voice becomes free, and every later place with its number gets that of a free one, and keeps its settings
 pub removes_there : remove_in 7 (store foreign numbered) ≡ store (free ∷ 300 ∷ free ∷ 65536 ∷ 65535 ∷ []) (0 ∷ 0 ∷ 0 ∷ 3 ∷ 4 ∷ 5 ∷ 6 ∷ 7 ∷ 8 ∷ 9 ∷ 10 ∷ 11 ∷ 12 ∷ 13 ∷ 14 ∷ [])

@@ -62,9 +62,9 @@ module _ (p : Places) (m : List Float) (t : ℕ) where
   r₂ : elem m (f + 2) ≡ entry 3 F (t + 2 - 2) 2
   r₂ = before (f + 2) 2 2 (omega arith)
 
-  pivot-is : pivot_three m a f ≡ reduced 3 (elem A 0) F (t + 2) 0
+  pivot_is : pivot_three m a f ≡ reduced 3 (elem A 0) F (t + 2) 0
   unfolding less
-  pivot-is = let o : 2 ≡ min 2 (t + 2) = omega arith in
+  pivot_is = let o : 2 ≡ min 2 (t + 2) = omega arith in
       rw (read m (p.rows + (t + 2) * 3) 3 a 0 (omega arith), q₁, q₀, r₂, r₀) (ap (less (elem A 0) (factor_term 3 F (t + 2) 0)) o)
 
   second_is : second_three m a f ≡ reduced 3 (elem A 1) F (t + 2) 1
@@ -72,14 +72,14 @@ module _ (p : Places) (m : List Float) (t : ℕ) where
   second_is = let o : 1 ≡ min 1 (t + 2) = omega arith in
       rw (read m (p.rows + (t + 2) * 3) 3 (a + 1) 1 (omega arith), q₁, q₂, q₀) (ap (less (elem A 1) (factor_term 3 F (t + 2) 1)) o)
 
-  third-is : elem m (a + 2) ≡ reduced 3 (elem A 2) F (t + 2) 2
+  third_is : elem m (a + 2) ≡ reduced 3 (elem A 2) F (t + 2) 2
   unfolding less
-  third-is = let o : 0 ≡ min 0 (t + 2) = omega arith in
+  third_is = let o : 0 ≡ min 0 (t + 2) = omega arith in
       read m (p.rows + (t + 2) * 3) 3 (a + 2) 2 (omega arith) ∙ ap (less (elem A 2) (factor_term 3 F (t + 2) 2)) o
 
-  forward-is : forward_three m (p.right + t + 2) f v ≡ forward_at 3 F (elem m (p.right + (t + 2))) Y (t + 2)
+  forward_is : forward_three m (p.right + t + 2) f v ≡ forward_at 3 F (elem m (p.right + (t + 2))) Y (t + 2)
   unfolding less
-  forward-is =
+  forward_is =
       let o : 2 ≡ min 2 (t + 2) = omega arith in
       let x : p.right + t + 2 ≡ p.right + (t + 2) = omega arith in
       rw (x, q₁, r₂, read m p.values (t + 2) (v + 1) (t + 2 - 1) (omega arith), read m p.values (t + 2) v (t + 2 - 2) (omega arith))
@@ -95,10 +95,10 @@ module _ (p : Places) (m : List Float) (t : ℕ) where
         let i₀ : f + 6 ≡ p.factors + (t + 2) * 3 = omega arith in
         let i₁ : f + 7 ≡ suc (p.factors + (t + 2) * 3) = omega arith in
         let i₂ : f + 8 ≡ suc (suc (p.factors + (t + 2) * 3)) = omega arith in
-        rw (i₀, i₁, i₂, d-is, u-is, pivot-is, second_is, third-is)
+        rw (i₀, i₁, i₂, d-is, u-is, pivot_is, second_is, third_is)
 
     pub three-forth : set stored (v + 2) g ≡ row_done p 3 (t + 2) m
-    three-forth = let i : v + 2 ≡ p.values + (t + 2) = omega arith in rw (i, factored, g-is, forward-is)
+    three-forth = let i : v + 2 ≡ p.values + (t + 2) = omega arith in rw (i, factored, g-is, forward_is)
 
 -- ---- the value at t, from the two behind it
 
@@ -121,8 +121,8 @@ module _ (p : Places) (n : ℕ) (m : List Float) (t : ℕ) where
   abbrev L : List Float
   L = part p.factors (n * 3) m
 
-  value-is : (x j : ℕ) → (t + 1 + j < n) × (x ≡ p.values + (t + 1 + j)) → elem m x ≡ elem C j
-  value-is x j h = read m p.values n x (t + 1 + j) h ∙ sym (get_or-drop (t + 1) P j nan)
+  value_is : (x j : ℕ) → (t + 1 + j < n) × (x ≡ p.values + (t + 1 + j)) → elem m x ≡ elem C j
+  value_is x j h = read m p.values n x (t + 1 + j) h ∙ sym (get_or-drop (t + 1) P j nan)
 
   pub three_back : t + 2 < n → Spaced p n 3 (length m) → set m y X ≡ value_back p n 3 t m
   unfolding less
@@ -135,8 +135,8 @@ module _ (p : Places) (n : ℕ) (m : List Float) (t : ℕ) where
         read m p.factors (n * 3) e (t * 3 + 0) (omega arith),
         read m p.factors (n * 3) (e + 1) (t * 3 + 1) (omega arith),
         read m p.factors (n * 3) (e + 2) (t * 3 + 2) (omega arith),
-        value-is (y + 1) 0 (omega arith),
-        value-is (y + 2) 1 (omega arith),
+        value_is (y + 1) 0 (omega arith),
+        value_is (y + 2) 1 (omega arith),
       )
       (sym (ap (less (div binary64 (elem P t) (entry 3 L t 0)) (backward_term 3 L C t)) o)) in
       ap (set m y) is

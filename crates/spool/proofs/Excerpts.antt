@@ -63,8 +63,8 @@ module _ (trajectory : Bor (List Float)) (ds : List ℕ) (v : ℕ) (part : ℕ �
   each state h = (says state h).numbers ∙ rw (excerpt_0 (length trajectory.now) ds v state e h)
 
   -- is, of n states from one on, the part that begins with its first frame and has their frames
-  pub excerpts-from : (from n : ℕ) → from + n ≤ length ds → rows (λ i. (part (from + i)).now) n ≡ take (total (take n (drop from ds)) * v) (drop (total (take from ds) * v) trajectory.now)
-  excerpts-from from n h = parts_from trajectory.now ds v (λ state. (part state).now) each from n h
+  pub excerpts_from : (from n : ℕ) → from + n ≤ length ds → rows (λ i. (part (from + i)).now) n ≡ take (total (take n (drop from ds)) * v) (drop (total (take from ds) * v) trajectory.now)
+  excerpts_from from n h = parts_from trajectory.now ds v (λ state. (part state).now) each from n h
 
   -- and of all states the trajectory
   pub excerpts-join : rows (λ state. (part state).now) (length ds) ≡ trajectory.now
@@ -73,4 +73,4 @@ module _ (trajectory : Bor (List Float)) (ds : List ℕ) (v : ℕ) (part : ℕ �
       let w : take (length ds) ds ≡ ds = take_all (length ds) ds (omega arith) in
       let z : total (take 0 ds) * v ≡ 0 = ap (λ (f : ℕ). f * v) (total-none [] 0 (omega arith)) ∙ zero-mul v in
       rows_same (λ state. (part state).now) (λ i. (part (0 + i)).now) (length ds) (λ i h. let o : 0 + i ≡ i = omega arith in rw o)
-      ∙ excerpts-from 0 (length ds) (omega arith) ∙ rw (z, w) (take_all (total ds * v) trajectory.now (omega arith))
+      ∙ excerpts_from 0 (length ds) (omega arith) ∙ rw (z, w) (take_all (total ds * v) trajectory.now (omega arith))

@@ -7,14 +7,14 @@ use native.Mathlib.Nat.{le_antisymm, suc-mul}
 use native.Mathlib.Numerals.{add-one}
 use native.Mathlib.Omega.{arith}
 use lib.Dec.{lit<}
-use Rattle.lists.proofs.Numbers.{le-or-lt}
+use Rattle.lists.proofs.Numbers.{le_or_lt}
 use Rattle.lists.proofs.Rows.{row_in}
-use Rattle.lists.proofs.Answers.{accepted-is}
+use Rattle.lists.proofs.Answers.{accepted_is}
 use Rattle.spool.specs.Place.{place_of}
 use Rattle.spool.specs.Refusal.{place_refusal}
 use Rattle.spool.specs.Promise.{placed, PlaceSays}
 use Rattle.spool.specs.declared.Placed.TheVariants.{At}
-use Rattle.spool.specs.Refusal.Laws.{place-accepts}
+use Rattle.spool.specs.Refusal.Laws.{place_accepts}
 use Rattle.spool.proofs.Sums.{product-fits}
 
 -- the next component stands 8 bytes further, and after a frame's last component so does the next frame's first
@@ -23,8 +23,8 @@ places-apart frame component v = (omega arith, λ e. let m : (frame + 1) * v ≡
 
 module _ (v frame component frame' component' : ℕ) (within : component < v) where
   -- of two numbers the one of an earlier frame, or an earlier component of the same, has its 8 bytes before the other
-  pub places-in_order : (frame < frame') ⊎ ((frame ≡ frame') × (component < component')) → place_of frame component v + 8 ≤ place_of frame' component' v
-  places-in_order = ⊎_elim
+  pub places_in_order : (frame < frame') ⊎ ((frame ≡ frame') × (component < component')) → place_of frame component v + 8 ≤ place_of frame' component' v
+  places_in_order = ⊎_elim
       (λ (h : frame < frame'). omega (arith, row_in v frame frame' component h within))
       (λ (h : (frame ≡ frame') × (component < component')). rw (← h.0) (omega (arith, h.1)))
 
@@ -37,18 +37,18 @@ places_differ v frame component frame' component' w w' e = ⊎_elim
     let f : frame ≡ frame' = le_antisymm h k in
     let m : frame * v ≡ frame' * v = ap (λ (n : ℕ). n * v) f in
     (f, omega arith))
-    (λ (k : frame < frame'). absurd (omega (arith, places-in_order v frame component frame' component' w (inl k))))
-    (le-or-lt frame' frame))
-    (λ (h : frame' < frame). absurd (omega (arith, places-in_order v frame' component' frame component w' (inl h))))
-    (le-or-lt frame frame')
+    (λ (k : frame < frame'). absurd (omega (arith, places_in_order v frame component frame' component' w (inl k))))
+    (le_or_lt frame' frame))
+    (λ (h : frame' < frame). absurd (omega (arith, places_in_order v frame' component' frame component w' (inl h))))
+    (le_or_lt frame frame')
 
 -- so two calls that give one place were asked for one frame and one component
 pub answers_differ : (v frame component frame' component' place : ℕ) → PlaceSays frame component v (At place) → PlaceSays frame' component' v (At place) → (frame ≡ frame') × (component ≡ component')
 answers_differ v frame component frame' component' place a b =
-    places_differ v frame component frame' component' (place-accepts component v (given-at frame component a).0).1 (place-accepts component' v (given-at frame' component' b).0).1 (sym (given-place frame component a) ∙ given-place frame' component' b)
+    places_differ v frame component frame' component' (place_accepts component v (given-at frame component a).0).1 (place_accepts component' v (given-at frame' component' b).0).1 (sym (given-place frame component a) ∙ given-place frame' component' b)
   where
     given-at : (frame component : ℕ) → PlaceSays frame component v (At place) → (place_refusal component v ≡ 0) × (place ∷ [] ≡ place_of frame component v ∷ [])
-    given-at frame component s = accepted-is (placed (At place)) _ _ s refl
+    given-at frame component s = accepted_is (placed (At place)) _ _ s refl
 
     given-place : (frame component : ℕ) → PlaceSays frame component v (At place) → place ≡ place_of frame component v
     given-place frame component s = let e : place ∷ [] ≡ place_of frame component v ∷ [] = (given-at frame component s).1 in cc e

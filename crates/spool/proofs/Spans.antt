@@ -5,7 +5,7 @@ use Prim.Native.Nat.{ℕ, ◌+◌, ◌≤◌}
 use native.Mathlib.Omega.{arith}
 use lib.Ieee.{Float}
 use lib.ListN.{length, take, drop}
-use Rattle.lists.proofs.Answers.{same, accepted-is}
+use Rattle.lists.proofs.Answers.{same, accepted_is}
 use Rattle.spool.specs.Excerpt.{excerpt_start, excerpt_count, excerpt_of}
 use Rattle.spool.specs.Refusal.{excerpt_refusal}
 use Rattle.spool.specs.Promise.{spanned, SpanSays}
@@ -20,16 +20,16 @@ module _ (trajectory : List Float) (ds : List ℕ) (v state : ℕ) (r : Span) (s
 
   module _ (first count : ℕ) (e : r ≡ Numbers first count) where
     pub span_none : excerpt_refusal (length trajectory) ds v state ≡ 0
-    span_none = (accepted-is (spanned (Numbers first count)) _ _ (sym (ap spanned e) ∙ says) refl).0
+    span_none = (accepted_is (spanned (Numbers first count)) _ _ (sym (ap spanned e) ∙ says) refl).0
 
-    span-is : first ∷ count ∷ [] ≡ excerpt_start ds v state ∷ excerpt_count ds v state ∷ []
-    span-is = (accepted-is (spanned (Numbers first count)) _ _ (sym (ap spanned e) ∙ says) refl).1
+    span_is : first ∷ count ∷ [] ≡ excerpt_start ds v state ∷ excerpt_count ds v state ∷ []
+    span_is = (accepted_is (spanned (Numbers first count)) _ _ (sym (ap spanned e) ∙ says) refl).1
 
     pub span-first : first ≡ excerpt_start ds v state
-    span-first = cc span-is
+    span-first = cc span_is
 
     pub span-count : count ≡ excerpt_count ds v state
-    span-count = cc span-is
+    span-count = cc span_is
 
     -- the numbers that it names are the excerpt
     pub span-part : excerpt_of trajectory ds v state ≡ take count (drop first trajectory)

@@ -9,7 +9,7 @@ use lib.Ieee.{Float}
 use lib.ListN.{length, take, drop, get_or}
 use Rattle.lists.specs.Totals.{total}
 use Rattle.lists.specs.Answers.{given, refusing, answer_of}
-use Rattle.lists.proofs.Answers.{given-none, refused, refused-is}
+use Rattle.lists.proofs.Answers.{given-none, refused, refused_is}
 use Rattle.spool.specs.Place.{number_of}
 use Rattle.spool.specs.Excerpt.{excerpt_start, excerpt_count, excerpt_of}
 use Rattle.spool.specs.Refusal.{trajectory_refusal, excerpt_refusal}
@@ -20,8 +20,8 @@ use Rattle.spool.specs.declared.Span.TheVariants.{Numbers, Refused}
 use Rattle.spool.proofs.Spans.{span_none, span-first, span-part}
 
 -- a trajectory that is refused with its durations
-pub span-refused_as : (numbers : ℕ) (ds : List ℕ) (v state : ℕ) (values : List ℕ) (r : ℕ) → r ≡ trajectory_refusal numbers ds v → (r ≡ 0 → ⊥) → refusing r ≡ answer_of (excerpt_refusal numbers ds v state) values
-span-refused_as numbers ds v state values r e z =
+pub span_refused_as : (numbers : ℕ) (ds : List ℕ) (v state : ℕ) (values : List ℕ) (r : ℕ) → r ≡ trajectory_refusal numbers ds v → (r ≡ 0 → ⊥) → refusing r ≡ answer_of (excerpt_refusal numbers ds v state) values
+span_refused_as numbers ds v state values r e z =
     let q : r ≡ excerpt_refusal numbers ds v state = e ∙ sym (excerpt_first numbers ds v state (λ n. z (e ∙ n))) in
     rw (← q) (refused r values z)
 
@@ -45,7 +45,7 @@ module _ (t : Bor (List Float)) (ds : List ℕ) (v state : ℕ) (r : Span) (says
   -- and the empty one
   module _ (k : ℕ) (e : r ≡ Refused k) where
     none : {A : Type 0} (y z : A) → given (excerpt_refusal (length t.now) ds v state) y z ≡ z
-    none y z = given-none _ y z (refused-is k _ _ _ (sym (ap spanned e) ∙ says)).1
+    none y z = given-none _ y z (refused_is k _ _ _ (sym (ap spanned e) ∙ says)).1
 
     pub empty-says : (q : Bor (List Float)) → q.now ≡ [] → q.ref_ptr ≡ t.ref_ptr → ExcerptSays t ds v state q
     empty-says q n p =

@@ -50,8 +50,8 @@ in_reach_lem sum t e = let r = (and-eq-true_iff _ _).0 e in (ltb-true sum t r.0,
 pub stands_open : (ss : States) (ds : List ℕ) (t : ℕ) → Together (size ss) (length ss.varis) (length ss.shortest) (length ds) → least ss < t → t ≤ most_frames → opens ss ds t ≡ true
 stands_open ss ds t o a b = rw (fit-together _ _ _ _ o, lt-ltb (least ss) t a, le-leb t most_frames b)
 
-outcome-is : (o : Outcome) (k : ℕ) (es : List ℕ) → Done k ≡ Done o.changes → es ≡ o.durations → o ≡ record { durations = es; changes = k }
-outcome-is o k es e f = let n : k ≡ o.changes = cc in rw (n, f)
+outcome_is : (o : Outcome) (k : ℕ) (es : List ℕ) → Done k ≡ Done o.changes → es ≡ o.durations → o ≡ record { durations = es; changes = k }
+outcome_is o k es e f = let n : k ≡ o.changes = cc in rw (n, f)
 
 module _ (rho : Float) (t : ℕ) (ss : States) (ds : List ℕ) where
   abbrev Open : Type 0
@@ -110,6 +110,6 @@ module _ (rho : Float) (t : ℕ) (ss : States) (ds : List ℕ) where
     was_settled k e =
         (elim (too_long ds) as (λ b. too_long ds ≡ b → (total ds ≤ most_frames) × (settle most_frames rho ss t ds ≡ record { durations = es; changes = k })) [
           | true ↦ λ q. absurd (let p : Done k ≡ Over = sym e ∙ s.answer ∙ rw (o, q) in let z : ◌≡◌ {A = ℕ} 0 1 = cc in omega arith)
-          | false ↦ λ q. (ltb-false most_frames (total ds) q, outcome-is (settle most_frames rho ss t ds) k es (sym e ∙ s.answer ∙ rw (o, q)) (s.durations ∙ rw (o, q)))
+          | false ↦ λ q. (ltb-false most_frames (total ds) q, outcome_is (settle most_frames rho ss t ds) k es (sym e ∙ s.answer ∙ rw (o, q)) (s.durations ∙ rw (o, q)))
         ])
         refl

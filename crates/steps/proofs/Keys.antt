@@ -15,7 +15,7 @@ use Rattle.lists.specs.Sizes.{most_states}
 use Rattle.lists.specs.Totals.{total}
 use Rattle.lists.proofs.Builds.{build-at}
 use Rattle.lists.proofs.Fills.{build-length}
-use Rattle.lists.proofs.Numbers.{le-or-lt}
+use Rattle.lists.proofs.Numbers.{le_or_lt}
 use Rattle.floats.proofs.Ordered.{abs_fits, abs_clear}
 use Rattle.steps.specs.Steps.{State, States, size, least, state_at, Key, cost_of, key_of, keys, sooner, least_of}
 use Rattle.steps.specs.Steps.Key.{Fixed, Cost}
@@ -46,7 +46,7 @@ module _ (up : Bool) (rho : Float) (ss : States) (ds : List ℕ) where
   keys-sound i = ⊎_elim
       (λ (h : size ss ≤ i). subst Sound (sym (get_or-eq_default (keys up rho ss ds) Fixed (rw length-keys h))) fixed)
       (λ (h : i < size ss). subst Sound (get_or-keys i h) (key_sound up rho (state_at ss i) (get_or ds i 0)))
-      (le-or-lt (size ss) i)
+      (le_or_lt (size ss) i)
 
 -- ---- on the way down
 

@@ -10,7 +10,7 @@ use lib.Dec.{eqb}
 use lib.ListN.{length, get_or, set, length-set}
 use lib.Seq.{get_or-set_same, get_or-set_other}
 use borrow.Author.Tests.{lt-ltb, le-ltb, eqb-true, eqb-false}
-use Rattle.lists.proofs.Numbers.{le-or-lt}
+use Rattle.lists.proofs.Numbers.{le_or_lt}
 use Rattle.steps.specs.declared.costs.Entry.{Entry}
 use Rattle.steps.specs.Inner.Scores.{scores, keyed, sooner_of}
 use Rattle.steps.specs.Inner.Tree.{node, Lesser, Won, Within, Kept, On, Path}
@@ -45,7 +45,7 @@ leaf : (t : List ℕ) (j : ℕ) → length t ≤ j → node t j ≡ j - length t
 leaf t j h = ap (node t) (let e : j ≡ length t + (j - length t) = omega arith in e) ∙ node-leaf t (j - length t)
 
 pub node_in : (t : List ℕ) (i j : ℕ) → Within t i → i ≤ j → j < 2 * length t → node t j < length t
-node_in t i j f h l = ⊎_elim (λ (g : length t ≤ j). rw (leaf t j g) (omega arith)) (λ (g : j < length t). rw (node_inner t j g) (f j h g)) (le-or-lt (length t) j)
+node_in t i j f h l = ⊎_elim (λ (g : length t ≤ j). rw (leaf t j g) (omega arith)) (λ (g : j < length t). rw (node_inner t j g) (f j h g)) (le_or_lt (length t) j)
 
 lesser_in : {S : ℕ → ℕ} {a b v : ℕ} → Lesser S a b v → (n : ℕ) → a < n → b < n → v < n
 lesser_in w n h l = ⊎_elim (λ e. omega arith) (λ e. omega arith) w.one
@@ -201,8 +201,8 @@ module _ (S : ℕ → ℕ) (t : List ℕ) (k : Kept S t 1) where
       (λ (ne : j ≡ 1 → ⊥). le_trans (root-under f (j / 2) (omega arith) (omega arith) (omega arith)) (under j (omega arith) u))
       (same j 1)
 
-  pub root-least : (p : ℕ) → p < length t → S (node t 1) ≤ S p
-  root-least p h = subst (λ (q : ℕ). S (node t 1) ≤ S q) (node-leaf t p) (root-under (length t + p) (length t + p) (omega arith) (omega arith) (omega arith))
+  pub root_least : (p : ℕ) → p < length t → S (node t 1) ≤ S p
+  root_least p h = subst (λ (q : ℕ). S (node t 1) ≤ S q) (node-leaf t p) (root-under (length t + p) (length t + p) (omega arith) (omega arith) (omega arith))
 
   pub root_in : 0 < length t → node t 1 < length t
   root_in h = node_in t 1 1 k.within (omega arith) (omega arith)
@@ -219,7 +219,7 @@ module _ (S : ℕ → ℕ) (t : List ℕ) (k : Kept S t 1) where
       (λ w. over (over-leaf f (2 * i) p (omega arith) (omega arith) (omega arith) (sym w ∙ q)) (omega arith))
       (λ w. over (over-leaf f (2 * i + 1) p (omega arith) (omega arith) (omega arith) (sym w ∙ q)) (omega arith))
       (k.won i l g).one)
-      (le-or-lt (length t) i)
+      (le_or_lt (length t) i)
 
   -- so does a node whose child holds it
   over_child : (j c p : ℕ) → 1 ≤ j → j < length t → j ≡ c / 2 → 1 ≤ c → c < 2 * length t → node t c ≡ p → On j ((length t + p) / 2)

@@ -19,7 +19,7 @@ use Rattle.steps.specs.Inner.Pack.{width, lows, highs}
 use Rattle.steps.specs.Inner.Asked.{Ready, RoomFor, MayMove, Aim, PutsDuration, PutsPlace, Standing, Plays, Stepped}
 use Rattle.steps.proofs.Order.{sooner_lesser}
 use Rattle.steps.proofs.Keys.{least-place}
-use Rattle.steps.proofs.Nodes.{node-leaf, node_in, kept-none, kept_next, Climbing, climb-start, climb_in, other_in, climb-next, climb-end, root-least, root_in, path-start}
+use Rattle.steps.proofs.Nodes.{node-leaf, node_in, kept-none, kept_next, Climbing, climb-start, climb_in, other_in, climb-next, climb-end, root_least, root_in, path-start}
 use Rattle.steps.proofs.Packs.{length-lows, length-highs, lows-plain}
 use Rattle.steps.proofs.Stepping.{found_in, found-may, found-step, step-ready, Going, going, going_again, going_done}
 
@@ -156,7 +156,7 @@ module _ (up : Bool) (rho : Float) (ss : States) (w : List ℕ) (r : Ready ss (l
       let n : length (highs w) ≡ size ss = wide in
       let z : node (highs w) 1 < length (highs w) = root_in (scores (key_at up rho ss (lows w))) (highs w) k (omega (arith, r.some)) in
       least-place up rho ss (lows w) r.few p (omega arith)
-      (λ j h. rw at (root-least (scores (key_at up rho ss (lows w))) (highs w) k j (omega arith)))
+      (λ j h. rw at (root_least (scores (key_at up rho ss (lows w))) (highs w) k j (omega arith)))
 
   pub root-place : p < length w
   root-place = let e : length (lows w) ≡ length w = length-lows w in let h : p < length (lows w) = found_in up rho ss (lows w) r p root_is in omega arith

@@ -5,7 +5,7 @@ use Prim.Native.Nat.{ℕ, ◌+◌, ◌≤◌, ◌<◌}
 use native.Mathlib.Nat.{le_refl, le_trans}
 use native.Mathlib.Omega.{arith}
 use Rattle.lists.specs.Sizes.{most_states}
-use Rattle.lists.proofs.Numbers.{le-or-lt}
+use Rattle.lists.proofs.Numbers.{le_or_lt}
 use Rattle.steps.specs.declared.costs.Entry.{Entry}
 use Rattle.steps.specs.Inner.Scores.{scores, keyed, sooner_of}
 use Rattle.steps.proofs.Order.{sooner_lesser}
@@ -44,5 +44,5 @@ module _ (K : ℕ → ℕ) (n : ℕ) (best : Entry) where
               ⊎_elim
               (λ (g : i ≤ j). let z : i ≡ j = omega arith in subst (λ (m : ℕ). scores K r.place ≤ scores K m) z w.1.right)
               (λ (g : j < i). le_trans w.1.left (s.least j g))
-              (le-or-lt i j);
+              (le_or_lt i j);
         }

@@ -29,14 +29,14 @@ unfolding settle step keys build key_of least_of cost_below abs_of total of_bits
 gives_one = record { answer = refl; durations = refl }
 
 -- RULES, Cases, 5: without variance the costs are NaN or infinite, and the first state gets all frames
-pub gets-four : SettleSays (inf false) 6 (states (number 2 ∷ number 2 ∷ []) (number 0 ∷ number 0 ∷ []) ones) (1 ∷ 1 ∷ []) (Done 4) (5 ∷ 1 ∷ [])
+pub gets_four : SettleSays (inf false) 6 (states (number 2 ∷ number 2 ∷ []) (number 0 ∷ number 0 ∷ []) ones) (1 ∷ 1 ∷ []) (Done 4) (5 ∷ 1 ∷ [])
 unfolding settle step keys build key_of least_of cost_below abs_of total of_bits of_int sub div lt is_nan
-gets-four = record { answer = refl; durations = refl }
+gets_four = record { answer = refl; durations = refl }
 
 -- a state at its shortest gives nothing: both cost the same, and the second gives the frame
-pub gives-second : SettleSays rho 8 (states means varis (4 ∷ 1 ∷ [])) (4 ∷ 5 ∷ []) (Done 1) (4 ∷ 4 ∷ [])
+pub gives_second : SettleSays rho 8 (states means varis (4 ∷ 1 ∷ [])) (4 ∷ 5 ∷ []) (Done 1) (4 ∷ 4 ∷ [])
 unfolding settle step keys build key_of least_of cost_below abs_of total of_bits of_int sub div lt is_nan
-gives-second = record { answer = refl; durations = refl }
+gives_second = record { answer = refl; durations = refl }
 
 -- a start of 65,536 frames at its target, and one of a frame more
 pub longest : SettleSays rho 65536 (states means varis ones) (65535 ∷ 1 ∷ []) (Done 0) (65535 ∷ 1 ∷ [])
@@ -59,5 +59,5 @@ target-high = record { answer = refl; durations = refl }
 pub uneven : SettleSays rho 8 (states means (number 1 ∷ []) ones) (4 ∷ 5 ∷ []) (Done 0) (4 ∷ 5 ∷ [])
 uneven = record { answer = refl; durations = refl }
 
-pub uneven-shortest : SettleSays rho 8 (states means varis (1 ∷ [])) (4 ∷ 5 ∷ []) (Done 0) (4 ∷ 5 ∷ [])
-uneven-shortest = record { answer = refl; durations = refl }
+pub uneven_shortest : SettleSays rho 8 (states means varis (1 ∷ [])) (4 ∷ 5 ∷ []) (Done 0) (4 ∷ 5 ∷ [])
+uneven_shortest = record { answer = refl; durations = refl }

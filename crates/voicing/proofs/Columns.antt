@@ -12,8 +12,8 @@ use lib.Ieee.{Float, nan}
 use Rattle.lists.specs.Totals.{total}
 use Rattle.lists.specs.Build.{build}
 use Rattle.lists.specs.Frames.{fill}
-use Rattle.lists.proofs.Builds.{build-is}
-use Rattle.lists.proofs.Numbers.{le-or-lt}
+use Rattle.lists.proofs.Builds.{build_is}
+use Rattle.lists.proofs.Numbers.{le_or_lt}
 use Rattle.region.specs.Rows.{elem}
 use Rattle.region.specs.Region.{size_of, values_at, region_of, region_in}
 use Rattle.region.specs.declared.Layout.{Layout}
@@ -52,7 +52,7 @@ module _ {A : Type 0} (v : ℕ) where
 
 module _ (v n c p : ℕ) (xs : ℕ → List Float) (out : List Float) (long : length out ≡ n * v) (each : (l : ℕ) → length (xs l) ≡ n) (b : p < length out) where
   some : 0 < v
-  some = ⊎_elim (λ (h : v ≤ 0). let z : v ≡ 0 = omega arith in let e : n * v ≡ 0 = rw (z, mul-zero) in absurd (omega arith)) (λ (h : 0 < v). h) (le-or-lt v 0)
+  some = ⊎_elim (λ (h : v ≤ 0). let z : v ≡ 0 = omega arith in let e : n * v ≡ 0 = rw (z, mul-zero) in absurd (omega arith)) (λ (h : 0 < v). h) (le_or_lt v 0)
 
   -- a place of another column
   lanes_other : (lanes : ℕ) → c + lanes ≤ v → ((l : ℕ) → l < lanes → p % v ≢ c + l) → elem (sets_lanes v c xs lanes out) p ≡ elem out p
@@ -74,20 +74,20 @@ module _ (v n c p : ℕ) (xs : ℕ → List Float) (out : List Float) (long : le
       (λ (g : m < l).
       column-other v (c + l) (xs l) (sets_lanes v c xs l out) p nan (λ i o. let z : p % v ≡ c + l = rw o (add-mul-mod_self_right (c + l) i v ∙ mod-eq_of_lt (omega arith)) in absurd (omega arith))
       ∙ lanes_at l m (omega arith) g e)
-      (le-or-lt l m)
+      (le_or_lt l m)
 
 -- the values of components, which their regions hold, are filled back
 module _ (none : Float) (ds flags : List ℕ) (g : Layout) (c : Group) (work out : List Float) (fits : Grouped ds flags g c (length work)) (long : length out ≡ total ds * c.v) where
   abbrev column : ℕ → List Float
   column l = fill none (mask_in ds flags) (drop (values_at g + 0 + l * size_of g) work)
 
-  column-is : (l : ℕ) → column l ≡ fill none (mask_in ds flags) (region_in g (region_of (size_of g) l work)).values
-  column-is l =
+  column_is : (l : ℕ) → column l ≡ fill none (mask_in ds flags) (region_in g (region_of (size_of g) l work)).values
+  column_is l =
       let e : values_at g + 0 + l * size_of g ≡ l * size_of g + values_at g = omega arith in
       rw (part-part (values_at g) g.n (l * size_of g) (size_of g) work (omega arith), e) (sym (fill-front none (mask_in ds flags) (drop (l * size_of g + values_at g) work) g.n (omega (arith, fits.voiced))))
 
   pub columns_filled : sets_lanes c.v c.first column c.lanes out ≡ build (filled_at none (mask_in ds flags) g c work out) (length out)
-  columns_filled = build-is (filled_at none (mask_in ds flags) g c work out) (length out) _ nan (lanes_length c.v c.first column c.lanes out)
+  columns_filled = build_is (filled_at none (mask_in ds flags) g c work out) (length out) _ nan (lanes_length c.v c.first column c.lanes out)
       (λ p b.
       let n : (l : ℕ) → length (column l) ≡ total ds = λ l. fill-length none (mask_in ds flags) _ ∙ mask-long ds flags in
       let m : ℕ = p % c.v in
@@ -96,7 +96,7 @@ module _ (none : Float) (ds flags : List ℕ) (g : Layout) (c : Group) (work out
       (λ (h : c.first ≤ m). ⊎_elim
       (λ (k : c.first + c.lanes ≤ m). rw (le-leb c.first m h, le-ltb m (c.first + c.lanes) k) (other (λ l g e. absurd (omega (arith, e)))))
       (λ (k : m < c.first + c.lanes). rw (le-leb c.first m h, lt-ltb m (c.first + c.lanes) k)
-      (lanes_at c.v (total ds) c.first p column out long n b c.lanes (m - c.first) fits.some (omega arith) (omega arith) ∙ ap (λ (x : List Float). elem x (p / c.v)) (column-is (m - c.first))))
-      (le-or-lt (c.first + c.lanes) m))
+      (lanes_at c.v (total ds) c.first p column out long n b c.lanes (m - c.first) fits.some (omega arith) (omega arith) ∙ ap (λ (x : List Float). elem x (p / c.v)) (column_is (m - c.first))))
+      (le_or_lt (c.first + c.lanes) m))
       (λ (h : m < c.first). rw (lt-leb c.first m h) (other (λ l g e. absurd (omega (arith, e)))))
-      (le-or-lt c.first m))
+      (le_or_lt c.first m))

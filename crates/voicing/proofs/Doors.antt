@@ -15,7 +15,7 @@ use Rattle.lists.specs.Totals.{total}
 use Rattle.lists.specs.Build.{build}
 use Rattle.lists.specs.Flags.{flag}
 use Rattle.lists.specs.Frames.{expand, select, count}
-use Rattle.lists.proofs.Numbers.{le-or-lt}
+use Rattle.lists.proofs.Numbers.{le_or_lt}
 use Rattle.region.specs.Region.{each_region}
 use Rattle.region.specs.declared.Layout.{Layout}
 use Rattle.region.specs.declared.Group.{Group}
@@ -29,8 +29,8 @@ both : (a b : Bool) → (a && b) ≡ true → (a ≡ true) × (b ≡ true)
 both true b e = (refl, e)
 both false b e = absurd (let z : ◌≡◌ {A = ℕ} 0 1 = cc in omega arith)
 
-pub flagged-is : (ds : List ℕ) (flags : ℕ) → flagged ds flags ≡ true → Flagged ds flags
-flagged-is ds flags e =
+pub flagged_is : (ds : List ℕ) (flags : ℕ) → flagged ds flags ≡ true → Flagged ds flags
+flagged_is ds flags e =
     let p = both _ _ e in
     let q = both _ _ p.0 in
     record { few = leb-true _ _ q.0; frames = leb-true _ _ q.1; room = leb-true _ _ p.1 }
@@ -38,8 +38,8 @@ flagged-is ds flags e =
 -- ---- `mark`
 
 module _ (u : Voicing) (records : List Float) (ds flags : List ℕ) where
-  pub marks-is : marks u records ds (length flags) ≡ true → Flagged ds (length flags) × (length ds * u.size ≤ length records)
-  marks-is e = let p = both _ _ e in (flagged-is ds (length flags) p.0, leb-true _ _ p.1)
+  pub marks_is : marks u records ds (length flags) ≡ true → Flagged ds (length flags) × (length ds * u.size ≤ length records)
+  marks_is e = let p = both _ _ e in (flagged_is ds (length flags) p.0, leb-true _ _ p.1)
 
   pub mark-refuses : marks u records ds (length flags) ≡ false → MarkSays u records ds flags 0 flags
   mark-refuses e = record { answer = rw e; marked = rw e }
@@ -68,7 +68,7 @@ module _ (ds on flags : List ℕ) where
 
       module _ (h : (eqb (length on) (length ds) && leb (n + k) (length flags)) ≡ true) where
         pub switches-fit : Switched ds (length on) flags
-        switches-fit = let e = both _ _ h in record { framed = flagged-is ds (length flags) o; each = eqb-true _ _ e.0; room = rw (← p, ← q) (leb-true _ _ e.1) }
+        switches-fit = let e = both _ _ h in record { framed = flagged_is ds (length flags) o; each = eqb-true _ _ e.0; room = rw (← p, ← q) (leb-true _ _ e.1) }
 
         pub switches-done : (w : List ℕ) → w ≡ sets flags n (select (mask_in ds flags) (expand ds on)) → SwitchesSay ds on flags w
         switches-done w r = record { switched = r ∙ rw (o, ← p, ← q, h) }
@@ -82,19 +82,19 @@ components_left v first lanes = ⊎_elim
     (λ (h : v < first + lanes). ⊎_elim
     (λ (k : first ≤ v). let l : v - min first v < lanes = omega arith in rw (le-leb first v k, lt-leb lanes (v - min first v) l, lt-leb (first + lanes) v h))
     (λ (k : v < first). rw (lt-leb first v k, lt-leb (first + lanes) v h))
-    (le-or-lt first v))
-    (le-or-lt (first + lanes) v)
+    (le_or_lt first v))
+    (le_or_lt (first + lanes) v)
 
-pub components-is : (v first lanes : ℕ) → (leb v 64 && leb first v && leb lanes (v - min first v)) ≡ (leb v 64 && leb (first + lanes) v)
-components-is v first lanes = and_assoc (leb v 64) (leb first v) (leb lanes (v - min first v)) ∙ ap (λ (b : Bool). leb v 64 && b) (components_left v first lanes)
+pub components_is : (v first lanes : ℕ) → (leb v 64 && leb first v && leb lanes (v - min first v)) ≡ (leb v 64 && leb (first + lanes) v)
+components_is v first lanes = and_assoc (leb v 64) (leb first v) (leb lanes (v - min first v)) ∙ ap (λ (b : Bool). leb v 64 && b) (components_left v first lanes)
 
-pub grouped-is : (ds flags : List ℕ) (g : Layout) (c : Group) (floats : ℕ) → grouped ds flags g c floats ≡ true → Grouped ds flags g c floats
-grouped-is ds flags g c floats e =
+pub grouped_is : (ds flags : List ℕ) (g : Layout) (c : Group) (floats : ℕ) → grouped ds flags g c floats ≡ true → Grouped ds flags g c floats
+grouped_is ds flags g c floats e =
     let p = both _ _ e in
     let q = both _ _ p.0 in
     let r = both _ _ q.0 in
     let w = both _ _ q.1 in
-    record { framed = flagged-is ds (length flags) r.0; voiced = eqb-true _ _ r.1; most_v = leb-true _ _ w.0; some = leb-true _ _ w.1; room = leb-true _ _ p.1 }
+    record { framed = flagged_is ds (length flags) r.0; voiced = eqb-true _ _ r.1; most_v = leb-true _ _ w.0; some = leb-true _ _ w.1; room = leb-true _ _ p.1 }
 
 -- ---- `close_up`
 
@@ -105,7 +105,7 @@ half_room w v size =
     ⊎_elim
     (λ (h : w * v ≤ size / 2). let g : (w + w) * v ≤ size = omega arith in rw (le-leb (w * v) (size / 2) h, le-leb ((w + w) * v) size g))
     (λ (h : size / 2 < w * v). let g : size < (w + w) * v = omega arith in rw (lt-leb (w * v) (size / 2) h, lt-leb ((w + w) * v) size g))
-    (le-or-lt (w * v) (size / 2))
+    (le_or_lt (w * v) (size / 2))
 
 five : (a b c d e : Bool) → (a && b && c && d && e) ≡ (a && (b && c && d && e))
 five true b c d e = refl
@@ -115,13 +115,13 @@ module _ (size : ℕ) (records : List Float) (widths ds flags : List ℕ) (g : L
   pub closes-both : {a b : Bool} → a ≡ grouped ds flags g c floats → b ≡ pairs_fit size (length records) (length widths) (length ds) g c.v → closes size records widths ds flags g c floats ≡ (a && b)
   closes-both p q = rw (p, q) (five (grouped ds flags g c floats) _ _ _ _)
 
-  pub closes-is : closes size records widths ds flags g c floats ≡ true → Paired size (length records) (length widths) ds flags g c floats
-  closes-is e =
+  pub closes_is : closes size records widths ds flags g c floats ≡ true → Paired size (length records) (length widths) ds flags g c floats
+  closes_is e =
       let p = both _ _ e in
       let q = both _ _ p.0 in
       let r = both _ _ q.0 in
       let s = both _ _ r.0 in
-      record { lies = grouped-is ds flags g c floats s.0; windows = eqb-true _ _ s.1; most = leb-true _ _ r.1; pairs = leb-true _ _ q.1; recorded = leb-true _ _ p.1 }
+      record { lies = grouped_is ds flags g c floats s.0; windows = eqb-true _ _ s.1; most = leb-true _ _ r.1; pairs = leb-true _ _ q.1; recorded = leb-true _ _ p.1 }
 
 module _ (size : ℕ) (records : List Float) (widths ds flags : List ℕ) (g : Layout) (c : Group) (work : List Float) where
   pub close_shut : closes size records widths ds flags g c (length work) ≡ false → CloseSays size records widths ds flags g c work work

@@ -183,9 +183,9 @@ module _ {A : Type 0} (none : A) (v c lanes size a : ℕ) (ds flags : List ℕ) 
   filling = record { passed = passed_none; place = omega (arith, zero-mul v); long = refl; done = refl }
 
   module _ {out : List A} {s f k p : ℕ} (i : Filling out s f k p) where
-    pub filled-back : length ds ≤ s → out ≡ sets_lanes v c (values (mask_in ds flags) 0) lanes old
+    pub filled_back : length ds ≤ s → out ≡ sets_lanes v c (values (mask_in ds flags) 0) lanes old
     unfolding fill
-    filled-back h = sym (lanes_empty v p lanes out) ∙ (rw (mask_end ds flags s f i.passed.frames h) at i.done)
+    filled_back h = sym (lanes_empty v p lanes out) ∙ (rw (mask_end ds flags s f i.passed.frames h) at i.done)
 
     module _ (t : s < length ds) {d : ℕ} (o : d ≡ get_or ds s 0) where
       pub filling-room : c + lanes ≤ v → length old ≡ total ds * v → p + d * v + lanes ≤ length out + v

@@ -23,7 +23,7 @@ use Rattle.region.specs.declared.Group.{Group}
 use Rattle.region.specs.Inner.Passes.{Across}
 use Rattle.region.proofs.Lanes.{region-long}
 use Rattle.region.proofs.Across.{across-none, across-then, across_as}
-use Rattle.region.proofs.Flats.{across-is}
+use Rattle.region.proofs.Flats.{across_is}
 use Rattle.voicing.specs.Mask.{mask_in, column}
 use Rattle.voicing.specs.Boundaries.{ahead, lefts, rights, shut_all}
 use Rattle.voicing.specs.Windows.{reach_before, reach_after, means_in, ivars_in}
@@ -223,7 +223,7 @@ module _ (size : ℕ) (records : List Float) (widths ds flags : List ℕ) (g : L
   gathered {s} {f} {k} a h =
       let n : k ≡ g.n = passed-all a.passed h ∙ fit.lies.voiced in
       let last : drop f (mask_in ds flags) ≡ [] = mask_end ds flags s f a.passed.frames h in
-      across-is g c.lanes (λ l. paired_in size records c.v widths (mask_in ds flags) ds (c.first + l)) old fit.lies.room work
+      across_is g c.lanes (λ l. paired_in size records c.v widths (mask_in ds flags) ds (c.first + l)) old fit.lies.room work
       (across_as a.regions (λ l t q.
       paired_flat size records c.v (c.first + l) widths (mask_in ds flags) ds g (region_of (size_of g) l old) (region_of (size_of g) l work) fit.windows
       (region-long (size_of g) c.lanes l old t fit.lies.room)

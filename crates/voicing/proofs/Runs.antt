@@ -14,9 +14,9 @@ use lib.Dec.{ltb}
 use lib.Ieee.{Float, nan}
 use Rattle.lists.specs.Totals.{total}
 use Rattle.lists.specs.Parts.{part}
-use Rattle.lists.proofs.Builds.{build-is}
+use Rattle.lists.proofs.Builds.{build_is}
 use Rattle.lists.proofs.Fills.{build-length}
-use Rattle.lists.proofs.Numbers.{le-or-lt}
+use Rattle.lists.proofs.Numbers.{le_or_lt}
 use Rattle.lists.proofs.Regions.{returned, lent_filled, read-within}
 use Rattle.lists.proofs.Stores.{filled}
 use Rattle.floats.specs.Numbers.{nought}
@@ -37,7 +37,7 @@ module _ (before after j r : ℕ) (v : Float) where
   shut-first h = rw (lt-ltb j before h)
 
   pub shut-last : r < after → shut before after j r v ≡ nought
-  shut-last h = ⊎_elim (λ (g : before ≤ j). rw (le-ltb j before g, lt-ltb r after h)) shut-first (le-or-lt before j)
+  shut-last h = ⊎_elim (λ (g : before ≤ j). rw (le-ltb j before g, lt-ltb r after h)) shut-first (le_or_lt before j)
 
   shut_none : before ≤ j → after ≤ r → shut before after j r v ≡ v
   shut_none h g = rw (le-ltb j before h, le-ltb r after g)
@@ -51,7 +51,7 @@ module _ (e : Ends) (v : Float) where
   ends-none : min e.before e.d + min e.after e.d ≡ 0 → replicate e.d v ≡ shut_ends e v
   unfolding shut_ends
   ends-none z =
-      build-is (λ j. shut e.before e.after j (e.d - 1 - j) v) e.d (replicate e.d v) nan (length-replicate e.d v)
+      build_is (λ j. shut e.before e.after j (e.d - 1 - j) v) e.d (replicate e.d v) nan (length-replicate e.d v)
       (λ j h. get_or-replicate e.d j v nan h ∙ sym (shut_none e.before e.after j (e.d - 1 - j) v (omega arith) (omega arith)))
 
   -- the first are set to 0, and then the last
@@ -65,7 +65,7 @@ module _ (e : Ends) (v : Float) where
       let y : length (replicate q nought) ≡ q = length-replicate q nought in
       let b = sets (replicate d v) 0 (replicate p nought) in
       let n : length b ≡ d = length-sets (replicate d v) 0 (replicate p nought) ∙ length-replicate d v in
-      build-is (λ j. shut e.before e.after j (d - 1 - j) v) d (sets b (d - q) (replicate q nought)) nan (length-sets b (d - q) (replicate q nought) ∙ n)
+      build_is (λ j. shut e.before e.after j (d - 1 - j) v) d (sets b (d - q) (replicate q nought)) nan (length-sets b (d - q) (replicate q nought) ∙ n)
       (λ j h. ⊎_elim
       (λ (g : d - q ≤ j).
       let o : d - q + (j - (d - q)) ≡ j = omega arith in
@@ -79,8 +79,8 @@ module _ (e : Ends) (v : Float) where
       let o : 0 + j ≡ j = omega arith in
       rw o at (read-within (replicate p nought) (replicate d v) 0 j nan (rw x i) (rw (x, length-replicate d v) (omega arith)) ∙ get_or-replicate p j nought nan i)
       ∙ sym (shut-first e.before e.after j (d - 1 - j) v (omega arith)))
-      (le-or-lt p j))
-      (le-or-lt (d - q) j))
+      (le_or_lt p j))
+      (le_or_lt (d - q) j))
 
   -- a list of which all is filled, and then its ends, the last part lent
   module _ (l a : List Float) (n : length l ≡ e.d) (o : a ≡ sets l 0 (replicate e.d v)) (p q : ℕ) (x : p ≡ min e.before e.d) (y : q ≡ min e.after e.d) where
@@ -266,7 +266,7 @@ nearer : (l j reach : ℕ) → ltb (l + j) reach ≡ ltb j (reach - l)
 nearer l j reach = ⊎_elim
     (λ (g : reach ≤ l + j). le-ltb (l + j) reach g ∙ sym (le-ltb j (reach - l) (omega arith)))
     (λ (g : l + j < reach). lt-ltb (l + j) reach g ∙ sym (lt-ltb j (reach - l) (omega arith)))
-    (le-or-lt reach (l + j))
+    (le_or_lt reach (l + j))
 
 -- of d voiced frames from frame f on, all with the item x: the first stands l frames behind the begin of the run, and the last r before its end
 pub ends-state : (before after l r f d : ℕ) (x : Float) (bs : List Bool) (xs : List Float) → length xs ≡ length bs → f + d ≤ length bs → Run bs f d true → Run xs f d x
@@ -283,6 +283,6 @@ ends-state before after l r f d x bs xs m fits k items begun ended =
     let left : (j : ℕ) → j < d → get_or ls (f + j) 0 ≡ l + j = λ j h. sym (get_or-drop f ls j 0) ∙ rw (begun, k) (lefts-at d j (drop (f + d) bs) h l) in
     let right : (j : ℕ) → j < d → get_or rs (f + j) 0 ≡ r + (d - 1 - j) = λ j h. sym (get_or-drop f rs j 0) ∙ rw (rights-drop, k, ended) (rights-at d j (drop (f + d) bs) h) in
     let item : (j : ℕ) → j < d → elem xs (f + j) ≡ x = λ j h. sym (get_or-drop f xs j nan) ∙ rw items (get_or-append (replicate d x) (drop (f + d) xs) nan j (rw length-replicate h) ∙ get_or-replicate d j x nan h) in
-    sym (build-is (λ j. shut (before - l) (after - r) j (d - 1 - j) x) d (take d (drop f shut_by)) nan (length-take-le d (drop f shut_by) (rw length-drop (omega (arith, n))))
+    sym (build_is (λ j. shut (before - l) (after - r) j (d - 1 - j) x) d (take d (drop f shut_by)) nan (length-take-le d (drop f shut_by) (rw length-drop (omega (arith, n))))
     (λ j h. get_or-take d (drop f shut_by) j nan h ∙ get_or-drop f shut_by j nan ∙ shut_at before after ls rs xs (f + j) (omega (arith, lefts-length 0 bs)) a b
     ∙ rw (left j h, right j h, item j h, nearer l j before, nearer r (d - 1 - j) after)))

@@ -11,7 +11,7 @@ use lib.Seq.{sets, length-sets, take-add, drop-drop}
 use lib.Ieee.{Float, nan}
 use Rattle.lists.specs.Parts.{part}
 use Rattle.lists.specs.Build.{rows}
-use Rattle.lists.proofs.Numbers.{le-or-lt}
+use Rattle.lists.proofs.Numbers.{le_or_lt}
 use Rattle.lists.proofs.Rows.{row_fits}
 use Rattle.lists.proofs.Regions.{stored_at, stored-behind, stored-before, dropped_before}
 use Rattle.model.specs.Pair.{ivar_of}
@@ -104,7 +104,7 @@ module _ (records : List Float) (p : Plan) (mean : ℕ) (widths : List ℕ) (t :
         rw e (stored_at (means w) (put w m) (w * p.n) t.k (w * p.n + t.k) (t.k + t.d) refl (ap (λ (x : ℕ). t.k + x) (means_long w)) (omega (arith, means_long w, put-long w m))
         ∙ ap (λ (x : List Float). x ++ means w) (means-kept w w m (omega arith) (omega arith))))
         (λ (g : i < w). stored-behind (means w) _ (i * p.n) (t.k + t.d) (w * p.n + t.k) (omega (arith, row_fits p.n i w g)) ∙ put-means w i m g (omega arith) (omega arith))
-        (le-or-lt w i)
+        (le_or_lt w i)
 
     pub put-ivars : (w i : ℕ) (m : List Float) → i < w → w * p.n ≤ p.ivars → p.ivars + w * p.n ≤ length m → part (p.ivars + i * p.n) (t.k + t.d) (put w m) ≡ part (p.ivars + i * p.n) t.k m ++ inverses i
     unfolding put_pairs
@@ -118,4 +118,4 @@ module _ (records : List Float) (p : Plan) (mean : ℕ) (widths : List ℕ) (t :
         ∙ ap (λ (x : List Float). x ++ inverses w) (stored-before (means w) (put w m) (p.ivars + w * p.n) t.k (w * p.n + t.k) (omega (arith, means_long w)) ∙ ivars-kept w w m (omega arith) (omega arith))))
         (λ (g : i < w). stored-behind (inverses w) mid (p.ivars + i * p.n) (t.k + t.d) (p.ivars + (w * p.n + t.k)) (omega (arith, row_fits p.n i w g))
         ∙ stored-before (means w) _ (p.ivars + i * p.n) (t.k + t.d) (w * p.n + t.k) (omega (arith, means_long w)) ∙ put-ivars w i m g (omega arith) (omega arith))
-        (le-or-lt w i)
+        (le_or_lt w i)

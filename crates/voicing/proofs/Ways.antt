@@ -12,8 +12,8 @@ use lib.Dec.{ltb, eqb}
 use lib.Ieee.{Float}
 use Rattle.lists.specs.Totals.{total}
 use Rattle.lists.specs.Refusals.{or_else}
-use Rattle.lists.proofs.Numbers.{le-or-lt}
-use Rattle.lists.proofs.Refusals.{or-first, or-none}
+use Rattle.lists.proofs.Numbers.{le_or_lt}
+use Rattle.lists.proofs.Refusals.{or_first, or_none}
 use Rattle.lists.specs.Answers.{refusing}
 use Rattle.lists.proofs.Answers.{same, refused, untouched, accepted, in_front}
 use Rattle.model.specs.declared.voice.model.Weight.TheVariants.{Given}
@@ -76,16 +76,16 @@ least-short a b n = ⊎_elim
     (λ (h : n ≤ a). ⊎_elim
     (λ (g : n ≤ b). let m : n ≤ min a b = omega arith in rw (le-ltb a n h, le-ltb b n g, le-ltb (min a b) n m))
     (λ (g : b < n). let m : min a b < n = omega arith in rw (le-ltb a n h, lt-ltb b n g, lt-ltb (min a b) n m))
-    (le-or-lt n b))
+    (le_or_lt n b))
     (λ (h : a < n). let m : min a b < n = omega arith in rw (lt-ltb a n h, lt-ltb (min a b) n m))
-    (le-or-lt n a)
+    (le_or_lt n a)
 
 not_short : (a n : ℕ) → ◌≡◌ {A = ℕ} (cond (ltb a n) 6 0) 0 → n ≤ a
-not_short a n e = ⊎_elim (λ (h : n ≤ a). h) (λ (h : a < n). let z : ◌≡◌ {A = ℕ} 6 0 = rw (lt-ltb a n h) at e in absurd (omega arith)) (le-or-lt n a)
+not_short a n e = ⊎_elim (λ (h : n ≤ a). h) (λ (h : a < n). let z : ◌≡◌ {A = ℕ} 6 0 = rw (lt-ltb a n h) at e in absurd (omega arith)) (le_or_lt n a)
 
 -- the number of an answer that is a refusal
 stops : (r n k : ℕ) (x : Filled) → x ≡ filled_of r n → x ≡ Refused k → (0 < k) × (r ≡ k)
-stops r n k x e o = let s = stopped r n k (sym e ∙ o) in (s.0, sym (or-first r 0 (λ z. let q : ◌≡◌ {A = ℕ} 0 k = rw z at (s.1 0) in omega (arith, s.0))) ∙ s.1 0)
+stops r n k x e o = let s = stopped r n k (sym e ∙ o) in (s.0, sym (or_first r 0 (λ z. let q : ◌≡◌ {A = ℕ} 0 k = rw z at (s.1 0) in omega (arith, s.0))) ∙ s.1 0)
 
 -- ---- `mask`
 
@@ -101,10 +101,10 @@ module _ (ws : List Float) (threshold : Float) (ds v : List ℕ) where
   -- nothing is refused
   module _ (z : mask_refusal ws ds v ≡ 0) where
     pub mask-framed : Framed (length ws) ds
-    mask-framed = framed (length ws) ds (or-none (frames_refusal (length ws) ds) _ z).0
+    mask-framed = framed (length ws) ds (or_none (frames_refusal (length ws) ds) _ z).0
 
     pub mask-room : total ds ≤ length v
-    mask-room = not_short (length v) (total ds) (or-none (frames_refusal (length ws) ds) _ z).1
+    mask-room = not_short (length v) (total ds) (or_none (frames_refusal (length ws) ds) _ z).1
 
     flags-length : length (map flag (mask_of threshold (map Given ws) ds)) ≡ total ds
     flags-length = simp length-map (mask-length threshold (map Given ws) ds (simp length-map mask-framed.agree))
@@ -168,12 +168,12 @@ module _ (ws : List Float) (threshold : Float) (ds v l r : List ℕ) where
   -- nothing is refused
   module _ (z : masked_distances_refusal ws ds v l r ≡ 0) (n : ℕ) (e : n ≡ total ds) where
     mask_0 : mask_refusal ws ds v ≡ 0
-    mask_0 = let a = or-none (frames_refusal (length ws) ds) _ z in rw a.0 (or-none (too_short (total ds) v) _ a.1).0
+    mask_0 = let a = or_none (frames_refusal (length ws) ds) _ z in rw a.0 (or_none (too_short (total ds) v) _ a.1).0
 
     pub masked_long : (n ≤ length v) × (n ≤ length l) × (n ≤ length r)
     masked_long =
-        let b = (or-none (too_short (total ds) v) _ (or-none (frames_refusal (length ws) ds) _ z).1).1 in
-        let c = or-none (too_short (total ds) l) _ b in
+        let b = (or_none (too_short (total ds) v) _ (or_none (frames_refusal (length ws) ds) _ z).1).1 in
+        let c = or_none (too_short (total ds) l) _ b in
         rw e (mask-room ws threshold ds v mask_0, not_short _ _ c.0, not_short _ _ c.1)
 
     -- the flags of `mask`, and then the distances of those

@@ -31,6 +31,6 @@ pub case_10_boundaries : shut_all (reach_before (1 ∷ 3 ∷ []) 1) (reach_after
 unfolding shut_all of_bits
 case_10_boundaries = refl
 
-pub filled-back : fill nought runs (one ∷ one ∷ one ∷ one ∷ []) ≡ one ∷ one ∷ one ∷ nought ∷ one ∷ []
+pub filled_back : fill nought runs (one ∷ one ∷ one ∷ one ∷ []) ≡ one ∷ one ∷ one ∷ nought ∷ one ∷ []
 unfolding fill
-filled-back = refl
+filled_back = refl

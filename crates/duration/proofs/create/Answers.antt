@@ -13,13 +13,10 @@ use Rattle.duration.proofs.Refusals.{Fitting, fitting, lists-early}
 use Rattle.duration.proofs.Fits.{speed-clears}
 use Rattle.duration.proofs.Calls.{room-kept, says-early, says-unfit, says-handed}
 use Rattle.duration.proofs.create.Goals as goal
-use Rattle.duration.proofs.create.Goals.{After-fit_at-answer, Else-refusal-ne0, In-Frames, Start}
+use Rattle.duration.proofs.create.Goals.{After-fit_at-answer, Else-refusal-ne0, In-Frames}
 
 -- the lists fit
 module _ (c : Else-refusal-ne0) where
-  abbrev entry : Start
-  entry = c.before.before.before.before.before.before.before.before
-
   none : refusal_of_lists (length c.args.means.now) (length c.args.varis.now) (length c.args.shortest.now) (length c.args.out.now) (length c.args.work.now) ≡ 0
   none = sym c.refusal_of_lists-refusal.ensures ∙ c.if-refusal-ne0.false
 

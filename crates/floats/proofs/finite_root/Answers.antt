@@ -6,7 +6,7 @@ use lib.Dec.{lit≤}
 use lib.Pow.{pow_mono}
 use lib.Ieee.{binary64, of_bits}
 use Rattle.floats.proofs.Fields.{not_of}
-use Rattle.floats.proofs.Roots.{D-short, q-full, q-short, radicand, root_of_scaled, rooted, rooted-bits, rooted-no_nan}
+use Rattle.floats.proofs.Roots.{D-short, q-full, q-short, radicand, root_of_scaled, rooted, rooted-bits, rooted_no_nan}
 use Rattle.floats.specs.Root.{nearest_root}
 use Rattle.floats.specs.Inner.Scaled.{IsScaled}
 use Rattle.floats.proofs.finite_root.Goals as goal
@@ -59,7 +59,7 @@ pub overflow_add-result-2 : goal.overflow_add-result-2
 overflow_add-result-2 c = omega (arith, near (goal.at.overflow_add-result-2 c).After-nearest_root-root, few (goal.at.overflow_add-result-2 c).After-nearest_root-root)
 
 pub float_from_bits-result : goal.float_from_bits-result
-float_from_bits-result c = not_of (rooted-no_nan (q (goal.at.float_from_bits-result c).After-nearest_root-root) (k (s (goal.at.float_from_bits-result c).After-nearest_root-root) / 2) (full (goal.at.float_from_bits-result c).After-nearest_root-root) (few (goal.at.float_from_bits-result c).After-nearest_root-root) (near (goal.at.float_from_bits-result c).After-nearest_root-root))
+float_from_bits-result c = not_of (rooted_no_nan (q (goal.at.float_from_bits-result c).After-nearest_root-root) (k (s (goal.at.float_from_bits-result c).After-nearest_root-root) / 2) (full (goal.at.float_from_bits-result c).After-nearest_root-root) (few (goal.at.float_from_bits-result c).After-nearest_root-root) (near (goal.at.float_from_bits-result c).After-nearest_root-root))
 
 pub returns : goal.returns
 returns c =

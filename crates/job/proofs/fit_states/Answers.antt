@@ -7,7 +7,7 @@ use Rattle.job.specs.Format.{version_of, state_bytes, floats_at, shortest_at}
 use Rattle.job.proofs.Damages.{state-most}
 use Rattle.job.proofs.Pairs.{front-few, read-room, read_again, read-front, create_is}
 use Rattle.job.proofs.fit_states.Goals as goal
-use Rattle.job.proofs.fit_states.Goals.{After-read_floats, After-read_floats-2, After-read_shortest, After-state_bytes-step, Start}
+use Rattle.job.proofs.fit_states.Goals.{After-read_floats, After-state_bytes-step, Start}
 
 -- the version and the bytes of a state are read
 module _ (c : After-state_bytes-step) where
@@ -23,12 +23,6 @@ module _ (c : After-state_bytes-step) where
 -- where the means have been read, after them the variances, and after them the shortest
 abbrev begun : After-read_floats → After-state_bytes-step
 begun c = record { before = c.before.before.before; type_inv = search rules }
-
-abbrev first : After-read_floats-2 → After-read_floats
-first c = record { before = c.before.before.before.before; type_inv = search rules }
-
-abbrev second : After-read_shortest → After-read_floats-2
-second c = record { before = c.before.before.before.before; type_inv = search rules }
 
 pub slice_bounds-read_floats-end : goal.slice_bounds-read_floats-end
 slice_bounds-read_floats-end c = sym (length-take-le _ _ c.requires)

@@ -4,10 +4,7 @@ use Rattle.mlpg_adjust.specs.Inner.Groups.{Shaped}
 use Rattle.mlpg_adjust.proofs.Ways.{accepted_shape, accepted_gv, accepted-room, create_refused, create_done}
 use borrow.Author.Rules.{rules}
 use Rattle.mlpg_adjust.proofs.create.Goals as goal
-use Rattle.mlpg_adjust.proofs.create.Goals.{After-refusal-refused, Else-refused-ne0, Start}
-
-abbrev entry : After-refusal-refused → Start
-entry c = c.before.before.before.before.before.before.before.before.before.before.before
+use Rattle.mlpg_adjust.proofs.create.Goals.{Else-refused-ne0}
 
 -- nothing is refused
 ok : (c : Else-refused-ne0) → let a = c.args in create_refusal a.stream a.widths.now a.coefficients.now a.durations.now (lengths_of a.records.now a.gv.now a.switches.now a.out.now a.work.now a.marks.now) ≡ 0
@@ -16,13 +13,7 @@ ok c = sym c.refusal-refused.ensures ∙ c.if-refused-ne0.false
 pub returns-then-refused-ne0 : goal.returns-then-refused-ne0
 returns-then-refused-ne0 c = let a = c.args in create_refused a.stream a.widths.now a.coefficients.now a.records.now a.durations.now a.gv.now a.switches.now a.out.now a.work.now a.marks.now _ c.refusal-refused.ensures c.if-refused-ne0.true
 
-abbrev after_refusal_refused_of_else_refused_ne0 : Else-refused-ne0 → After-refusal-refused
-after_refusal_refused_of_else_refused_ne0 c = record { before = c.before.before; type_inv = search rules }
-
 module _ (c : Else-refused-ne0) where
-  abbrev lent : Start
-  lent = entry (after_refusal_refused_of_else_refused_ne0 c)
-
   shape : let a = c.args in Shaped a.stream a.widths.now a.coefficients.now a.records.now a.durations.now
   shape = let a = c.args in accepted_shape a.stream a.widths.now a.coefficients.now a.records.now a.durations.now a.gv.now a.switches.now a.out.now a.work.now a.marks.now (ok c)
 

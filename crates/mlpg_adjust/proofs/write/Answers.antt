@@ -8,13 +8,10 @@ use Rattle.mlpg_adjust.specs.Promise.{lengths_of}
 use Rattle.mlpg_adjust.specs.Inner.Groups.{Room}
 use Rattle.mlpg_adjust.proofs.Ways.{frames_are, numbers-written, zeroed}
 use Rattle.mlpg_adjust.proofs.write.Goals as goal
-use Rattle.mlpg_adjust.proofs.write.Goals.{After-total_u32-frames, Start}
+use Rattle.mlpg_adjust.proofs.write.Goals.{After-total_u32-frames}
 
 -- so many frames, and the room for them
 module _ (c : After-total_u32-frames) where
-  abbrev entry : Start
-  entry = c.before.before.before.before.before.before.before.before.before.before.before
-
   count : c.total_u32-frames.result ≡ total c.args.durations.now
   count = frames_are _ _ c.total_u32-frames.ensures c.requires.0.few
 

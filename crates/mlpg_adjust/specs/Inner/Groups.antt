@@ -17,7 +17,7 @@ use Rattle.voicing.specs.Mask.{stream_mask, mask_in}
 use Rattle.gv.specs.Parmgen.{parmgen}
 use Rattle.gv.specs.Promise.{varied_in}
 use Rattle.mlpg_adjust.specs.Trajectory.{gv_on, with_gv, state_size, matrix, side, solved}
-use Rattle.mlpg_adjust.specs.Promise.{floats_aFrame, marks_aFrame}
+use Rattle.mlpg_adjust.specs.Promise.{floats_a_frame, marks_a_frame}
 use Rattle.mlpg_adjust.specs.declared.Stream.{Stream}
 use Rattle.mlpg_adjust.specs.declared.refusing.Lengths.{Lengths}
 use Rattle.mlpg_adjust.specs.declared.group.Plan.{Plan}
@@ -42,8 +42,8 @@ pub record GvFits (s : Stream) (states gv switches : ℕ) : Type 0 where
 -- an output and a work space that are long enough: what refusal 6 leaves
 pub record Room (v frames : ℕ) (n : Lengths) : Type 0 where
   pub numbers : frames * v ≤ n.out
-  pub floats : frames * floats_aFrame ≤ n.work
-  pub counts : frames * marks_aFrame ≤ n.marks
+  pub floats : frames * floats_a_frame ≤ n.work
+  pub counts : frames * marks_a_frame ≤ n.marks
 
 module _ (s : Stream) (widths : List ℕ) (records : List Float) (ds : List ℕ) where
   -- the voiced frames of a stream, how a component's region is laid out, and what else is the same for every component

@@ -4,13 +4,10 @@ use lib.ListN.{length}
 use Rattle.lists.specs.Sizes.{most_states, most_frames}
 use Rattle.read_along.proofs.Steps.{step-within, step_small, stepped}
 use Rattle.read_along.proofs.behind.Goals as goal
-use Rattle.read_along.proofs.behind.Goals.{After-total_u32-frames, After-wide-2, Start}
+use Rattle.read_along.proofs.behind.Goals.{After-total_u32-frames, After-wide-2}
 
 -- the states of the word lie in the durations
 module _ (c : After-wide-2) where
-  abbrev entry : Start
-  entry = c.before.before.before.before.before.before
-
   within : c.args.here.state + c.wide.result * c.wide-2.result ≤ length c.args.durations.now
   within = step-within _ _ _ c.requires.0 _ c.requires.1 _ c.requires.2 _ _ c.wide.ensures c.wide-2.ensures
 

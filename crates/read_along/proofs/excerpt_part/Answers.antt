@@ -75,27 +75,27 @@ module _ (c : After-behind-next) where
   abbrev word : ℕ
   word = c.args.word
 
-  first-is : c.start_of-here.result.frame ≡ first_frame (ws known_at) (nstate known_at) (ds known_at) word
-  first-is = ap (λ (s : Start). s.frame) c.start_of-here.ensures ∙ ap (first_frame (ws known_at) (nstate known_at) (ds known_at)) c.wide-i.ensures
+  first_is : c.start_of-here.result.frame ≡ first_frame (ws known_at) (nstate known_at) (ds known_at) word
+  first_is = ap (λ (s : Start). s.frame) c.start_of-here.ensures ∙ ap (first_frame (ws known_at) (nstate known_at) (ds known_at)) c.wide-i.ensures
 
   after_is : c.behind-next.result.frame ≡ first_frame (ws known_at) (nstate known_at) (ds known_at) (word + 1)
   after_is = ap (λ (s : Start). s.frame) c.behind-next.ensures ∙ ap (λ (i : ℕ). first_frame (ws known_at) (nstate known_at) (ds known_at) (i + 1)) c.wide-i.ensures
 
   forth : c.start_of-here.result.frame ≤ c.behind-next.result.frame
-  forth = part-forth (ws known_at) (nstate known_at) (ds known_at) word (there there-at) _ _ first-is after_is
+  forth = part-forth (ws known_at) (nstate known_at) (ds known_at) word (there there-at) _ _ first_is after_is
 
   narrow : c.args.v ≤ 64
   narrow = (in_range _ (known known_at).1.width).1
 
   module _ (width first frames : ℕ) (w : width ≡ c.args.v) (f : first ≡ c.start_of-here.result.frame) (g : frames ≡ c.behind-next.result.frame - c.start_of-here.result.frame) where
     small : (first * width ≤ most_frames * 64) × (frames * width ≤ most_frames * 64)
-    small = part_small (ws known_at) (nstate known_at) (ds known_at) word (there there-at) first c.behind-next.result.frame (f ∙ first-is) after_is (known known_at).0 c.args.v width frames w (omega arith) narrow
+    small = part_small (ws known_at) (nstate known_at) (ds known_at) word (there there-at) first c.behind-next.result.frame (f ∙ first_is) after_is (known known_at).0 c.args.v width frames w (omega arith) narrow
 
     says : PartOfSays (ws known_at) (nstate known_at) (ds known_at) (ts known_at) c.args.v word (Numbers (first * width) (frames * width))
     says =
         part-done (ws known_at) (nstate known_at) (ds known_at) (ts known_at) c.args.v word (none known_at) (there there-at) (first * width) (frames * width)
-        (part-start (ws known_at) (nstate known_at) (ds known_at) word (there there-at) first c.behind-next.result.frame (f ∙ first-is) after_is (known known_at).0 c.args.v width frames w (omega arith))
-        (part_count (ws known_at) (nstate known_at) (ds known_at) word (there there-at) first c.behind-next.result.frame (f ∙ first-is) after_is (known known_at).0 c.args.v width frames w (omega arith))
+        (part-start (ws known_at) (nstate known_at) (ds known_at) word (there there-at) first c.behind-next.result.frame (f ∙ first_is) after_is (known known_at).0 c.args.v width frames w (omega arith))
+        (part_count (ws known_at) (nstate known_at) (ds known_at) word (there there-at) first c.behind-next.result.frame (f ∙ first_is) after_is (known known_at).0 c.args.v width frames w (omega arith))
 
 pub start_of-here-requires : goal.start_of-here-requires
 start_of-here-requires c = ((known (goal.at.start_of-here-requires c).Else-number-ne0).0, c.if-words-i.false)

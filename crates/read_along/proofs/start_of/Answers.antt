@@ -5,13 +5,10 @@ use lib.ListN.{length}
 use lib.Seq.{length-take-le}
 use Rattle.read_along.proofs.Steps.{start-within, start_small, started}
 use Rattle.read_along.proofs.start_of.Goals as goal
-use Rattle.read_along.proofs.start_of.Goals.{After-wide, Start}
+use Rattle.read_along.proofs.start_of.Goals.{After-wide}
 
 -- the states before the word lie in the durations
 module _ (c : After-wide) where
-  abbrev entry : Start
-  entry = c.before.before.before.before.before
-
   within : c.total_u32-labels.result * c.wide.result ≤ length c.args.durations.now
   within = start-within _ _ _ c.requires.0 _ c.requires.1 _ _ c.total_u32-labels.ensures c.wide.ensures
 

@@ -15,16 +15,13 @@ use Rattle.runs.proofs.Findings.{runs-most}
 use Rattle.runs.proofs.Ways.{passed-small, passed-recorded, lists-refused, runs-short, runs-told}
 use Rattle.std.proofs.Common.{not}
 use Rattle.runs.proofs.runs.Goals as goal
-use Rattle.runs.proofs.runs.Goals.{After-count-count, Else-not-has_room, Else-refused-ne0, Start}
+use Rattle.runs.proofs.runs.Goals.{After-count-count, Else-not-has_room, Else-refused-ne0}
 
 pub returns-then-refused-ne0 : goal.returns-then-refused-ne0
 returns-then-refused-ne0 c = lists-refused _ _ _ _ _ _ _ _ c.refusal_of_records-refused.ensures c.if-refused-ne0.true
 
 -- nothing is refused of the lists
 module _ (c : Else-refused-ne0) where
-  abbrev entry : Start
-  entry = c.before.before.before.before.before.before
-
   none : let a = c.args in records_refusal a.v a.masked a.windows (length a.records.now) a.durations.now ≡ 0
   none = sym c.refusal_of_records-refused.ensures ∙ c.if-refused-ne0.false
 
@@ -54,9 +51,6 @@ returns-then-not-has_room c =
 
 -- there is room
 module _ (c : Else-not-has_room) where
-  abbrev told : After-count-count
-  told = record { before = c.before.before.before; type_inv = search rules }
-
   fits : leb (c.count-count.result * 2) (length c.args.out.now) ≡ true
   fits = sym c.has_room.ensures ∙ not-false _ (ap not c.if-not-has_room.false)
 

@@ -7,7 +7,7 @@ use Rattle.model.specs.Windows.{width_of, all_finite}
 use Rattle.voicing.specs.Mask.{stream_mask}
 use Rattle.voicing.specs.declared.Voicing.{Voicing}
 use Rattle.mlpg_adjust.specs.Trajectory.{gv_on, state_size}
-use Rattle.mlpg_adjust.specs.Promise.{floats_aFrame, marks_aFrame}
+use Rattle.mlpg_adjust.specs.Promise.{floats_a_frame, marks_a_frame}
 use Rattle.mlpg_adjust.specs.Inner.Groups.{Shaped}
 use Rattle.mlpg_adjust.specs.declared.Stream.{Stream}
 use Rattle.mlpg_adjust.specs.declared.GlobalVariance.{GlobalVariance}
@@ -78,5 +78,5 @@ pub record Renders (s : Stream) (widths : List ℕ) (coefs records : List Float)
   pub found : FoundAt ds (stream_mask (state_size s widths) records s.threshold ds) f
   pub some : 0 < (run_of f).frames
   pub numbers : (run_of f).frames * s.v ≤ length out
-  pub floats : (run_of f).frames * floats_aFrame ≤ length work
-  pub counts : (run_of f).frames * marks_aFrame ≤ length marks
+  pub floats : (run_of f).frames * floats_a_frame ≤ length work
+  pub counts : (run_of f).frames * marks_a_frame ≤ length marks

@@ -6,16 +6,16 @@ use lib.ListN.{length}
 use lib.Seq.{length-take-le}
 use Rattle.lists.specs.Totals.{total}
 use Rattle.spool.specs.Refusal.{counts_refusal, shape_refusal, trajectory_refusal}
-use Rattle.spool.specs.Refusal.Steps.{counts-none, trajectory-first, trajectory-then}
+use Rattle.spool.specs.Refusal.Steps.{counts_none, trajectory-first, trajectory_then}
 use Rattle.spool.specs.Refusal.Laws.{in_range, accepts, excerpt_10, excerpt_0}
 use Rattle.spool.proofs.Sums.{total-split, product-fits}
 use Rattle.lists.proofs.Answers.{refused_as, accepted}
-use Rattle.spool.proofs.Ways.{span-refused_as, span-values}
+use Rattle.spool.proofs.Ways.{span_refused_as, span-values}
 use Rattle.spool.proofs.excerpt_span.Goals as goal
 use Rattle.spool.proofs.excerpt_span.Goals.{After-frames_of, After-shape_refusal-shape, Else-shape-ne0, Else-sizes-ne0, Start}
 
 pub returns-then-sizes-ne0 : goal.returns-then-sizes-ne0
-returns-then-sizes-ne0 c = let e = c.counts_refusal-sizes.ensures in span-refused_as _ _ _ _ _ _ (e ∙ sym (trajectory-first _ _ _ (λ z. c.if-sizes-ne0.true (e ∙ z)))) c.if-sizes-ne0.true
+returns-then-sizes-ne0 c = let e = c.counts_refusal-sizes.ensures in span_refused_as _ _ _ _ _ _ (e ∙ sym (trajectory-first _ _ _ (λ z. c.if-sizes-ne0.true (e ∙ z)))) c.if-sizes-ne0.true
 
 -- what is known once 3 is excluded
 module _ (c : Else-sizes-ne0) where
@@ -38,10 +38,10 @@ module _ (c : Else-sizes-ne0) where
   none = sym c.counts_refusal-sizes.ensures ∙ c.if-sizes-ne0.false
 
   few : length ds ≤ 4096
-  few = (counts-none (length ds) v none).0
+  few = (counts_none (length ds) v none).0
 
   narrow : v ≤ 64
-  narrow = (in_range v (counts-none (length ds) v none).1).1
+  narrow = (in_range v (counts_none (length ds) v none).1).1
 
 pub frames_of-first-requires : goal.frames_of-first-requires
 frames_of-first-requires c =
@@ -69,10 +69,10 @@ after_frames_of_of_after_shape_refusal_shape c = record { before = c.before.befo
 -- the number of the trajectory with its durations
 shape : (c : After-shape_refusal-shape) → c.shape_refusal-shape.result ≡ trajectory_refusal (count (else_sizes_ne0_of_after_shape_refusal_shape c)) (ds (else_sizes_ne0_of_after_shape_refusal_shape c)) (v (else_sizes_ne0_of_after_shape_refusal_shape c))
 shape c =
-    c.shape_refusal-shape.ensures ∙ ap (λ (n : ℕ). shape_refusal (count (else_sizes_ne0_of_after_shape_refusal_shape c)) n (v (else_sizes_ne0_of_after_shape_refusal_shape c))) (frames (after_frames_of_of_after_shape_refusal_shape c)) ∙ sym (trajectory-then (count (else_sizes_ne0_of_after_shape_refusal_shape c)) (ds (else_sizes_ne0_of_after_shape_refusal_shape c)) (v (else_sizes_ne0_of_after_shape_refusal_shape c)) (none (else_sizes_ne0_of_after_shape_refusal_shape c)))
+    c.shape_refusal-shape.ensures ∙ ap (λ (n : ℕ). shape_refusal (count (else_sizes_ne0_of_after_shape_refusal_shape c)) n (v (else_sizes_ne0_of_after_shape_refusal_shape c))) (frames (after_frames_of_of_after_shape_refusal_shape c)) ∙ sym (trajectory_then (count (else_sizes_ne0_of_after_shape_refusal_shape c)) (ds (else_sizes_ne0_of_after_shape_refusal_shape c)) (v (else_sizes_ne0_of_after_shape_refusal_shape c)) (none (else_sizes_ne0_of_after_shape_refusal_shape c)))
 
 pub returns-then-shape-ne0 : goal.returns-then-shape-ne0
-returns-then-shape-ne0 c = span-refused_as _ _ _ _ _ _ (shape (goal.at.returns-then-shape-ne0 c).After-shape_refusal-shape) c.if-shape-ne0.true
+returns-then-shape-ne0 c = span_refused_as _ _ _ _ _ _ (shape (goal.at.returns-then-shape-ne0 c).After-shape_refusal-shape) c.if-shape-ne0.true
 
 abbrev else_sizes_ne0_of_else_shape_ne0 : Else-shape-ne0 → Else-sizes-ne0
 else_sizes_ne0_of_else_shape_ne0 c = record { before = c.before.before.before.before.before.before.before; type_inv = record { durations = c.type_inv.durations; trajectory = c.type_inv.trajectory } }

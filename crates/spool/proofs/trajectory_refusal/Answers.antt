@@ -6,7 +6,7 @@ use native.Mathlib.Omega.{arith}
 use lib.ListN.{length}
 use Rattle.lists.specs.Sizes.{outside}
 use Rattle.spool.specs.Refusal.{counts_refusal, shape_refusal}
-use Rattle.spool.specs.Refusal.Steps.{counts-none, trajectory-first, trajectory-then}
+use Rattle.spool.specs.Refusal.Steps.{counts_none, trajectory-first, trajectory_then}
 use Rattle.spool.specs.Refusal.Laws.{in_range}
 use Rattle.spool.proofs.Sums.{product-fits}
 use Rattle.spool.proofs.trajectory_refusal.Goals as goal
@@ -27,7 +27,7 @@ module _ (c : Else-sizes-ne0) where
   none = sym c.counts_refusal-sizes.ensures ∙ c.if-sizes-ne0.false
 
   few : (length ds ≤ 4096) × (outside v ≡ false)
-  few = counts-none (length ds) v none
+  few = counts_none (length ds) v none
 
 pub shape_refusal-requires : goal.shape_refusal-requires
 shape_refusal-requires c =
@@ -38,7 +38,7 @@ pub returns : goal.returns
 returns c =
     let b = c.before.before in
     let numbers = length b.args.trajectory.now in
-    c.shape_refusal.ensures ∙ ap (λ (n : ℕ). shape_refusal numbers n (v (goal.at.returns c).Else-sizes-ne0)) c.frames_of.ensures.sum ∙ sym (trajectory-then numbers (ds (goal.at.returns c).Else-sizes-ne0) (v (goal.at.returns c).Else-sizes-ne0) (none (goal.at.returns c).Else-sizes-ne0))
+    c.shape_refusal.ensures ∙ ap (λ (n : ℕ). shape_refusal numbers n (v (goal.at.returns c).Else-sizes-ne0)) c.frames_of.ensures.sum ∙ sym (trajectory_then numbers (ds (goal.at.returns c).Else-sizes-ne0) (v (goal.at.returns c).Else-sizes-ne0) (none (goal.at.returns c).Else-sizes-ne0))
 
 pub frames_of-requires : goal.frames_of-requires
 frames_of-requires c = (few (goal.at.frames_of-requires c).Else-sizes-ne0).0

@@ -5,11 +5,11 @@ use Rattle.std.proofs.Math.Logic.{⊎_elim}
 use borrow.Author.Tests.{ltb-false, lt-ltb, le-ltb, eqb-true, eq-eqb, ne_eqb}
 use Rattle.std.proofs.Math.ListN.{length}
 use Rattle.lists.specs.Totals.{total}
-use Rattle.lists.proofs.Numbers.{le-or-lt}
-use Rattle.lists.proofs.Refusals.{or-first, or-none, none_then}
+use Rattle.lists.proofs.Numbers.{le_or_lt}
+use Rattle.lists.proofs.Refusals.{or_first, or_none, none_then}
 use Rattle.lists.specs.Sizes.{outside}
 use Rattle.spool.specs.Refusal.{place_refusal, states_refusal, counts_refusal, frames_refusal, shape_refusal, durations_refusal, trajectory_refusal, excerpt_refusal}
-use Rattle.spool.specs.Refusal.Steps.{few-none, none-few, none-short, counts_3, counts-none, durations-then, trajectory-first}
+use Rattle.spool.specs.Refusal.Steps.{few_none, none_few, none_short, counts_3, counts_none, durations_then, trajectory-first}
 
 -- a v that is not out of range
 pub in_range : (v : ℕ) → outside v ≡ false → (1 ≤ v) × (v ≤ 64)
@@ -35,11 +35,11 @@ module _ (component v : ℕ) where
   place_0 w h = rw (w, lt-ltb component v h)
 
   -- and in no other case
-  pub place-accepts : place_refusal component v ≡ 0 → (outside v ≡ false) × (component < v)
-  place-accepts e =
+  pub place_accepts : place_refusal component v ≡ 0 → (outside v ≡ false) × (component < v)
+  place_accepts e =
       (elim (outside v) as (λ s. outside v ≡ s → (outside v ≡ false) × (component < v)) [
         | true ↦ λ w. absurd (omega (arith, place_3 w))
-        | false ↦ λ w. ⊎_elim (λ (h : v ≤ component). absurd (omega (arith, place_10 w h))) (λ (h : component < v). (w, h)) (le-or-lt v component)
+        | false ↦ λ w. ⊎_elim (λ (h : v ≤ component). absurd (omega (arith, place_10 w h))) (λ (h : component < v). (w, h)) (le_or_lt v component)
       ]) refl
 
 -- ---- durations
@@ -47,11 +47,11 @@ module _ (component v : ℕ) where
 module _ (ds : List ℕ) where
   -- they are accepted where they are few and short, and in no other case
   pub durations_0 : length ds ≤ 4096 → total ds ≤ 65536 → durations_refusal ds ≡ 0
-  durations_0 few short = durations-then ds (few-none (length ds) few) ∙ rw (le-ltb 65536 (total ds) short)
+  durations_0 few short = durations_then ds (few_none (length ds) few) ∙ rw (le-ltb 65536 (total ds) short)
 
-  pub durations-accepts : durations_refusal ds ≡ 0 → (length ds ≤ 4096) × (total ds ≤ 65536)
+  pub durations_accepts : durations_refusal ds ≡ 0 → (length ds ≤ 4096) × (total ds ≤ 65536)
   unfolding durations_refusal
-  durations-accepts e = let z = or-none (states_refusal (length ds)) (frames_refusal (total ds)) e in (none-few (length ds) z.0, none-short (total ds) z.1)
+  durations_accepts e = let z = or_none (states_refusal (length ds)) (frames_refusal (total ds)) e in (none_few (length ds) z.0, none_short (total ds) z.1)
 
 -- ---- a trajectory of so many numbers, with its durations
 
@@ -88,14 +88,14 @@ module _ (numbers : ℕ) (ds : List ℕ) (v : ℕ) where
   pub accepts : trajectory_refusal numbers ds v ≡ 0 → Accepted numbers ds v
   unfolding trajectory_refusal
   accepts e =
-      let a = or-none (counts_refusal (length ds) v) (shape_refusal numbers (total ds) v) e in
-      let b = or-none (cond (eqb numbers (total ds * v)) 0 4) (frames_refusal (total ds)) a.1 in
-      let c = counts-none (length ds) v a.0 in
+      let a = or_none (counts_refusal (length ds) v) (shape_refusal numbers (total ds) v) e in
+      let b = or_none (cond (eqb numbers (total ds * v)) 0 4) (frames_refusal (total ds)) a.1 in
+      let c = counts_none (length ds) v a.0 in
       record {
         few = c.0;
         width = c.1;
         agree = eqb-true numbers (total ds * v) (none_then (eqb numbers (total ds * v)) 3 b.0);
-        short = none-short (total ds) b.1;
+        short = none_short (total ds) b.1;
       }
 
   -- ---- one state of it
@@ -103,7 +103,7 @@ module _ (numbers : ℕ) (ds : List ℕ) (v : ℕ) where
   module _ (state : ℕ) where
     pub excerpt_first : (trajectory_refusal numbers ds v ≡ 0 → ⊥) → excerpt_refusal numbers ds v state ≡ trajectory_refusal numbers ds v
     unfolding excerpt_refusal
-    excerpt_first z = or-first (trajectory_refusal numbers ds v) _ z
+    excerpt_first z = or_first (trajectory_refusal numbers ds v) _ z
 
     module _ (e : trajectory_refusal numbers ds v ≡ 0) where
       pub excerpt_10 : length ds ≤ state → excerpt_refusal numbers ds v state ≡ 10
@@ -118,5 +118,5 @@ module _ (numbers : ℕ) (ds : List ℕ) (v : ℕ) where
     pub excerpt_accepts : excerpt_refusal numbers ds v state ≡ 0 → Accepted numbers ds v × (state < length ds)
     unfolding excerpt_refusal
     excerpt_accepts e =
-        let n : trajectory_refusal numbers ds v ≡ 0 = (or-none (trajectory_refusal numbers ds v) (cond (ltb state (length ds)) 0 10) e).0 in
-        ⊎_elim (λ (h : length ds ≤ state). absurd (omega (arith, excerpt_10 n h))) (λ (h : state < length ds). (accepts n, h)) (le-or-lt (length ds) state)
+        let n : trajectory_refusal numbers ds v ≡ 0 = (or_none (trajectory_refusal numbers ds v) (cond (ltb state (length ds)) 0 10) e).0 in
+        ⊎_elim (λ (h : length ds ≤ state). absurd (omega (arith, excerpt_10 n h))) (λ (h : state < length ds). (accepts n, h)) (le_or_lt (length ds) state)

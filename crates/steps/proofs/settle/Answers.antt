@@ -8,7 +8,7 @@ use Rattle.steps.proofs.Door.{lists-fit, settles_none, settles_low, settles_over
 use Rattle.std.proofs.Common.{ap}
 use Rattle.std.proofs.Common.{not}
 use Rattle.steps.proofs.settle.Goals as goal
-use Rattle.steps.proofs.settle.Goals.{After-totals_of-totals, Else-not-in_reach, Else-totals-gt65536, Start}
+use Rattle.steps.proofs.settle.Goals.{Else-not-in_reach, Else-totals-gt65536}
 
 pub returns-then-not-fit_together : goal.returns-then-not-fit_together
 returns-then-not-fit_together c = settles_none _ _ _ _ _ c.fit_together.ensures (ap not c.if-not-fit_together.true)
@@ -25,12 +25,6 @@ returns-then-not-in_reach c =
 
 -- the target is in reach
 module _ (c : Else-not-in_reach) where
-  abbrev taken : After-totals_of-totals
-  taken = record { before = c.before.before.before; type_inv = search rules }
-
-  abbrev entry : Start
-  entry = c.before.before.before.before.before.before.before.before.before.before
-
   abbrev all : States
   all = states c.args.means.now c.args.varis.now c.args.shortest.now
 

@@ -8,7 +8,7 @@ use lib.ListN.{length}
 use Rattle.lists.specs.Totals.{total}
 use Rattle.voicing.specs.Space.{grouped}
 use Rattle.voicing.specs.Inner.Fits.{Grouped}
-use Rattle.voicing.proofs.Doors.{grouped-is, fill-shut, fill-uneven, fill_done}
+use Rattle.voicing.proofs.Doors.{grouped_is, fill-shut, fill-uneven, fill_done}
 use Rattle.std.proofs.Common.{not}
 use Rattle.voicing.proofs.fill_back.Goals as goal
 use Rattle.voicing.proofs.fill_back.Goals.{After-frames_in, Else-not-grouped}
@@ -18,7 +18,7 @@ module _ (c : Else-not-grouped) where
   opened = sym c.grouped.ensures ∙ not-false _ (ap not c.if-not-grouped.false)
 
   fits : Grouped c.args.durations.now c.args.flags.now c.args.g c.args.c (length c.args.work.now)
-  fits = grouped-is _ _ _ _ _ opened
+  fits = grouped_is _ _ _ _ _ opened
 
 module _ (c : After-frames_in) where
   numbers : c.frames_in.result * c.args.c.v ≡ total c.args.durations.now * c.args.c.v

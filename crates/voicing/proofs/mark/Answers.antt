@@ -7,7 +7,7 @@ use lib.ListN.{length}
 use lib.Seq.{length_front, length-take-le}
 use Rattle.voicing.specs.Space.{marks}
 use Rattle.voicing.specs.Inner.Fits.{Flagged}
-use Rattle.voicing.proofs.Doors.{marks-is, mark-refuses, mark-done}
+use Rattle.voicing.proofs.Doors.{marks_is, mark-refuses, mark-done}
 use Rattle.std.proofs.Common.{ap}
 use Rattle.std.proofs.Common.{not}
 use Rattle.voicing.proofs.mark.Goals as goal
@@ -19,7 +19,7 @@ module _ (c : Else-not-flagged-recorded) where
   opened = rw (sym c.flagged.ensures, sym c.has_room-recorded.ensures) (not-false _ (ap not c.if-not-flagged-recorded.false))
 
   fits : Flagged c.args.durations.now (length c.args.flags.now) × (length c.args.durations.now * c.args.u.size ≤ length c.args.records.now)
-  fits = marks-is c.args.u c.args.records.now c.args.durations.now c.args.flags.now opened
+  fits = marks_is c.args.u c.args.records.now c.args.durations.now c.args.flags.now opened
 
 room : (c : After-frames_in-n) → Flagged c.args.durations.now (length c.args.flags.now) → c.frames_in-n.result ≤ length c.args.flags.now
 room c f = omega (arith, c.frames_in-n.ensures, f.room)

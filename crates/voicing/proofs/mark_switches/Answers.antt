@@ -6,7 +6,7 @@ use lib.ListN.{length}
 use Rattle.voicing.specs.Space.{flagged}
 use Rattle.voicing.specs.Inner.Fits.{Flagged}
 use Rattle.voicing.proofs.Masks.{mask-voiced}
-use Rattle.voicing.proofs.Doors.{flagged-is, switches-shut, switches-uneven, switches-fit, switches-done}
+use Rattle.voicing.proofs.Doors.{flagged_is, switches-shut, switches-uneven, switches-fit, switches-done}
 use Rattle.std.proofs.Common.{ap}
 use Rattle.std.proofs.Common.{not}
 use Rattle.voicing.proofs.mark_switches.Goals as goal
@@ -17,7 +17,7 @@ module _ (c : Else-not-flagged) where
   opened = sym c.flagged.ensures ∙ not-false _ (ap not c.if-not-flagged.false)
 
   fits : Flagged c.args.durations.now (length c.args.flags.now)
-  fits = flagged-is _ _ opened
+  fits = flagged_is _ _ opened
 
 pub returns-then-not-switches-durations : goal.returns-then-not-switches-durations
 returns-then-not-switches-durations c = switches-uneven _ c.args.switches.now _ (opened (goal.at.returns-then-not-switches-durations c).Else-not-flagged) _ _ c.frames_in-frames.ensures c.count_voiced.ensures (not-true _ (ap not c.if-not-switches-durations.true))

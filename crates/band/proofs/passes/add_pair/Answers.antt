@@ -6,7 +6,7 @@ use native.Mathlib.Omega.{arith}
 use lib.ListN.{length, set, length-set}
 use Rattle.lists.specs.Build.{over}
 use Rattle.band.proofs.Runs.{both-next, fused-run}
-use Rattle.band.proofs.Columns.{column_at, column_in, row_in-all, pair-done}
+use Rattle.band.proofs.Columns.{column_at, column_in, row_in_all, pair-done}
 use Rattle.band.proofs.passes.add_pair.Goals as goal
 use Rattle.band.proofs.passes.add_pair.Goals.{In-loop-t, Start}
 
@@ -94,7 +94,7 @@ pub bounds-m-q-in-loop-t-3 : goal.bounds-m-q-in-loop-t-3
 bounds-m-q-in-loop-t-3 c = rw length-set (here (goal.at.bounds-m-q-in-loop-t-3 c).In-loop-t)
 
 pub overflow_add-q-in-loop-t : goal.overflow_add-q-in-loop-t
-overflow_add-q-in-loop-t c = omega (arith, here (goal.at.overflow_add-q-in-loop-t c).In-loop-t, c.loop-t.invariant.2, row_in-all _ _ c.args.b _ c.requires.4, c.requires.4.fit.room)
+overflow_add-q-in-loop-t c = omega (arith, here (goal.at.overflow_add-q-in-loop-t c).In-loop-t, c.loop-t.invariant.2, row_in_all _ _ c.args.b _ c.requires.4, c.requires.4.fit.room)
 
 pub loop-t-smaller : goal.loop-t-smaller
 loop-t-smaller c = omega (arith, c.loop-t-test.true)

@@ -14,13 +14,10 @@ use Rattle.duration.specs.Inner.Asked.{InPlace}
 use Rattle.duration.proofs.Closing.{close_refused, close_long, close_grown}
 use Rattle.duration.proofs.Shortest.{part_low}
 use Rattle.duration.proofs.align.close_group.Goals as goal
-use Rattle.duration.proofs.align.close_group.Goals.{After-fit-answer, After-larger-sum, After-total_u32-low, Start}
+use Rattle.duration.proofs.align.close_group.Goals.{After-fit-answer, After-larger-sum, After-total_u32-low}
 
 -- the group, and the sum of its shortest
 module _ (c : After-total_u32-low) where
-  abbrev entry : Start
-  entry = c.before.before.before.before.before.before.before.before.before
-
   abbrev group : Group
   group = given c.args.from c.args.to c.args.end
 

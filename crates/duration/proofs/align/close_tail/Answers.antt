@@ -10,13 +10,10 @@ use Rattle.duration.specs.Estimate.{naturals}
 use Rattle.duration.specs.Align.{Group, tail, states_in}
 use Rattle.duration.proofs.Closing.{tail_none, tail-long, tail-fits}
 use Rattle.duration.proofs.align.close_tail.Goals as goal
-use Rattle.duration.proofs.align.close_tail.Goals.{After-estimate_duration-sum, Start}
+use Rattle.duration.proofs.align.close_tail.Goals.{After-estimate_duration-sum}
 
 -- the estimates in their place
 module _ (c : After-estimate_duration-sum) where
-  abbrev entry : Start
-  entry = c.before.before.before.before.before.before.before.before.before.before.before
-
   abbrev group : Group
   group = tail c.args.from c.args.to
 

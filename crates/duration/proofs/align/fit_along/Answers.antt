@@ -5,16 +5,10 @@ use lib.ListN.{length}
 use Rattle.steps.specs.Steps.{states}
 use Rattle.duration.proofs.Along.{along, next_in, along_open, group-lies, group-some, Turn, turn-refused, turn-frames, turn-changes, turn-grown, lies, all-passed, along-done}
 use Rattle.duration.proofs.align.fit_along.Goals as goal
-use Rattle.duration.proofs.align.fit_along.Goals.{After-close_group-group, After-close_tail, At-loop-i, Start}
-
-abbrev entry : At-loop-i → Start
-entry c = c.before.before.before.before.before.before.before
+use Rattle.duration.proofs.align.fit_along.Goals.{After-close_group-group, After-close_tail}
 
 -- where a group has been closed, or refused
 module _ (c : After-close_group-group) where
-  abbrev head : At-loop-i
-  head = record { before = c.before.before.before.before.before.before.before.before; type_inv = search rules }
-
   turn : let a = c.args in Turn (states a.means.now a.varis.now a.shortest.now) a.nstate a.ends.now a.work.now c.loop-i.work c.loop-i.done c.loop-i.first c.loop-i.frames c.loop-i.changes c.loop-i.i c.new-label.result c.in-At.time c.close_group-group.result c.close_group-group.new.work
   turn = record { labels = c.requires; before = c.loop-i.invariant; here = c.loop-i-test.true; made = c.new-label.ensures; ends_at = c.in-At.is; closes = c.close_group-group.ensures }
 
@@ -50,9 +44,6 @@ loop-i-preserved c = turn-grown _ _ _ (turn (goal.at.loop-i-preserved c).After-c
 
 -- where the tail has been closed, or refused
 module _ (c : After-close_tail) where
-  abbrev last : At-loop-i
-  last = record { before = c.before.before.before.before; type_inv = search rules }
-
   long : length c.close_tail.new.work ≡ length c.loop-i.work
   long = c.close_tail.auto.work
 

@@ -1,13 +1,9 @@
 use native.Mathlib.Omega.{arith}
 use Rattle.duration.proofs.Estimates.{estimating, estimating-next, estimated}
 use Rattle.duration.proofs.fit.estimate_duration.Goals as goal
-use Rattle.duration.proofs.fit.estimate_duration.Goals.{At-loop-i, Start}
 
 pub loop-i-init : goal.loop-i-init
 loop-i-init c = estimating _ _ _
-
-abbrev entry : At-loop-i → Start
-entry c = c.before.before.before.before.before.before
 
 pub offset_bounds-varis-i : goal.offset_bounds-varis-i
 offset_bounds-varis-i c = omega (arith, c.requires.varis, c.loop-i-test.true)

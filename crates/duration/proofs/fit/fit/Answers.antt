@@ -9,7 +9,7 @@ use Rattle.lists.proofs.Stores.{copied-whole}
 use Rattle.steps.specs.Steps.{States, states, least}
 use Rattle.duration.proofs.Fits.{fit_none, fit-over, fit-shortest, fit-long, fit-settled}
 use Rattle.duration.proofs.fit.fit.Goals as goal
-use Rattle.duration.proofs.fit.fit.Goals.{After-estimate_duration, After-settle, Else-n-eq0, Else-target-low, Start}
+use Rattle.duration.proofs.fit.fit.Goals.{After-estimate_duration, After-settle, Else-n-eq0}
 
 -- there is a state
 some : (c : Else-n-eq0) → 0 < length c.args.means.now
@@ -19,12 +19,6 @@ some c = let h = c.if-n-eq0.false in omega arith
 module _ (c : After-settle) where
   abbrev estimates : After-estimate_duration
   estimates = record { before = c.before.before.before.before.before; type_inv = search rules }
-
-  abbrev tests : Else-target-low
-  tests = record { before = c.before.before.before.before.before.before.before.before; type_inv = search rules }
-
-  abbrev entry : Start
-  entry = c.before.before.before.before.before.before.before.before.before.before.before.before.before.before.before
 
   abbrev all : States
   all = states c.args.means.now c.args.varis.now c.args.shortest.now

@@ -12,13 +12,10 @@ use Rattle.duration.specs.Estimate.{naturals}
 use Rattle.duration.specs.Speed.{target_at}
 use Rattle.duration.proofs.Fits.{speed-long, speed-one, speed-other}
 use Rattle.duration.proofs.speed.fit_at.Goals as goal
-use Rattle.duration.proofs.speed.fit_at.Goals.{After-estimate_duration-sum, Start}
+use Rattle.duration.proofs.speed.fit_at.Goals.{After-estimate_duration-sum}
 
 -- the estimates that stand in the work space
 module _ (c : After-estimate_duration-sum) where
-  abbrev entry : Start
-  entry = c.before.before.before.before.before.before.before
-
   abbrev all : States
   all = states c.args.means.now c.args.varis.now c.args.shortest.now
 

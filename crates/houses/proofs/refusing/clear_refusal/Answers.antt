@@ -6,7 +6,7 @@ use Rattle.houses.proofs.Ways.{clear_another, slot-there, clear_empty, clear_las
 use Rattle.std.proofs.Common.{ap}
 use Rattle.std.proofs.Common.{not}
 use Rattle.houses.proofs.refusing.clear_refusal.Goals as goal
-use Rattle.houses.proofs.refusing.clear_refusal.Goals.{After-is_empty, After-owns}
+use Rattle.houses.proofs.refusing.clear_refusal.Goals.{After-is_empty}
 
 pub returns-then-not-owns : goal.returns-then-not-owns
 returns-then-not-owns c = clear_another _ _ _ _ c.owns.ensures (ap not c.if-not-owns.true)
@@ -18,9 +18,6 @@ is_empty-requires c =
 
 -- what was seen of the slot
 module _ (c : After-is_empty) where
-  abbrev o : After-owns
-  o = record { before = c.before.before.before.before; type_inv = record { coefficients = c.type_inv.coefficients; widths = c.type_inv.widths } }
-
   empty : c.is_empty.result ≡ is_empty (slot_at (table c.args.widths.now c.args.coefficients.now) c.args.slot)
   empty = empty_as _ _ _ _ _ c.wide.ensures c.is_empty.ensures
 

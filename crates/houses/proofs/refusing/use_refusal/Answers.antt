@@ -6,7 +6,7 @@ use Rattle.houses.proofs.Ways.{use_another, used-there, use_empty, use_short, us
 use Rattle.std.proofs.Common.{ap}
 use Rattle.std.proofs.Common.{not}
 use Rattle.houses.proofs.refusing.use_refusal.Goals as goal
-use Rattle.houses.proofs.refusing.use_refusal.Goals.{After-is_empty-empty, After-may_use}
+use Rattle.houses.proofs.refusing.use_refusal.Goals.{After-is_empty-empty}
 
 pub returns-then-not-may_use : goal.returns-then-not-may_use
 returns-then-not-may_use c = use_another _ _ _ _ _ c.may_use.ensures (ap not c.if-not-may_use.true)
@@ -18,9 +18,6 @@ is_empty-empty-requires c =
 
 -- what was seen of the slot
 module _ (c : After-is_empty-empty) where
-  abbrev o : After-may_use
-  o = record { before = c.before.before.before.before; type_inv = record { set_widths = c.type_inv.set_widths; coefficients = c.type_inv.coefficients; widths = c.type_inv.widths } }
-
   empty : c.is_empty-empty.result ≡ is_empty (slot_at (table c.args.widths.now c.args.coefficients.now) c.args.slot)
   empty = empty_as _ _ _ _ _ c.wide.ensures c.is_empty-empty.ensures
 

@@ -1,7 +1,7 @@
 use Prim.Native.Nat.{◌≤◌}
 use native.Mathlib.Nat.{mul-le-mul}
 use native.Mathlib.Omega.{arith}
-use Rattle.houses.proofs.Commons.{agree-not, agree_as}
+use Rattle.houses.proofs.Commons.{agree_not, agree_as}
 use Rattle.houses.proofs.starting.agree.Goals as goal
 
 pub overflow_mul-wide : goal.overflow_mul-wide
@@ -14,7 +14,7 @@ overflow_mul-wide c =
 pub returns-then-wide-length : goal.returns-then-wide-length
 returns-then-wide-length c =
     let a = c.args in
-    agree-not a.common _ _ a.common_widths.now a.common_coefficients.now c.wide.ensures c.row_length-length.ensures c.if-wide-length.true
+    agree_not a.common _ _ a.common_widths.now a.common_coefficients.now c.wide.ensures c.row_length-length.ensures c.if-wide-length.true
 
 pub returns : goal.returns
 returns c =

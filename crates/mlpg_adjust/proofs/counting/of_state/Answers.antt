@@ -9,15 +9,12 @@ use Rattle.model.specs.Clamps.{is_high, is_low}
 use Rattle.mlpg_adjust.proofs.Clamps.{state-none, state-some, state-few}
 use Rattle.std.proofs.Common.{not}
 use Rattle.mlpg_adjust.proofs.counting.of_state.Goals as goal
-use Rattle.mlpg_adjust.proofs.counting.of_state.Goals.{After-clamped-once, After-voiced, Start}
+use Rattle.mlpg_adjust.proofs.counting.of_state.Goals.{After-clamped-once, After-voiced}
 
 voiced : (c : After-voiced) → let a = c.args in c.voiced.result ≡ voiced_at a.threshold (from_linear a.lin.now).msd
 voiced c = c.voiced.ensures ∙ ap (voiced_at c.args.threshold) c.msd-weight.ensures
 
 module _ (c : After-clamped-once) where
-  abbrev entry : Start
-  entry = c.before.before.before.before.before.before
-
   high-few : c.clamped-once.result.high ≤ 256
   high-few = omega (arith, ap (λ (x : Clamps). x.high) c.clamped-once.ensures, state-few is_high c.args.lin.now c.requires.0)
 

@@ -21,9 +21,6 @@ of_states-clamps-requires c =
     rw c.record_size.ensures (small (goal.at.of_states-clamps-requires c).Start, omega (arith, c.requires.recorded), c.requires.frames)
 
 module _ (c : After-of_states-clamps) where
-  abbrev entry : Start
-  entry = c.before.before.before.before.before.before
-
   said : let a = c.args in c.of_states-clamps.result ≡ clamps_by_states (state_size a.stream a.widths.now) a.records.now a.stream.threshold a.durations.now
   said = let a = c.args in c.of_states-clamps.ensures ∙ ap (λ (n : ℕ). clamps_by_states n a.records.now a.stream.threshold a.durations.now) c.record_size.ensures
 

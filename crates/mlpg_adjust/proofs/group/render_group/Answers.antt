@@ -2,10 +2,6 @@ use mathlib.Core.Path.{◌∙◌}
 use Rattle.mlpg_adjust.proofs.Calls.{varying, group_columned}
 use Rattle.mlpg_adjust.proofs.Keeping.{closed-keeps, rowed-keeps, done-keeps, target_keeps}
 use Rattle.mlpg_adjust.proofs.group.render_group.Goals as goal
-use Rattle.mlpg_adjust.proofs.group.render_group.Goals.{After-solve_group, Start}
-
-abbrev entry : After-solve_group → Start
-entry c = c.before.before.before.before.before.before.before.before.before.before.before
 
 pub vary-requires : goal.vary-requires
 vary-requires c =

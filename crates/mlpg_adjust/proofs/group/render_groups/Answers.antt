@@ -8,19 +8,10 @@ use Rattle.mlpg_adjust.proofs.Calls.{lanes_some, lanes_room}
 use Rattle.mlpg_adjust.proofs.Columns.{columned_none}
 use borrow.Author.Rules.{rules}
 use Rattle.mlpg_adjust.proofs.group.render_groups.Goals as goal
-use Rattle.mlpg_adjust.proofs.group.render_groups.Goals.{After-least-some, After-wide-v, Start}
-
-abbrev entry : After-wide-v → Start
-entry c = c.before.before.before.before.before.before.before.before.before.before.before
-
-abbrev after_wide_v_of_after_least_some : After-least-some → After-wide-v
-after_wide_v_of_after_least_some c = record { before = c.before.before.before.before.before.before; type_inv = search rules }
+use Rattle.mlpg_adjust.proofs.group.render_groups.Goals.{After-least-some}
 
 -- the group is of components that are left, and has room
 module _ (c : After-least-some) where
-  abbrev start : Start
-  start = entry (after_wide_v_of_after_least_some c)
-
   within : c.loop-first.first + c.least-some.result ≤ c.wide-v.result
   within = omega (arith, c.least-some.ensures, c.loop-first-test.true)
 

@@ -7,16 +7,13 @@ use Rattle.lists.specs.Totals.{total}
 use Rattle.mlpg_adjust.specs.Promise.{create_refusal}
 use Rattle.mlpg_adjust.proofs.Ways.{InRange, frames_are, refused-before, range_passed, refused_6}
 use Rattle.mlpg_adjust.proofs.refusing.refusal.Goals as goal
-use Rattle.mlpg_adjust.proofs.refusing.refusal.Goals.{After-is_short, After-total_u32-frames, Start}
+use Rattle.mlpg_adjust.proofs.refusing.refusal.Goals.{After-is_short, After-total_u32-frames}
 
 pub returns-then-refused-ne0 : goal.returns-then-refused-ne0
 returns-then-refused-ne0 c = refused-before _ _ _ _ _ _ c.stream_refusal-refused.ensures c.if-refused-ne0.true
 
 -- the range of what is not refused with 1 to 5, and its frames
 module _ (c : After-total_u32-frames) where
-  abbrev entry : Start
-  entry = c.before.before.before.before.before.before.before
-
   range : let a = c.args in InRange a.stream.v (length a.durations.now) × (total a.durations.now ≤ 65536)
   range = range_passed _ _ _ _ _ _ c.stream_refusal-refused.ensures c.if-refused-ne0.false
 

@@ -2,10 +2,6 @@ use mathlib.Core.Path.{◌∙◌}
 use native.Mathlib.Omega.{arith}
 use Rattle.mlpg_adjust.proofs.Marks.{switches-room, ready, all-rendered}
 use Rattle.mlpg_adjust.proofs.render.render.Goals as goal
-use Rattle.mlpg_adjust.proofs.render.render.Goals.{After-plan_of-arg-1, Start}
-
-abbrev entry : After-plan_of-arg-1 → Start
-entry c = c.before.before.before.before.before.before.before.before.before.before.before
 
 pub mark_switches-requires : goal.mark_switches-requires
 mark_switches-requires c =

@@ -5,7 +5,7 @@ use native.Mathlib.Omega.{arith}
 use borrow.Author.Tests.{not-true, not-false}
 use Rattle.lists.specs.Bytes.{Bytes, starts_with}
 use Rattle.read_along.specs.Format.{mark}
-use Rattle.read_along.proofs.Filing.{number-below, not-marked, other-version, other_length, as_touching}
+use Rattle.read_along.proofs.Filing.{number-below, not_marked, other-version, other_length, as_touching}
 use Rattle.std.proofs.Common.{ap}
 use Rattle.std.proofs.Common.{not}
 use Rattle.read_along.proofs.file.is_formed.Goals as goal
@@ -20,7 +20,7 @@ small c =
     number-below c.args.bytes.now b _ 5 c.count_of-count.ensures
 
 pub returns-then-not-starts_with : goal.returns-then-not-starts_with
-returns-then-not-starts_with c = not-marked _ (sym c.starts_with.ensures ∙ not-true _ (ap not c.if-not-starts_with.true))
+returns-then-not-starts_with c = not_marked _ (sym c.starts_with.ensures ∙ not-true _ (ap not c.if-not-starts_with.true))
 
 pub returns-then-little_endian-ne1 : goal.returns-then-little_endian-ne1
 returns-then-little_endian-ne1 c = other-version _ (marked (goal.at.returns-then-little_endian-ne1 c).Else-not-starts_with) _ c.little_endian.ensures c.if-little_endian-ne1.true

@@ -11,7 +11,7 @@ use Rattle.voicing.specs.Mask.{weight_at}
 use Rattle.runs.specs.Inner.Finding.{turns_to}
 use Rattle.runs.proofs.Findings.{passed_none, passed-all, passed-fits, passed-next, passed-turned}
 use Rattle.runs.proofs.finding.until.Goals as goal
-use Rattle.runs.proofs.finding.until.Goals.{After-turns, In-loop-state, Start}
+use Rattle.runs.proofs.finding.until.Goals.{After-turns, In-loop-state}
 
 -- the state's record lies within the list
 fits : (c : In-loop-state) → let a = c.args in c.loop-state.state * a.u.size + a.u.size ≤ length a.records.now
@@ -19,12 +19,6 @@ fits c =
     omega (arith, c.requires.0.each, row_fits c.args.u.size c.loop-state.state (length c.args.durations.now) c.loop-state-test.true)
 
 module _ (c : After-turns) where
-  abbrev inside : In-loop-state
-  inside = record { before = c.before.before.before.before; type_inv = search rules }
-
-  abbrev entry : Start
-  entry = c.before.before.before.before.before.before.before.before
-
   -- what is asked of it
   asked : let a = c.args in let s = c.loop-state.state in c.turns.result ≡ turns_to a.voiced (voiced_at a.u.threshold (weight_at a.u.size a.records.now s)) (get_or a.durations.now s 0)
   asked =

@@ -3,12 +3,9 @@ use native.Mathlib.Omega.{arith}
 use lib.ListN.{length, length-set}
 use Rattle.runs.proofs.Findings.{runs-most, found-next, writing, writing-some, writing-room, writing-next, written, stands-most}
 use Rattle.runs.proofs.finding.write.Goals as goal
-use Rattle.runs.proofs.finding.write.Goals.{After-struct_known-1, Start}
+use Rattle.runs.proofs.finding.write.Goals.{After-struct_known-1}
 
 module _ (c : After-struct_known-1) where
-  abbrev entry : Start
-  entry = c.before.before.before.before.before.before.before.before
-
   -- there is room for two numbers
   room : c.loop-at.at + 1 < length c.loop-at.out
   room = writing-room c.loop-at.invariant c.loop-at-test.true

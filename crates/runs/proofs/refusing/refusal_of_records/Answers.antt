@@ -8,7 +8,7 @@ use Rattle.lists.proofs.Flags.{neither}
 use Rattle.mlpg_adjust.proofs.Ways.{InRange, in_range, size_small}
 use Rattle.runs.proofs.Ways.{refused_1, refused_3, refused_4, refused_5, refused_none}
 use Rattle.runs.proofs.refusing.refusal_of_records.Goals as goal
-use Rattle.runs.proofs.refusing.refusal_of_records.Goals.{Else-durations-v, Start}
+use Rattle.runs.proofs.refusing.refusal_of_records.Goals.{Else-durations-v}
 
 pub returns-then-windows : goal.returns-then-windows
 returns-then-windows c = refused_1 _ _ _ _ _ c.if-windows.true
@@ -18,9 +18,6 @@ returns-then-durations-v c = refused_3 _ _ _ _ _ c.if-windows.false c.if-duratio
 
 -- what 1 and 3 leave
 module _ (c : Else-durations-v) where
-  abbrev entry : Start
-  entry = c.before.before.before.before
-
   few : (c.args.windows ≤ 4) × InRange c.args.v (length c.args.durations.now)
   few = (ltb-false 4 c.args.windows (neither (ltb c.args.windows 1) (ltb 4 c.args.windows) c.if-windows.false).1, in_range c.args.v (length c.args.durations.now) c.if-durations-v.false)
 

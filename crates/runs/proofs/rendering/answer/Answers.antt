@@ -11,7 +11,7 @@ use Rattle.runs.specs.Inner.Finding.{found_refusal}
 use Rattle.runs.proofs.Ways.{run-refused, run-done}
 use Rattle.runs.proofs.Located.{shaped, windows-some, asked-few, recorded, run-frames, run-there, run_is, renders}
 use Rattle.runs.proofs.rendering.answer.Goals as goal
-use Rattle.runs.proofs.rendering.answer.Goals.{After-frames-frames, Else-refused-ne0, Start}
+use Rattle.runs.proofs.rendering.answer.Goals.{After-frames-frames, Else-refused-ne0}
 
 pub record_size-requires : goal.record_size-requires
 record_size-requires c =
@@ -26,9 +26,6 @@ run_at-found-requires c =
 
 -- the run is found
 module _ (c : After-frames-frames) where
-  abbrev entry : Start
-  entry = c.before.before.before.before.before.before.before.before.before.before.before.before.before.before
-
   frames : let a = c.args in (run_at (stream_mask (state_size a.stream a.widths.now) a.records.now a.stream.threshold a.durations.now) a.run).frames ≡ c.frames-frames.result
   frames = let a = c.args in run-frames a.stream a.widths.now a.coefficients.now a.records.now a.durations.now a.gv.now a.switches.now c.requires _ c.record_size.ensures a.run _ c.wide.ensures _ c.run_at-found.ensures _ c.frames-frames.ensures
 

@@ -2,10 +2,7 @@ use native.Mathlib.Omega.{arith}
 use lib.ListN.{length}
 use Rattle.runs.proofs.Parts.{Placed, run-placed, run-said}
 use Rattle.runs.proofs.rendering.render.Goals as goal
-use Rattle.runs.proofs.rendering.render.Goals.{After-record_size-size, Start}
-
-abbrev entry : After-record_size-size → Start
-entry c = c.before.before.before.before.before.before.before.before.before.before.before
+use Rattle.runs.proofs.rendering.render.Goals.{After-record_size-size}
 
 -- where the run's records lie
 places : (c : After-record_size-size) → let a = c.args in Placed a.found.begin.state a.found.end.state c.record_size-size.result (length a.records.now)

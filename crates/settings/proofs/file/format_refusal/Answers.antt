@@ -3,14 +3,14 @@ use native.Mathlib.Omega.{arith}
 use Prim.Native.Nat.{◌+◌, ◌*◌, ◌<◌}
 use borrow.Author.Tests.{not-true, not-false}
 use Rattle.lists.specs.Bytes.{Bytes}
-use Rattle.settings.proofs.Refusing.{not-marked, ends_early, unknown, other_length, well_formed, entries_fit}
+use Rattle.settings.proofs.Refusing.{not_marked, ends_early, unknown, other_length, well_formed, entries_fit}
 use Rattle.std.proofs.Common.{ap}
 use Rattle.std.proofs.Common.{not}
 use Rattle.settings.proofs.file.format_refusal.Goals as goal
 use Rattle.settings.proofs.file.format_refusal.Goals.{After-entry_bytes}
 
 pub returns-then-not-starts_with : goal.returns-then-not-starts_with
-returns-then-not-starts_with c = not-marked _ (sym c.starts_with.ensures ∙ not-true _ (ap not c.if-not-starts_with.true))
+returns-then-not-starts_with c = not_marked _ (sym c.starts_with.ensures ∙ not-true _ (ap not c.if-not-starts_with.true))
 
 pub returns-then-bytes-lt5 : goal.returns-then-bytes-lt5
 returns-then-bytes-lt5 c = ends_early _ (sym c.starts_with.ensures ∙ not-false _ (ap not c.if-not-starts_with.false)) c.if-bytes-lt5.true

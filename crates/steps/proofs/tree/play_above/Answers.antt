@@ -2,10 +2,6 @@ use native.Mathlib.Omega.{arith}
 use Rattle.steps.proofs.Order.{sooner_in}
 use Rattle.steps.proofs.Playing.{sized, ready-same, rising, leaf_in, facing_in, facing_fit, rising-next, risen}
 use Rattle.steps.proofs.tree.play_above.Goals as goal
-use Rattle.steps.proofs.tree.play_above.Goals.{At-loop-i, Start}
-
-abbrev entry : At-loop-i → Start
-entry c = c.before.before.before.before.before.before.before
 
 pub overflow_add-i : goal.overflow_add-i
 overflow_add-i c = omega (arith, sized _ _ c.requires.ready, c.requires.ready.few, c.requires.p_in_bounds)

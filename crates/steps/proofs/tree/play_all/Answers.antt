@@ -4,10 +4,7 @@ use Rattle.lists.specs.Sizes.{most_states}
 use Rattle.steps.proofs.Order.{sooner_in}
 use Rattle.steps.proofs.Playing.{sized, ready-same, playing, child_in, children_fit, playing-next, played}
 use Rattle.steps.proofs.tree.play_all.Goals as goal
-use Rattle.steps.proofs.tree.play_all.Goals.{At-loop-i, Start}
-
-abbrev entry : At-loop-i → Start
-entry c = c.before.before.before.before.before.before
+use Rattle.steps.proofs.tree.play_all.Goals.{At-loop-i}
 
 -- a node's place is far from the largest number
 small : (c : At-loop-i) → c.loop-i.i ≤ most_states

@@ -8,7 +8,7 @@ use Rattle.lists.proofs.Counts.{count-all}
 use Rattle.region.specs.Region.{size_of}
 use Rattle.region.specs.declared.Places.{Places}
 use Rattle.voicing.proofs.Passes.{passed-fits, passed-few, passed-room}
-use Rattle.voicing.proofs.Fillings.{filling, filled-back, filling-room, filling-voiced, filling_unvoiced}
+use Rattle.voicing.proofs.Fillings.{filling, filled_back, filling-room, filling-voiced, filling_unvoiced}
 use Rattle.voicing.proofs.Columns.{columns_filled}
 use Rattle.voicing.proofs.filling.fill_group.Goals as goal
 use Rattle.voicing.proofs.filling.fill_group.Goals.{After-goes_on-voiced}
@@ -49,7 +49,7 @@ loop-s-preserved c =
 pub returns : goal.returns
 returns c =
     let a = c.args in
-    rw c.places-places.ensures at (filled-back _ _ _ _ _ _ _ _ _ _ c.loop-s.invariant c.loop-s-test.false) ∙ columns_filled a.none a.durations.now a.flags.now a.g a.c a.work.now a.out.now c.requires.0 c.requires.1
+    rw c.places-places.ensures at (filled_back _ _ _ _ _ _ _ _ _ _ c.loop-s.invariant c.loop-s-test.false) ∙ columns_filled a.none a.durations.now a.flags.now a.g a.c a.work.now a.out.now c.requires.0 c.requires.1
 
 pub loop-s-init : goal.loop-s-init
 loop-s-init c = filling _ _ _ _ _ _ _ _ _ _
