@@ -9,8 +9,9 @@ use lib.Dec.{ltb}
 use lib.ListN.{length}
 use lib.Ieee.{Float, nan}
 use Rattle.lists.specs.Totals.{total}
-use Rattle.lists.specs.Ends.{filled}
-use Rattle.lists.specs.declared.Filled.{Filled}
+use Rattle.std.proofs.Common.{Result}
+use Rattle.lists.specs.Ends.{counted}
+use Rattle.lists.specs.declared.Refusal.{Refusal}
 use Rattle.lists.proofs.Rows.{row_in}
 use Rattle.lists.proofs.Fills.{build-length}
 use Rattle.lists.proofs.Answers.{written_at, accepted_is}
@@ -23,7 +24,7 @@ use Rattle.mlpg_adjust.specs.Trajectory.{gv_on, trajectory, numbers_of}
 use Rattle.mlpg_adjust.specs.Promise.{lengths_of, stream_refusal, created_number, CreateSays}
 use Rattle.mlpg_adjust.specs.Inner.Groups.{Shaped}
 use Rattle.mlpg_adjust.specs.declared.Stream.{Stream}
-use Rattle.mlpg_adjust.specs.declared.Created.{Created}
+use Rattle.mlpg_adjust.specs.declared.Clamped.{Clamped}
 use Rattle.mlpg_adjust.proofs.Marks.{mask-long}
 use Rattle.mlpg_adjust.proofs.Ways.{passed-finite, passed_shape}
 use Rattle.runs.specs.declared.Run.{Run}
@@ -68,14 +69,14 @@ module _ (s : Stream) (widths : List ℕ) (coefs records : List Float) (ds : Lis
         omega (arith, width_some widths coefs w 0 (fit-some widths shaped.fit), ltb-false 1 (width_of widths 0) passed.3)
 
   -- RULES, One run alone
-  pub calls_alone : (k : ℕ) (out work : List Float) (marks : List ℕ) (r : Created) (out' work' : List Float) (marks' : List ℕ) (out₂ work₂ : List Float) (marks₂ : List ℕ) (q : Filled) (out₂' work₂' : List Float) (marks₂' : List ℕ)
+  pub calls_alone : (k : ℕ) (out work : List Float) (marks : List ℕ) (r : Result Clamped Refusal) (out' work' : List Float) (marks' : List ℕ) (out₂ work₂ : List Float) (marks₂ : List ℕ) (q : Result ℕ Refusal) (out₂' work₂' : List Float) (marks₂' : List ℕ)
       → CreateSays s widths coefs records ds gv switches out work marks r out' work' marks' → created_number r ≡ 0
-      → RunSays s widths coefs records ds gv switches k out₂ work₂ marks₂ q out₂' work₂' marks₂' → (filled q).number ≡ 0
+      → RunSays s widths coefs records ds gv switches k out₂ work₂ marks₂ q out₂' work₂' marks₂' → (counted q).number ≡ 0
       → Premise s widths coefs records ds → Alone s widths coefs records ds out' out₂' k
   calls_alone k out work marks r out' work' marks' out₂ work₂ marks₂ q out₂' work₂' marks₂' created accepted says accepted₂ premise t c l b =
       let bs : List Bool = mask s widths coefs records ds in
       let own : Run = run s widths coefs records ds k in
-      let z : run_refusal s widths coefs records ds gv switches k out₂ work₂ marks₂ ≡ 0 = (accepted_is (filled q) _ _ says.answer accepted₂).0 in
+      let z : run_refusal s widths coefs records ds gv switches k out₂ work₂ marks₂ ≡ 0 = (accepted_is (counted q) _ _ says.answer accepted₂).0 in
       let h : k < count s widths coefs records ds = (passed k out₂ work₂ marks₂ z).2 in
       let within : own.first + t < total ds = omega (arith, run_lies bs k h, mask-long s widths records ds) in
       ap plain (written_at (created_number r) (total ds * s.v) (numbers_of s widths coefs records ds gv switches) out out' ((own.first + t) * s.v + c) nan created.numbers accepted numbers-long (row_in s.v (own.first + t) (total ds) c within b))

@@ -1,5 +1,5 @@
 -- RULES, One run alone: worked cases, computed from the definitions. Windows (1) and (-0.5, 0, 0.5), one component, three states of one frame each, the second unvoiced: two runs.
-use Rattle.std.specs.Prelude.{◌≡◌, refl, true, List, [], ◌∷◌, ◌++◌, map, ℕ, zero, suc, ◌<◌, T, length, Float}
+use Rattle.std.specs.Prelude.{None, ◌≡◌, refl, true, List, [], ◌∷◌, ◌++◌, map, ℕ, zero, suc, ◌<◌, T, length, Float}
 use Rattle.std.proofs.Common.{arith}
 use Rattle.std.specs.Float.Ieee.Scale.{finite}
 use Rattle.std.specs.Float.{binary64}
@@ -16,7 +16,6 @@ use Rattle.region.specs.Rows.{elem}
 use Rattle.solve.specs.Solve.{solution}
 use Rattle.mlpg_adjust.specs.Trajectory.{numbers_of}
 use Rattle.mlpg_adjust.specs.declared.Stream.{Stream}
-use Rattle.mlpg_adjust.specs.declared.GlobalVariance.TheVariants.{Off}
 use Rattle.runs.specs.Runs.{runs_from}
 use Rattle.runs.specs.Alone.{of_run, frame_means, run_matrix, run_side, run_numbers}
 use Rattle.alone.specs.Premise.{divisor}
@@ -26,7 +25,7 @@ abbrev f : ℕ → Float
 f b = of_bits binary64 b
 
 abbrev stream : Stream
-stream = record { v = 1; masked = true; threshold = f 0; fill = f 0; gv = Off }
+stream = record { v = 1; masked = true; threshold = f 0; fill = f 0; gv = None }
 
 abbrev taps : List Float
 taps = one ∷ f 0xbfe0_0000_0000_0000 ∷ f 0 ∷ f 0x3fe0_0000_0000_0000 ∷ []

@@ -17,8 +17,6 @@ use Rattle.lists.specs.Build.{build, rows, over}
 use Rattle.lists.specs.Parts.{part}
 use Rattle.lists.proofs.Numbers.{le_or_lt}
 use Rattle.lists.proofs.Rows.{row_fits, row_in}
-use Rattle.lists.proofs.Stores.{filled}
-use Rattle.lists.proofs.Fills.{fill_done}
 use Rattle.lists.proofs.Builds.{build_is}
 use Rattle.lists.proofs.Regions.{returned, cut-length}
 use Rattle.floats.specs.Numbers.{nought}
@@ -61,10 +59,10 @@ filled_as l a e i v h g = ⊎_elim
     (le_or_lt a i)
 
 -- they were lent, and are back filled
-pub cleared : (a e : ℕ) (l x : List Float) → a ≤ e → e ≤ length l → x ≡ sets (part a (e - a) l) 0 (replicate (e - a) nought) → Cleared a e l (put_mid a (e - a) l x)
+pub cleared : (a e : ℕ) (l x : List Float) → a ≤ e → e ≤ length l → x ≡ replicate (length (part a (e - a) l)) nought → Cleared a e l (put_mid a (e - a) l x)
 cleared a e l x h g k =
     let long : length (part a (e - a) l) ≡ e - a = cut-length a (e - a) l (omega arith) in
-    let z : x ≡ replicate (e - a) nought = k ∙ filled (e - a) nought (part a (e - a) l) (omega arith) ∙ fill_done (replicate (e - a) nought) (part a (e - a) l) (e - a) (omega arith) in
+    let z : x ≡ replicate (e - a) nought = rw long at k in
     let back : put_mid a (e - a) l x ≡ sets l a (replicate (e - a) nought) = returned a e l x h g (ap length z ∙ length-replicate (e - a) nought) ∙ ap (sets l a) z in
     rw back (record { long = length-sets l a (replicate (e - a) nought); each = λ i. filled_as l a e i nought h g })
 
@@ -156,9 +154,6 @@ lies g p windows n w size a b c d e = rw (a, b, c, d, e) (record { each = refl; 
 module _ (widths : List ℕ) (coefs : List Float) (p : Places) (n w : ℕ) (d : List Float) where
   abbrev R : Set
   R = set_in widths coefs p.ivars n d
-
-  pub blocks_none : Moved (block_of p n w 0 0) (whole_entry R) (whole_side R) d d
-  blocks_none = moved_none (block_of p n w 0 0) (whole_entry R) (whole_side R) d (λ t j y h c a l. absurd (omega (arith, l))) (λ t y h a l. absurd (omega (arith, l)))
 
   pub blocks_next : (m m' : List Float) (from to : ℕ) → Lies p (length widths) n w (length d) → from ≤ to → Moved (block_of p n w 0 from) (whole_entry R) (whole_side R) d m
       → Moved (block_of p n w from to) (whole_entry (set_in widths coefs p.ivars n m)) (whole_side (set_in widths coefs p.ivars n m)) m m' → Moved (block_of p n w 0 to) (whole_entry R) (whole_side R) d m'

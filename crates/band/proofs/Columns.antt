@@ -12,7 +12,7 @@ use lib.ListN.{length, get_or, set, get_or-eq_default}
 use lib.Ieee.{Float, nan, binary64, add, mul, eq}
 use Rattle.lists.specs.Build.{over}
 use Rattle.lists.proofs.Numbers.{le_or_lt, by_place}
-use Rattle.lists.proofs.Rows.{row_fits, row_in}
+use Rattle.lists.proofs.Rows.{row_in}
 use Rattle.floats.specs.Numbers.{nought}
 use Rattle.region.specs.Rows.{elem}
 use Rattle.band.specs.Inner.Passes.{entry_at, within, Room, Moved, still, Ready, tap_column, side_of, in_columns, NextTap}
@@ -74,9 +74,6 @@ module _ (taps : List Float) (u : ℕ) (b : Block) where
   -- it and all those below lie before the right side, and so would one row
   pub column_in : (size j t : ℕ) → Ready taps u b size → j < length taps → b.from + t < b.to → column_at j + t * b.w < b.right
   column_in size j t k h l = omega (arith, add-mul b.from t b.w, row_in b.w (b.from + t) b.n j (omega (arith, k.fit.most)) (omega (arith, k.narrow)), k.fit.right-at)
-
-  pub row_in_all : (size : ℕ) → Ready taps u b size → b.w ≤ b.right
-  row_in_all size k = omega (arith, row_fits b.w 0 b.n (omega (arith, k.some, k.fit.most)), k.fit.right-at)
 
   module _ (d : List Float) (k : Ready taps u b (length d)) where
     abbrev C : ℕ → ℕ → Float → Float

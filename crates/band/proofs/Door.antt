@@ -4,7 +4,7 @@ use mathlib.Core.Bool.{Bool, true, false, not, ◌&&◌}
 use mathlib.Core.List.{List}
 use Prim.Native.Nat.{ℕ, ◌*◌, ◌^◌, ◌≤◌}
 use native.Mathlib.Omega.{arith}
-use borrow.Author.Tests.{leb-true, eqb-true, eq-eqb, ne_eqb, not-true, not-false}
+use borrow.Author.Tests.{leb-true, eqb-true, eq-eqb, ne_eqb, not-false}
 use lib.Dec.{leb, eqb}
 use lib.ListN.{length, take}
 use lib.Ieee.{Float}
@@ -22,9 +22,6 @@ use Rattle.band.specs.Inner.Fits.{Taps}
 -- ---- the ways out, in the order of the tests
 
 module _ (ws : List ℕ) (cs : List Float) (g : Layout) (lanes floats : ℕ) (f : Bool) (fit : f ≡ widths_fit ws) where
-  pub shut-widths : not f ≡ true → false ≡ opens ws cs g lanes floats
-  shut-widths h = rw (← fit, not-true f h)
-
   module _ (a : not f ≡ false) (t : ℕ) (summed : t ≡ total (take (2 ^ 32) ws)) where
     fits : widths_fit ws ≡ true
     fits = sym fit ∙ not-false f a
@@ -36,13 +33,7 @@ module _ (ws : List ℕ) (cs : List Float) (g : Layout) (lanes floats : ℕ) (f 
     shut-taps h = rw (fits, sum, ne_eqb (length cs) t (λ e. h (sym e)))
 
     module _ (b : t ≡ length cs) (k : ℕ) (windows : k ≡ g.windows) where
-      pub shut-count : (length ws ≡ k → ⊥) → false ≡ opens ws cs g lanes floats
-      shut-count h = rw (fits, sum, eq-eqb (length cs) t (sym b), ne_eqb (length ws) g.windows (λ e. h (e ∙ sym windows)))
-
       module _ (d : length ws ≡ k) (x y : ℕ) (band : x ≡ band_width ws) (wide : y ≡ g.w) where
-        pub shut-narrow : (x ≡ y → ⊥) → false ≡ opens ws cs g lanes floats
-        shut-narrow h = rw (fits, sum, eq-eqb (length cs) t (sym b), eq-eqb (length ws) g.windows (d ∙ windows), ne_eqb (band_width ws) g.w (λ e. h (band ∙ e ∙ sym wide)))
-
         pub open_last : x ≡ y → (r : Bool) → r ≡ leb (lanes * size_of g) floats → r ≡ opens ws cs g lanes floats
         open_last h r e = rw (fits, sum, eq-eqb (length cs) t (sym b), eq-eqb (length ws) g.windows (d ∙ windows), eq-eqb (band_width ws) g.w (sym band ∙ h ∙ wide)) e
 
@@ -74,9 +65,6 @@ module _ (ws : List ℕ) (cs : List Float) (g : Layout) (lanes floats : ℕ) whe
 -- ---- the call along the regions
 
 module _ (ws : List ℕ) (cs : List Float) (g : Layout) (lanes : ℕ) (work : List Float) where
-  pub none-rowed : (o : Bool) → o ≡ opens ws cs g lanes (length work) → not o ≡ true → RowsSay ws cs g lanes work work
-  none-rowed o e h = record { space = rw (← e, not-true o h) }
-
   pub all-rowed : (work' : List Float) (size : ℕ) → size ≡ size_of g → opens ws cs g lanes (length work) ≡ true
       → Across (λ l b e. e ≡ flat (rowed_in ws cs g (region_in g b))) size lanes work work' → RowsSay ws cs g lanes work work'
   all-rowed work' size e o k = record { space = rw o (across_is g lanes (λ l. rowed_in ws cs g) work (opened ws cs g lanes (length work) o).room work' (rw e at k)) }

@@ -13,18 +13,20 @@ use lib.ListN.{length, get_or, take, drop}
 use lib.Seq.{sets, length-sets}
 use lib.Ieee.{Float}
 use Rattle.lists.specs.Build.{fold_from}
-use Rattle.lists.specs.Refusals.{or_else}
-use Rattle.lists.proofs.Answers.{same, refused_as, accepted}
+use Rattle.lists.specs.Refusals.{number_of, or_else}
+use Rattle.lists.proofs.Answers.{same, untouched, accepted}
 use Rattle.model.specs.Windows.{window_refusal, longest, band_width}
 use Rattle.model.proofs.Accepted.{accepted-whole, width_few}
 use Rattle.lists.specs.Build.{rows}
 use Rattle.band.specs.Paper.{band_rows, right_side}
 use Rattle.band.specs.Inner.Fits.{Taps}
 use Rattle.band.specs.Promise.{frame_count, set_refusal, band_refusal, BandSays}
-use Rattle.lists.specs.Ends.{filled_of}
-use Rattle.lists.specs.declared.Filled.{Filled}
-use Rattle.lists.specs.declared.Filled.TheVariants.{Done, Refused}
-use Rattle.lists.proofs.Ends.{filled-one}
+use Rattle.lists.specs.Answers.{answer_of}
+use Rattle.lists.specs.Ends.{counted}
+use Rattle.lists.specs.declared.Refusal.{Refusal}
+use Rattle.lists.specs.declared.Refusal.TheVariants.{ListsDisagree, TooManyFrames, TooLittleRoom}
+use Rattle.lists.proofs.Ends.{some_number, stops, stopped, not-counted, counted-one}
+use Rattle.std.proofs.Common.{Result, Ok, Err}
 use Rattle.lists.proofs.Regions.{returned, stored_at}
 use Rattle.band.proofs.Lengths.{matrix-length, side-length}
 
@@ -72,29 +74,31 @@ module _ (ws : List ℕ) (cs : List Float) (ok : window_refusal ws cs ≡ 0) whe
 -- ---- how many frames there are
 
 module _ (ws : List ℕ) (cs : List Float) (m i : ℕ) where
-  pub frames-windows : (k : ℕ) → k ≡ window_refusal ws cs → (k ≡ 0 → ⊥) → Refused k ≡ filled_of (set_refusal ws cs m i) (frame_count ws m)
-  unfolding set_refusal
-  frames-windows zero e h = absurd (h refl)
-  frames-windows (suc k) e h = rw (← e)
+  abbrev framed : Result ℕ Refusal → Type 0
+  framed r = counted r ≡ answer_of (set_refusal ws cs m i) (frame_count ws m ∷ [])
 
-  module _ (z : window_refusal ws cs ≡ 0) where
-    pub frames-rest : (m % length ws ≡ 0 → ⊥) → Refused 4 ≡ filled_of (set_refusal ws cs m i) (frame_count ws m)
+  pub frames-windows : (e : Refusal) → number_of e ≡ window_refusal ws cs → framed (Err e)
+  unfolding set_refusal
+  frames-windows e q = not-counted e _ _ (stops e (window_refusal ws cs) _ q)
+
+  module _ (z : 0 ≡ window_refusal ws cs) where
+    pub frames-rest : (m % length ws ≡ 0 → ⊥) → framed (Err ListsDisagree)
     unfolding set_refusal
-    frames-rest h = rw (z, ne_eqb (m % length ws) 0 h)
+    frames-rest h = rw (← z, ne_eqb (m % length ws) 0 h)
 
     module _ (q : m % length ws ≡ 0) where
-      pub frames-other : (i ≡ m → ⊥) → Refused 4 ≡ filled_of (set_refusal ws cs m i) (frame_count ws m)
+      pub frames-other : (i ≡ m → ⊥) → framed (Err ListsDisagree)
       unfolding set_refusal
-      frames-other h = rw (z, eq-eqb (m % length ws) 0 q, ne_eqb i m h)
+      frames-other h = rw (← z, eq-eqb (m % length ws) 0 q, ne_eqb i m h)
 
       module _ (e : i ≡ m) where
-        pub frames-many : 65536 < m / length ws → Refused 5 ≡ filled_of (set_refusal ws cs m i) (frame_count ws m)
+        pub frames-many : 65536 < m / length ws → framed (Err TooManyFrames)
         unfolding set_refusal
-        frames-many h = rw (z, eq-eqb (m % length ws) 0 q, eq-eqb i m e, lt-ltb 65536 (m / length ws) h)
+        frames-many h = rw (← z, eq-eqb (m % length ws) 0 q, eq-eqb i m e, lt-ltb 65536 (m / length ws) h)
 
-        pub frames-few : m / length ws ≤ 65536 → Done (m / length ws) ≡ filled_of (set_refusal ws cs m i) (frame_count ws m)
+        pub frames-few : m / length ws ≤ 65536 → framed (Ok (m / length ws))
         unfolding set_refusal
-        frames-few h = rw (z, eq-eqb (m % length ws) 0 q, eq-eqb i m e, le-ltb 65536 (m / length ws) h)
+        frames-few h = rw (← z, eq-eqb (m % length ws) 0 q, eq-eqb i m e, le-ltb 65536 (m / length ws) h)
 
 -- what an accepted set of lists has
 pub record Agree (ws : List ℕ) (cs : List Float) (m i : ℕ) : Type 0 where
@@ -131,43 +135,44 @@ module _ (ws : List ℕ) (cs ms us A R : List Float) where
   abbrev refusal : ℕ
   refusal = band_refusal ws cs ms us A R
 
-  refuses : (k : ℕ) → refusal ≡ suc k → BandSays ws cs ms us A R (Refused (suc k)) A R
-  refuses k e = record { answer = refused_as k _ _ e; matrix = rw e; side = rw e }
+  refuses : (e : Refusal) → number_of e ≡ refusal → BandSays ws cs ms us A R (Err e) A R
+  refuses e q =
+      let none : refusal ≡ 0 → ⊥ = λ z. let k = some_number e in omega arith in
+      record { answer = not-counted e refusal n q; matrix = untouched refusal _ A none; side = untouched refusal _ R none }
 
-  pub band-stops : (K j : ℕ) (r : Filled) → set_refusal ws cs (length ms) (length us) ≡ K → r ≡ filled_of K n → r ≡ Refused j → BandSays ws cs ms us A R r A R
+  pub band-stops : (e : Refusal) → counted (Err e) ≡ answer_of (set_refusal ws cs (length ms) (length us)) (n ∷ []) → BandSays ws cs ms us A R (Err e) A R
   unfolding band_refusal
-  band-stops zero j r e a b = let z : ◌≡◌ {A = ℕ} 0 1 = cc in absurd (omega arith)
-  band-stops (suc k) j r e a b = rw a (refuses k (rw e))
+  band-stops e q = refuses e (sym ((stopped _ n e q).1 _))
 
   module _ (z : set_refusal ws cs (length ms) (length us) ≡ 0) where
-    pub band_rows-short : length A < n * band_width ws → BandSays ws cs ms us A R (Refused 6) A R
+    pub band_rows-short : length A < n * band_width ws → BandSays ws cs ms us A R (Err TooLittleRoom) A R
     unfolding band_refusal
-    band_rows-short h = refuses 5 (rw (z, lt-ltb (length A) (n * band_width ws) h))
+    band_rows-short h = refuses TooLittleRoom (rw (z, lt-ltb (length A) (n * band_width ws) h))
 
     module _ (h : n * band_width ws ≤ length A) where
-      pub band-right-short : length R < n → BandSays ws cs ms us A R (Refused 6) A R
+      pub band-right-short : length R < n → BandSays ws cs ms us A R (Err TooLittleRoom) A R
       unfolding band_refusal
-      band-right-short g = refuses 5 (rw (z, le-ltb (length A) (n * band_width ws) h, lt-ltb (length R) n g))
+      band-right-short g = refuses TooLittleRoom (rw (z, le-ltb (length A) (n * band_width ws) h, lt-ltb (length R) n g))
 
       none : n ≤ length R → refusal ≡ 0
       unfolding band_refusal
       none g = rw (z, le-ltb (length A) (n * band_width ws) h, le-ltb (length R) n g)
 
       band-done : n ≤ length R → (X Y : List Float) → X ≡ band_rows ws cs n us (band_width ws) → Y ≡ right_side ws cs n us ms
-          → BandSays ws cs ms us A R (Done n) (X ++ drop (n * band_width ws) A) (Y ++ drop n R)
+          → BandSays ws cs ms us A R (Ok n) (X ++ drop (n * band_width ws) A) (Y ++ drop n R)
       band-done g X Y e o = record {
         answer = accepted _ _ _ (none g) refl;
         matrix = rw (none g, e, matrix-length ws cs n us ms (band_width ws));
         side = rw (none g, o, side-length ws cs n us ms (band_width ws));
       }
 
-    pub band-finished : (N W : ℕ) (r : Filled) (X Y : List Float) → N ≡ n → W ≡ band_width ws → N * W ≤ length A → N ≤ length R → r ≡ Done N
-        → X ≡ band_rows ws cs N us W → Y ≡ right_side ws cs N us ms → BandSays ws cs ms us A R r (X ++ drop (N * W) A) (Y ++ drop N R)
-    band-finished N W r X Y eN eW h g o e f = rw (o, eN, eW) (band-done (rw (eN, eW) at h) (rw eN at g) X Y (rw (eN, eW) at e) (rw eN at f))
+    pub band-finished : (N W : ℕ) (X Y : List Float) → N ≡ n → W ≡ band_width ws → N * W ≤ length A → N ≤ length R
+        → X ≡ band_rows ws cs N us W → Y ≡ right_side ws cs N us ms → BandSays ws cs ms us A R (Ok N) (X ++ drop (N * W) A) (Y ++ drop N R)
+    band-finished N W X Y eN eW h g e f = rw (eN, eW) (band-done (rw (eN, eW) at h) (rw eN at g) X Y (rw (eN, eW) at e) (rw eN at f))
 
 -- ---- one outcome
 
-pub band-one : (ws : List ℕ) (cs ms us A R : List Float) (x y : Filled) (A₁ R₁ A₂ R₂ : List Float)
+pub band-one : (ws : List ℕ) (cs ms us A R : List Float) (x y : Result ℕ Refusal) (A₁ R₁ A₂ R₂ : List Float)
     → BandSays ws cs ms us A R x A₁ R₁ → BandSays ws cs ms us A R y A₂ R₂ → (x ≡ y) × (A₁ ≡ A₂) × (R₁ ≡ R₂)
 band-one ws cs ms us A R x y A₁ R₁ A₂ R₂ a b =
-    (filled-one x y (same (a.answer ∙ sym b.answer)), a.matrix ∙ sym b.matrix, a.side ∙ sym b.side)
+    (counted-one x y (same (a.answer ∙ sym b.answer)), a.matrix ∙ sym b.matrix, a.side ∙ sym b.side)

@@ -5,14 +5,11 @@ use Prim.Native.Nat.{ℕ, ◌+◌, ◌-◌, ◌*◌, ◌/◌, ◌<◌, ◌≤◌
 use native.Mathlib.Numerals.{add-one}
 use native.Mathlib.Omega.{arith}
 use lib.ListN.{length, get_or, take, drop, replicate, length-replicate, get_or-replicate, take-append-drop}
-use lib.Seq.{sets}
 use lib.Ieee.{Float, nan}
 use Rattle.lists.specs.Totals.{total}
 use Rattle.lists.specs.Build.{build}
 use Rattle.model.specs.Windows.{window_of}
 use Rattle.lists.proofs.Sums.{total-append, total-more}
-use Rattle.lists.proofs.Stores.{filled}
-use Rattle.lists.proofs.Fills.{fill_done}
 use Rattle.lists.proofs.Rows.{row_fits}
 use Rattle.lists.specs.Build.{over}
 use Rattle.floats.specs.Numbers.{nought}
@@ -71,9 +68,6 @@ module _ (widths : List ℕ) (coefs : List Float) (n : ℕ) (ivars means : List 
   pub ivars-fit : i * n + n ≤ length ivars
   ivars-fit = omega (arith, k.ivars_long, row_fits n i (length widths) h)
 
-  pub means-fit : i * n + n ≤ length means
-  means-fit = omega (arith, k.means_long, row_fits n i (length widths) h)
-
 module _ (widths : List ℕ) (coefs : List Float) (n : ℕ) (ivars means : List Float) (t w : ℕ) where
   abbrev window : ℕ → ℕ → Float → Float
   window s i = over (term (window_of widths coefs i) (part_of n ivars i) t s) n
@@ -86,10 +80,10 @@ module _ (widths : List ℕ) (coefs : List Float) (n : ℕ) (ivars means : List 
     pub row_so : row ≡ on_row n t (λ s. over (window s) i) (replicate w nought)
     pub right_so : right ≡ over side i nought
 
-  pub windowed_none : (row : List Float) → length row ≡ w → Windowed 0 (sets row 0 (replicate w nought)) nought
+  pub windowed_none : (row : List Float) → row ≡ replicate w nought → Windowed 0 row nought
   unfolding over
   windowed_none row e = record {
-    row_so = filled w nought row (omega arith) ∙ fill_done (replicate w nought) row w (omega arith) ∙ on_row-idle n t (λ s y. y) (replicate w nought) (λ s y. refl);
+    row_so = e ∙ on_row-idle n t (λ s y. y) (replicate w nought) (λ s y. refl);
     right_so = refl;
   }
 

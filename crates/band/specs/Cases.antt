@@ -1,12 +1,11 @@
 -- RULES, Cases: case 10 as a call of the band rows, by computation, and the input on which the Rust's `break` drops a window.
-use Rattle.std.specs.Prelude.{◌≡◌, refl, true, false, List, [], ◌∷◌, ◌++◌, ℕ, replicate, pos, negsuc, Float}
+use Rattle.std.specs.Prelude.{◌≡◌, refl, Ok, true, false, List, [], ◌∷◌, ◌++◌, ℕ, replicate, pos, negsuc, Float}
 use Rattle.std.specs.Float.{fin}
 use Rattle.std.specs.Float.Ieee.{of_bits, add, mul, eq}
 use Rattle.floats.specs.Numbers.{nought}
 use Rattle.model.specs.Windows.{longest}
 use Rattle.band.specs.Paper.{band_rows, right_side}
 use Rattle.band.specs.Promise.{band_refusal, BandSays}
-use Rattle.lists.specs.declared.Filled.TheVariants.{Done}
 
 -- m, m / 2 and m / 4
 abbrev pub whole : ℕ → Float
@@ -38,7 +37,7 @@ abbrev pub side : List Float
 side = halves 1 ∷ fin false 1 (pos 1) ∷ halves 7 ∷ []
 
 -- the call with rows and a right side of sevens, each one number longer than it has to be
-pub case_10 : BandSays widths coefs means ivars (replicate 10 (whole 7)) (replicate 4 (whole 7)) (Done 3) (matrix ++ (whole 7 ∷ [])) (side ++ (whole 7 ∷ []))
+pub case_10 : BandSays widths coefs means ivars (replicate 10 (whole 7)) (replicate 4 (whole 7)) (Ok 3) (matrix ++ (whole 7 ∷ [])) (side ++ (whole 7 ∷ []))
 unfolding band_refusal longest band_rows right_side add mul eq of_bits
 case_10 = record { answer = refl; matrix = refl; side = refl }
 

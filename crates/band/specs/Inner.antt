@@ -1,3 +1,4 @@
 -- What only private contracts and proofs need.
 pub mod Fits
 pub mod Passes
+pub mod Sets

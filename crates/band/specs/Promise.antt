@@ -1,5 +1,5 @@
 -- What the calls of the band rows promise.
-use Rattle.std.specs.Prelude.{◌≡◌, Bool, cond, ◌&&◌, List, [], ◌∷◌, ℕ, ◌*◌, ◌/◌, ◌%◌, length, ltb, leb, eqb, Float}
+use Rattle.std.specs.Prelude.{◌≡◌, Result, Bool, cond, ◌&&◌, List, [], ◌∷◌, ℕ, ◌*◌, ◌/◌, ◌%◌, length, ltb, leb, eqb, Float}
 use Rattle.lists.specs.Sizes.{most_frames}
 use Rattle.lists.specs.Refusals.{or_else}
 use Rattle.lists.specs.Answers.{answer_of, written}
@@ -8,8 +8,8 @@ use Rattle.model.specs.Windows.{widths_fit, window_refusal, band_width}
 use Rattle.region.specs.Region.{Region, size_of, each_region}
 use Rattle.region.specs.declared.Layout.{Layout}
 use Rattle.band.specs.Paper.{band_rows, right_side}
-use Rattle.lists.specs.Ends.{filled}
-use Rattle.lists.specs.declared.Filled.{Filled}
+use Rattle.lists.specs.Ends.{counted}
+use Rattle.lists.specs.declared.Refusal.{Refusal}
 
 -- a number a window and frame: means / windows frames
 abbrev pub frame_count : List ℕ → ℕ → ℕ
@@ -30,8 +30,8 @@ band_refusal widths coefs means ivars rows right =
     or_else (set_refusal widths coefs (length means) (length ivars)) (or_else (cond (ltb (length rows) (n * band_width widths)) 6 0) (cond (ltb (length right) n) 6 0))
 
 -- the frame count, the rows and the right side
-pub record BandSays (widths : List ℕ) (coefs means ivars rows right : List Float) (r : Filled) (rows' right' : List Float) : Type 0 where
-  pub answer : filled r ≡ answer_of (band_refusal widths coefs means ivars rows right) (frame_count widths (length means) ∷ [])
+pub record BandSays (widths : List ℕ) (coefs means ivars rows right : List Float) (r : Result ℕ Refusal) (rows' right' : List Float) : Type 0 where
+  pub answer : counted r ≡ answer_of (band_refusal widths coefs means ivars rows right) (frame_count widths (length means) ∷ [])
   pub matrix : rows' ≡ written (band_refusal widths coefs means ivars rows right) (band_rows widths coefs (frame_count widths (length means)) ivars (band_width widths)) rows
   pub side : right' ≡ written (band_refusal widths coefs means ivars rows right) (right_side widths coefs (frame_count widths (length means)) ivars means) right
 

@@ -1,27 +1,29 @@
-// One row of the band and the right side beside it, over flat lists.
-ghost use Rattle.std.specs.Prelude.{◌≡◌, ◌+◌, ◌-◌, ◌*◌, ◌/◌, ◌<◌, ◌≤◌, min, length, get_or, drop};
-ghost use Rattle.lists.specs.Build.{build};
-ghost use Rattle.lists.specs.Build.{over};
+// The rows of the band and the right side beside them, row by row over flat lists.
+ghost use Rattle.std.specs.Prelude.{◌≡◌, ◌+◌, ◌-◌, ◌*◌, ◌/◌, ◌<◌, ◌≤◌, length, get_or};
+ghost use Rattle.lists.specs.Build.{build, over};
 ghost use Rattle.floats.specs.Numbers.{nought};
-ghost use Rattle.region.specs.Rows.{elem, entry};
-ghost use Rattle.lists.specs.Parts.{part};
-ghost use Rattle.band.specs.Paper.{plus_term, term, right_term, right_sum, entry_of};
-ghost use Rattle.band.specs.Inner.Fits.{on_row, Fits};
+ghost use Rattle.region.specs.Rows.{elem};
+ghost use Rattle.band.specs.Paper.{plus_term, band_rows, right_side};
+ghost use Rattle.band.specs.Inner.Fits.{on_row};
+ghost use Rattle.band.specs.Inner.Sets.{term_in, right_in, frames, Fitting, row_in, side_in};
 
-// Element i.
-pub(crate) fn el(m: &[f64], i: usize) -> f64
-    requires { i < length m.now }
-    ensures { result ≡ elem m.now i }
-{
-    m[i]
+use super::WindowSet;
+
+// One window: its taps, and the inverse variances and means of its frames.
+#[derive(Clone, Copy)]
+struct Window<'a> {
+    taps: &'a [f64],
+    ivars: &'a [f64],
+    means: &'a [f64],
 }
 
-// n numbers from place o on.
-pub(crate) fn part_at(s: &[f64], o: usize, n: usize) -> &[f64]
-    requires { o + n ≤ length s.now }
-    ensures { (result.now ≡ part o n s.now) × (length result.now ≡ n) }
-{
-    &s[o..o + n]
+// The inverse variances and means of n frames, window after window.
+#[derive(Clone, Copy)]
+pub(crate) struct Pairs<'a> {
+    pub windows: WindowSet<'a>,
+    pub ivars: &'a [f64],
+    pub means: &'a [f64],
+    pub n: usize,
 }
 
 // y with wu times the tap c added, unless c is zero.
@@ -36,107 +38,103 @@ fn add_taps(wu: f64, taps: &[f64], row: &mut [f64])
     requires { length taps.now ≤ length row.old }
     ensures { row.new ≡ build (λ j. plus_term wu (get_or taps.now j nought) (elem row.old j)) (length row.old) }
 {
-    let mut j = 0;
-    while j < taps.len() {
-        let x = add_tap(wu, taps[j], row[j]);
-        row[j] = x;
-        j += 1;
+    for (j, tap) in taps.iter().enumerate() {
+        row[j] = add_tap(wu, *tap, row[j]);
     }
 }
 
-// How many of the taps have a column. (Where the last of them has none, the Rust breaks off before it has added the others.)
-fn in_reach(taps: usize, columns: usize) -> usize
-    ensures { result ≡ min columns taps }
-{
-    if taps <= columns {
-        return taps;
+impl Window<'_> {
+    // Row t and the right side at t with frame f's terms added.
+    fn add_frame(self, t: usize, f: usize, row: &mut [f64], right: f64) -> f64
+        requires t_in_bounds { (t < frames self) × (f < frames self) × (length self.means.now ≡ frames self) × (length self.taps.now ≤ length row.old) }
+        requires f_bound { (f ≤ t + length self.taps.now / 2)
+            × (t + length self.taps.now / 2 - f < length self.taps.now) }
+        ensures { (row.new ≡ on_row (frames self.entry) t (λ s. term_in self.entry t s f) row.old)
+            × (result ≡ right_in self.entry t f right) }
+    {
+        let k = t + self.taps.len() / 2 - f;
+        let c = self.taps[k];
+        if c == 0.0 {
+            return right;
+        }
+        let wu = c * self.ivars[f];
+        // The taps that have a column. (Where the last of them has none, the Rust breaks off before it has added the others.)
+        let m = (self.taps.len() - k).min(self.ivars.len() - t);
+        add_taps(wu, &self.taps[k..k + m], row);
+        right + wu * self.means[f]
     }
-    columns
+
+    // Row t and the right side at t with the window's terms added, over the frames that its taps reach.
+    fn add(self, t: usize, row: &mut [f64], right: f64) -> f64
+        requires { (t < frames self) × (length self.means.now ≡ frames self) × (length self.taps.now ≤ length row.old) }
+        ensures { (row.new ≡ on_row (frames self.entry) t (λ s. over (term_in self.entry t s) (frames self.entry)) row.old)
+            × (result ≡ over (right_in self.entry t) (frames self.entry) right) }
+    {
+        let last = t + self.taps.len() / 2 + 1;
+        let first = last - self.taps.len().min(last);
+        let end = self.ivars.len().min(last);
+        let mut sum = right;
+        for f in first..end {
+            sum = self.add_frame(t, f, row, sum);
+        }
+        sum
+    }
 }
 
-// Row t and the right side at t with frame f's terms of one window added.
-fn add_frame(
-    taps: &[f64],
-    ivars: &[f64],
-    means: &[f64],
-    t: usize,
-    f: usize,
-    row: &mut [f64],
-    right: f64,
-) -> f64
-    requires t_in_bounds { (t < length ivars.now) × (f < length ivars.now) × (length means.now ≡ length ivars.now) × (length taps.now ≤ length row.old) }
-    requires f_bound { (f ≤ t + length taps.now / 2) × (t + length taps.now / 2 - f < length taps.now) }
-    ensures { (row.new ≡ on_row (length ivars.now) t (λ s. term taps.now ivars.now t s f) row.old)
-        × (result ≡ right_term taps.now ivars.now means.now t f right) }
+// Each number as it is handed out.
+fn settle(row: &mut [f64])
+    ensures { row.new ≡ row.old }
 {
-    let k = t + taps.len() / 2 - f;
-    let c = el(taps, k);
-    if c == 0.0 {
-        return right;
+    for x in row.iter_mut() {
+        *x = floats::one_nan(*x);
     }
-    let wu = c * el(ivars, f);
-    let m = in_reach(taps.len() - k, ivars.len() - t);
-    add_taps(wu, part_at(taps, k, m), row);
-    right + wu * el(means, f)
 }
 
-// Row t and the right side at t with one window's terms added, over the frames that its taps reach.
-fn add_window(
-    taps: &[f64],
-    ivars: &[f64],
-    means: &[f64],
-    t: usize,
-    row: &mut [f64],
-    right: f64,
-) -> f64
-    requires { (t < length ivars.now) × (length means.now ≡ length ivars.now) × (length taps.now ≤ length row.old) }
-    ensures { (row.new ≡ on_row (length ivars.now) t (λ s. over (term taps.now ivars.now t s) (length ivars.now)) row.old)
-        × (result ≡ over (right_term taps.now ivars.now means.now t) (length ivars.now) right) }
-{
-    let last = t + taps.len() / 2 + 1;
-    let end = lists::least(ivars.len(), last);
-    let mut f = last - lists::least(taps.len(), last);
-    let mut sum = right;
-    while f < end {
-        sum = add_frame(taps, ivars, means, t, f, row, sum);
-        f += 1;
+impl Pairs<'_> {
+    // Row t and the right side at t, over all windows in order.
+    fn row(self, t: usize, row: &mut [f64]) -> f64
+        requires { (t < self.n) × Fitting self (length row.old) }
+        ensures { (row.new ≡ row_in self.entry (length row.old) t) × (result ≡ side_in self.entry t) }
+    {
+        row.fill(0.0);
+        let n = self.n;
+        let mut right = 0.0;
+        let mut o = 0;
+        let mut b = 0;
+        for width in self.windows.widths {
+            let m = *width as usize;
+            let window = Window {
+                taps: &self.windows.coefficients[o..o + m],
+                ivars: &self.ivars[b..b + n],
+                means: &self.means[b..b + n],
+            };
+            right = window.add(t, row, right);
+            o += m;
+            b += n;
+        }
+        right
     }
-    sum
-}
 
-// Row t and the right side at t, over all windows in order.
-pub(crate) fn band_row(
-    widths: &[u32],
-    coefficients: &[f64],
-    ivars: &[f64],
-    means: &[f64],
-    n: usize,
-    t: usize,
-    row: &mut [f64],
-) -> f64
-    requires { (t < n) × Fits widths.now coefficients.now n ivars.now means.now (length row.old) }
-    ensures { (row.new ≡ build (entry_of widths.now coefficients.now n ivars.now t) (length row.old))
-        × (result ≡ right_sum widths.now coefficients.now n ivars.now means.now t) }
-{
-    let w = row.len();
-    lists::fill_f64(row, w, 0.0);
-    let mut right = 0.0;
-    let mut i = 0;
-    let mut o = 0;
-    let mut b = 0;
-    while i < widths.len() {
-        let m = lists::wide(widths[i]);
-        right = add_window(
-            part_at(coefficients, o, m),
-            part_at(ivars, b, n),
-            part_at(means, b, n),
-            t,
-            row,
-            right,
-        );
-        o += m;
-        b += n;
-        i += 1;
+    // The same, to be handed out.
+    fn settled_row(self, t: usize, row: &mut [f64]) -> f64
+        requires { (t < self.n) × Fitting self (length row.old) }
+        ensures { (row.new ≡ row_in self.entry (length row.old) t) × (result ≡ side_in self.entry t) }
+    {
+        let x = self.row(t, row);
+        settle(row);
+        floats::one_nan(x)
     }
-    right
+
+    // All rows, w numbers each, and the right side.
+    pub(crate) fn write_rows(self, w: usize, rows: &mut [f64], right: &mut [f64])
+        requires { Fitting self w × (length rows.old ≡ self.n * w) × (length right.old ≡ self.n) }
+        ensures { (rows.new ≡ band_rows self.entry.windows.widths.now self.entry.windows.coefficients.now self.entry.n self.entry.ivars.now w)
+            × (right.new ≡ right_side self.entry.windows.widths.now self.entry.windows.coefficients.now self.entry.n self.entry.ivars.now self.entry.means.now) }
+    {
+        for t in 0..self.n {
+            let b = t * w;
+            let row = &mut rows[b..b + w];
+            right[t] = self.settled_row(t, row);
+        }
+    }
 }

@@ -10,6 +10,8 @@ use lib.ListN.{length, get_or, take, drop, length-append, length-drop, take-appe
 use lib.Seq.{take_all, drop-append-add, drop-drop}
 use lib.Ieee.{Float, le}
 use borrow.Rule.Slice.PartMut.{mid_len}
+use Rattle.lists.specs.declared.Refusal.{Refusal}
+use Rattle.std.proofs.Common.{Result, Ok, Err}
 use Rattle.lists.specs.Sizes.{most_frames}
 use Rattle.lists.specs.Totals.{total}
 use Rattle.lists.specs.Refusals.{or_else}
@@ -23,7 +25,6 @@ use Rattle.steps.specs.Steps.{States, size, least, Outcome}
 use Rattle.steps.proofs.Settling.{Pointwise, same, pointwise_at, pointwise_of}
 use Rattle.steps.proofs.Settling.Pointwise.{nil, cons}
 use Rattle.duration.specs.declared.Aligned.{Aligned}
-use Rattle.duration.specs.declared.Aligned.TheVariants as align
 use Rattle.duration.specs.Shortest.{refusal_of_shortest}
 use Rattle.duration.specs.Estimate.{naturals}
 use Rattle.duration.specs.Fit.{fit_to, refusal_to}
@@ -159,11 +160,15 @@ module _ (ss : States) (agree : length ss.varis ≡ size ss) (also : length ss.s
 
 -- ---- and of every outcome that the promise allows
 
-aligned_is : (r : Aligned) (n c : ℕ) → aligned r ≡ answer_of 0 (n ∷ c ∷ []) → r ≡ align.Done n c
-aligned_is (align.Done w d) n c e = let q : w ∷ d ∷ [] ≡ n ∷ c ∷ [] = ap (λ (a : Answer). a.values) e in cc
-aligned_is (align.Refused k) n c e = absurd (let q : ◌≡◌ {A = List ℕ} [] (n ∷ c ∷ []) = ap (λ (a : Answer). a.values) e in let z : ◌≡◌ {A = ℕ} 0 1 = cc in omega arith)
+aligned_is : (r : Result Aligned Refusal) (n c : ℕ) → aligned r ≡ answer_of 0 (n ∷ c ∷ []) → r ≡ Ok (record { states = n; changes = c })
+aligned_is (Ok a) n c e =
+    let q : a.states ∷ a.changes ∷ [] ≡ n ∷ c ∷ [] = ap (λ (x : Answer). x.values) e in
+    let f : a.states ≡ n = cc in
+    let g : a.changes ≡ c = cc in
+    ap (λ (m : ℕ). Ok (record { states = m; changes = a.changes })) f ∙ ap (λ (m : ℕ). Ok (record { states = n; changes = m })) g
+aligned_is (Err k) n c e = absurd (let q : ◌≡◌ {A = List ℕ} [] (n ∷ c ∷ []) = ap (λ (a : Answer). a.values) e in let z : ◌≡◌ {A = ℕ} 0 1 = cc in omega arith)
 
-module _ (ss : States) (nstate : ℕ) (ends : List Float) (out work : List ℕ) (r : Aligned) (out' work' : List ℕ) (z : (aligned r).number ≡ 0) (f : AlignSays ss nstate ends out work r out' work') where
+module _ (ss : States) (nstate : ℕ) (ends : List Float) (out work : List ℕ) (r : Result Aligned Refusal) (out' work' : List ℕ) (z : (aligned r).number ≡ 0) (f : AlignSays ss nstate ends out work r out' work') where
   abbrev gs : List Group
   gs = groups nstate 0 0 ends
 

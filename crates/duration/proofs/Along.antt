@@ -1,29 +1,29 @@
 -- A loop over labels that closes their groups, and the tail behind it.
 use mathlib.Core.Path.{◌≡◌, refl, sym, ap, ◌∙◌}
 use mathlib.Core.List.{List, [], ◌∷◌, ◌++◌, append_assoc, append-nil}
-use Prim.Native.Nat.{ℕ, suc, ◌+◌, ◌-◌, ◌*◌, ◌≤◌, ◌<◌, zero-le}
-use native.Mathlib.Nat.{zero-add, sub-zero, zero-mul, suc-mul, mul-one, mul-le-mul_left}
+use Prim.Native.Nat.{ℕ, suc, ◌+◌, ◌-◌, ◌*◌, ◌≤◌, ◌<◌}
+use native.Mathlib.Nat.{zero-mul, suc-mul, mul-one, mul-le-mul_left}
 use native.Mathlib.Numerals.{add-one}
 use native.Mathlib.Omega.{arith}
 use lib.ListN.{length, take, drop, get_or, length-append, length-drop, drop_of_length-le}
 use lib.Seq.{take_at, take-length, length-take-le}
 use lib.Ieee.{Float, nan}
-use Rattle.lists.specs.Sizes.{most_frames}
-use Rattle.lists.specs.Totals.{total}
-use Rattle.duration.specs.declared.Fitted.{Fitted}
-use Rattle.duration.specs.declared.Fitted.TheVariants as fit
+use Rattle.lists.specs.Ends.{counted}
+use Rattle.lists.specs.declared.Refusal.{Refusal}
+use Rattle.std.proofs.Common.{Result, Ok, Err}
 use Rattle.duration.specs.declared.align.End.{End}
 use Rattle.duration.specs.declared.align.End.TheVariants.{At, Open}
+use Rattle.lists.specs.Sizes.{most_frames}
+use Rattle.lists.specs.Totals.{total}
 use Rattle.duration.specs.declared.align.Label.{Label}
-use Rattle.duration.specs.declared.align.Closed.{Closed}
-use Rattle.duration.specs.declared.align.Closed.TheVariants as close
+use Rattle.duration.specs.declared.align.Grown.{Grown}
 use Rattle.steps.specs.Steps.{States, size, Outcome}
-use Rattle.lists.specs.Refusals.{or_else}
+use Rattle.lists.specs.Refusals.{number_of, or_else}
 use Rattle.duration.specs.Align.{label_of, Group, given, closing, tail, groups, states_in, target_of, fit_of, fit_along, refusal_of, refusal_along}
 use Rattle.lists.specs.Answers.{Answer, refusing}
-use Rattle.duration.specs.Promise.{fitted}
-use Rattle.duration.specs.Inner.Asked.{InPlace, Lies, closed, grown, Closes, Labelled}
-use Rattle.lists.proofs.Answers.{refused, refused_is, accepted_is}
+use Rattle.duration.specs.Inner.Asked.{InPlace, closed, grown, Closes, Labelled}
+use Rattle.lists.proofs.Answers.{refused_is, accepted_is}
+use Rattle.lists.proofs.Ends.{refuses}
 use Rattle.lists.proofs.Refusals.{or_first}
 use Rattle.duration.proofs.Groups.{groups-next}
 use Rattle.duration.proofs.Closing.{accepted-group, fit-few}
@@ -68,25 +68,8 @@ module _ (ss : States) (k : ℕ) (ends : List Float) where
     pub so_far : joined (take done work) changes (fit_along ss (left done first i) frames) ≡ outcome
     pub refused : refusal_along ss (left done first i) frames ≡ refusal
 
-  pub along : (start : List ℕ) → Labelled ss k ends start → Along start start 0 0 0 0 0
-  along start l =
-      record {
-        passed = zero-le;
-        place = zero-add _ ∙ ap (λ (n : ℕ). n * k) (sub-zero (length ends)) ∙ l.cover;
-        order = zero-le;
-        few = zero-le;
-        little = zero-le;
-        long = refl;
-        so_far = ap (λ (n : ℕ). record { durations = outcome.durations; changes = n }) (zero-add outcome.changes);
-        refused = refl;
-      }
-
   module _ (start work : List ℕ) (done first frames changes i : ℕ) (l : Labelled ss k ends start) (a : Along start work done first frames changes i) where
-    -- a group that begins where the closed states end
-    pub lies : (to : ℕ) (end : End) → done ≤ to → to ≤ size ss → Lies ss work (record { from = done; to = to; end = end }) frames
-    lies to end o h = record { lists = record { few = l.lists.few; varis = l.lists.varis; shortest = l.lists.shortest; workspace = a.long ∙ l.lists.workspace }; low = l.low; order = o; inside = h; few = a.few }
-
-    -- such a group is the first of those that are left, and was closed with these values
+    -- a group that begins where the closed states end is the first of those that are left, and was closed with these values
     module _ (to : ℕ) (end : End) (later : List Group) (p : left done first i ≡ record { from = done; to = to; end = end } ∷ later)
         (value : ℕ) (values : List ℕ) (answer : Answer) (work' : List ℕ) (f : Closes ss (record { from = done; to = to; end = end }) frames work (value ∷ values) answer work') where
       abbrev group : Group
@@ -98,13 +81,13 @@ module _ (ss : States) (k : ℕ) (ends : List Float) where
       abbrev more : ℕ
       more = (fit_of ss group frames).changes
 
-      group-refused : (n : ℕ) → answer ≡ refusing n → (w : List ℕ) → InPlace refusal outcome (fit.Refused n) w
+      group-refused : (m : Refusal) → answer ≡ refusing (number_of m) → (w : List ℕ) → InPlace refusal outcome (Err m) w
       unfolding refusal_along
-      group-refused n e w =
-          let s = refused_is n (refusal_of ss group frames) value values (sym e ∙ f.answer) in
-          let y : refusal ≡ n = sym a.refused ∙ ap (λ (gs : List Group). refusal_along ss gs frames) p ∙ or_first (refusal_of ss group frames) _ s.1 ∙ s.0 in
+      group-refused m e w =
+          let s = refused_is (number_of m) (refusal_of ss group frames) value values (sym e ∙ f.answer) in
+          let y : refusal ≡ number_of m = sym a.refused ∙ ap (λ (gs : List Group). refusal_along ss gs frames) p ∙ or_first (refusal_of ss group frames) _ s.1 ∙ s.0 in
           let z : refusal ≡ 0 → ⊥ = λ v. s.1 (s.0 ∙ sym y ∙ v) in
-          record { answer = ap refusing (sym y) ∙ refused refusal _ z; output = λ v. absurd (z v) }
+          record { answer = refuses m refusal _ (sym y); output = λ v. absurd (z v) }
 
       -- it was accepted
       module _ (z : refusal_of ss group frames ≡ 0) where
@@ -139,25 +122,25 @@ module _ (ss : States) (k : ℕ) (ends : List Float) where
       the_tail = ap (λ (es : List Float). groups k done first es) (drop_of_length-le ends h)
 
       module _ (work' : List ℕ) (n : length work' ≡ length work) where
-        tail-done : (c : ℕ) → Closes ss (tail done first) frames work (changes ∷ []) (fitted (fit.Done c)) work' → InPlace refusal outcome (fit.Done c) work'
+        tail-done : (c : ℕ) → Closes ss (tail done first) frames work (changes ∷ []) (counted (Ok c)) work' → InPlace refusal outcome (Ok c) work'
         unfolding fit_along refusal_along
         tail-done c f =
-            let q = accepted_is (fitted (fit.Done c)) (refusal_of ss (tail done first) frames) (changes ∷ []) f.answer refl in
+            let q = accepted_is (counted (Ok c)) (refusal_of ss (tail done first) frames) (changes ∷ []) f.answer refl in
             let v : c ∷ [] ≡ changes ∷ [] = q.1 in
             let e : c ≡ changes = cc in
-            let o = so_far_is first Open [] the_tail changes [] (fitted (fit.Done c)) work' f q.0 in
+            let o = so_far_is first Open [] the_tail changes [] (counted (Ok c)) work' f q.0 in
             let sum : outcome.changes ≡ c = sym (ap (λ (x : Outcome). x.changes) o) ∙ (let m : changes + 0 + 0 ≡ c = omega arith in m) in
-            let y : refusal ≡ 0 = sym (refused-later first Open [] the_tail changes [] (fitted (fit.Done c)) work' f q.0) in
+            let y : refusal ≡ 0 = sym (refused-later first Open [] the_tail changes [] (counted (Ok c)) work' f q.0) in
             let whole : first ≡ length work = omega (arith, all-passed, a.long, l.lists.workspace) in
-            let w = front first Open [] the_tail changes [] (fitted (fit.Done c)) work' f q.0 n a.order (omega arith) in
+            let w = front first Open [] the_tail changes [] (counted (Ok c)) work' f q.0 n a.order (omega arith) in
             record {
               answer = rw (y, sum);
               output = λ q. sym (take-length work') ∙ ap (λ (m : ℕ). take m work') (n ∙ sym whole) ∙ w ∙ sym (append-nil _) ∙ ap (λ (x : Outcome). x.durations) o;
             }
 
-        pub along-done : (r : Fitted) → Closes ss (tail done first) frames work (changes ∷ []) (fitted r) work' → InPlace refusal outcome r work'
-        along-done (fit.Done c) f = tail-done c f
-        along-done (fit.Refused m) f = group-refused first Open [] the_tail changes [] (fitted (fit.Refused m)) work' f m refl work'
+        pub along-done : (r : Result ℕ Refusal) → Closes ss (tail done first) frames work (changes ∷ []) (counted r) work' → InPlace refusal outcome r work'
+        along-done (Ok c) f = tail-done c f
+        along-done (Err m) f = group-refused first Open [] the_tail changes [] (counted (Err m)) work' f m refl work'
 
     module _ (h : i < length ends) (label : Label) (e : label ≡ label_of first (get_or ends i nan)) where
       next : label.first + k ≡ first + k
@@ -165,9 +148,6 @@ module _ (ss : States) (k : ℕ) (ends : List Float) where
 
       room : label.first + k + (length ends - (i + 1)) * k ≡ size ss
       room = rw next (advance (length ends) i first k (size ss) h a.place)
-
-      pub next_in : label.first + k ≤ 4096
-      next_in = omega (arith, room, l.lists.few)
 
       -- what is left from here on
       here : (end : End) → label.end ≡ end → left done first i ≡ closing done (label.first + k) end (λ d. groups k d (label.first + k) (drop (i + 1) ends))
@@ -187,43 +167,36 @@ module _ (ss : States) (k : ℕ) (ends : List Float) where
           }
 
       module _ (end : Float) (q : label.end ≡ At end) where
-        pub group-lies : Lies ss work (given done (label.first + k) end) frames
-        group-lies = lies (label.first + k) (At end) (omega (arith, next, a.order)) (omega (arith, room))
-
-        -- and has a state
-        pub group-some : done < label.first + k
-        group-some = omega (arith, next, a.order, l.some)
-
-        module _ (r : Closed) (work' : List ℕ) (f : Closes ss (given done (label.first + k) end) frames work (grown ss (given done (label.first + k) end) frames) (closed r) work') where
+        module _ (r : Result Grown Refusal) (work' : List ℕ) (f : Closes ss (given done (label.first + k) end) frames work (grown ss (given done (label.first + k) end) frames) (closed r) work') where
           abbrev later : List Group
           later = left (label.first + k) (label.first + k) (i + 1)
 
-          along-refused : (m n : ℕ) → r ≡ close.Refused m → n ≡ (closed r).number → (w : List ℕ) → InPlace refusal outcome (fit.Refused n) w
-          along-refused m n b e w = group-refused (label.first + k) (At end) later (here (At end) q) _ _ (closed r) work' f n (ap closed b ∙ ap refusing (sym (e ∙ ap (λ (x : Closed). (closed x).number) b))) w
+          along-refused : (m : Refusal) → r ≡ Err m → (w : List ℕ) → InPlace refusal outcome (Err m) w
+          along-refused m b w = group-refused (label.first + k) (At end) later (here (At end) q) _ _ (closed r) work' f m (ap closed b) w
 
-          module _ (c s : ℕ) (b : r ≡ close.Grown c s) where
+          module _ (u : Grown) (b : r ≡ Ok u) where
             abbrev own : Outcome
             own = fit_of ss (given done (label.first + k) end) frames
 
-            accepted : (refusal_of ss (given done (label.first + k) end) frames ≡ 0) × ((closed (close.Grown c s)).values ≡ own.changes ∷ total own.durations ∷ [])
-            accepted = accepted_is (closed (close.Grown c s)) (refusal_of ss (given done (label.first + k) end) frames) _ (ap closed (sym b) ∙ f.answer) refl
+            accepted : (refusal_of ss (given done (label.first + k) end) frames ≡ 0) × ((closed (Ok u)).values ≡ own.changes ∷ total own.durations ∷ [])
+            accepted = accepted_is (closed (Ok u)) (refusal_of ss (given done (label.first + k) end) frames) _ (ap closed (sym b) ∙ f.answer) refl
 
-            changes_is : c ≡ own.changes
+            changes_is : u.changes ≡ own.changes
             changes_is = let v = accepted.1 in cc
 
-            frames_is : s ≡ total own.durations
+            frames_is : u.frames ≡ total own.durations
             frames_is = let v = accepted.1 in cc
 
-            grown-frames : frames + s ≤ most_frames
+            grown-frames : frames + u.frames ≤ most_frames
             grown-frames = rw frames_is (accepted-group ss (given done (label.first + k) end) frames accepted.0).1
 
-            more-few : c ≤ most_frames
+            more-few : u.changes ≤ most_frames
             more-few = rw changes_is (fit-few (states_in (given done (label.first + k) end) ss) (target_of end frames))
 
-            grown-changes : changes + c ≤ 268435456
+            grown-changes : changes + u.changes ≤ 268435456
             grown-changes = omega (arith, more-few, a.little, labels-few (length ends) k (size ss) l.cover l.some, l.lists.few)
 
-            along-grown : length work' ≡ length work → Along start work' (label.first + k) (label.first + k) (frames + s) (changes + c) (i + 1)
+            along-grown : length work' ≡ length work → Along start work' (label.first + k) (label.first + k) (frames + u.frames) (changes + u.changes) (i + 1)
             along-grown n =
                 let tk = front (label.first + k) (At end) later (here (At end) q) _ _ (closed r) work' f accepted.0 n (omega (arith, next, a.order)) (omega (arith, room, a.long, l.lists.workspace)) in
                 record {
@@ -238,7 +211,7 @@ module _ (ss : States) (k : ℕ) (ends : List Float) where
                 }
 
   -- a turn of the loop at which a group was closed, with the answer r
-  pub record Turn (start work : List ℕ) (done first frames changes i : ℕ) (label : Label) (end : Float) (r : Closed) (work' : List ℕ) : Type 0 where
+  pub record Turn (start work : List ℕ) (done first frames changes i : ℕ) (label : Label) (end : Float) (r : Result Grown Refusal) (work' : List ℕ) : Type 0 where
     pub labels : Labelled ss k ends start
     pub before : Along start work done first frames changes i
     pub here : i < length ends
@@ -246,16 +219,16 @@ module _ (ss : States) (k : ℕ) (ends : List Float) where
     pub ends_at : label.end ≡ At end
     pub closes : Closes ss (given done (label.first + k) end) frames work (grown ss (given done (label.first + k) end) frames) (closed r) work'
 
-  module _ {start work : List ℕ} {done first frames changes i : ℕ} {label : Label} {end : Float} {r : Closed} {work' : List ℕ} (t : Turn start work done first frames changes i label end r work') where
-    pub turn-refused : (m n : ℕ) → r ≡ close.Refused m → n ≡ (closed r).number → (w : List ℕ) → InPlace refusal outcome (fit.Refused n) w
+  module _ {start work : List ℕ} {done first frames changes i : ℕ} {label : Label} {end : Float} {r : Result Grown Refusal} {work' : List ℕ} (t : Turn start work done first frames changes i label end r work') where
+    pub turn-refused : (m : Refusal) → r ≡ Err m → (w : List ℕ) → InPlace refusal outcome (Err m) w
     turn-refused = along-refused start work done first frames changes i t.labels t.before t.here label t.made end t.ends_at r work' t.closes
 
-    module _ (c s : ℕ) (b : r ≡ close.Grown c s) where
-      pub turn-frames : frames + s ≤ most_frames
-      turn-frames = grown-frames start work done first frames changes i t.labels t.before t.here label t.made end t.ends_at r work' t.closes c s b
+    module _ (u : Grown) (b : r ≡ Ok u) where
+      pub turn-frames : frames + u.frames ≤ most_frames
+      turn-frames = grown-frames start work done first frames changes i t.labels t.before t.here label t.made end t.ends_at r work' t.closes u b
 
-      pub turn-changes : changes + c ≤ 268435456
-      turn-changes = grown-changes start work done first frames changes i t.labels t.before t.here label t.made end t.ends_at r work' t.closes c s b
+      pub turn-changes : changes + u.changes ≤ 268435456
+      turn-changes = grown-changes start work done first frames changes i t.labels t.before t.here label t.made end t.ends_at r work' t.closes u b
 
-      pub turn-grown : length work' ≡ length work → Along start work' (label.first + k) (label.first + k) (frames + s) (changes + c) (i + 1)
-      turn-grown = along-grown start work done first frames changes i t.labels t.before t.here label t.made end t.ends_at r work' t.closes c s b
+      pub turn-grown : length work' ≡ length work → Along start work' (label.first + k) (label.first + k) (frames + u.frames) (changes + u.changes) (i + 1)
+      turn-grown = along-grown start work done first frames changes i t.labels t.before t.here label t.made end t.ends_at r work' t.closes u b

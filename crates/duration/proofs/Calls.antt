@@ -9,33 +9,35 @@ use lib.ListN.{length, get_or, set, take, drop, replicate, length-append, length
 use lib.Ieee.{Float}
 use lib.Seq.{sets, take_at, drop_at}
 use borrow.Author.Tests.{ne_eqb}
+use Rattle.lists.specs.Ends.{counted}
+use Rattle.lists.specs.declared.Refusal.{Refusal}
+use Rattle.std.proofs.Common.{Result, Ok, Err}
+use Rattle.lists.specs.Refusals.{number_of}
+use Rattle.lists.proofs.Ends.{some_number, refuses, answered-one, counted-one}
 use Rattle.lists.proofs.Stores.{filled, copied, Storing, storing, storing-read, copying_next, copying_done, filling-next, filling-done}
-use Rattle.lists.proofs.Answers.{refused, Same, same, untouched, refused_is, accepted_is}
-use Rattle.duration.specs.declared.Fitted.{Fitted}
-use Rattle.duration.specs.declared.Fitted.TheVariants as fit
+use Rattle.lists.proofs.Answers.{Same, same, untouched, refused_is, accepted_is}
 use Rattle.duration.specs.declared.Aligned.{Aligned}
-use Rattle.duration.specs.declared.Aligned.TheVariants as align
 use Rattle.lists.specs.Refusals.{or_else}
-use Rattle.duration.specs.Inner.Asked.{output_after, HandsOut}
+use Rattle.duration.specs.Inner.Asked.{HandsOut}
 use Rattle.lists.specs.Answers.{Answer, refusing, answer_of}
 use Rattle.steps.specs.Steps.{States}
-use Rattle.duration.specs.Promise.{fitted, aligned, clears, work_of, Says, FitSays, SpeedSays, AlignOnTime}
-
-pub handed : (r : Fitted) (c : ℕ) (new out out' : List ℕ) → r ≡ fit.Done c → out' ≡ new → out' ≡ output_after r new out
-handed r c new out out' e f = rw e f
+use Rattle.duration.specs.Promise.{aligned, clears, work_of, Says, FitSays, SpeedSays, AlignOnTime}
 
 module _ (n : ℕ) (values new out work : List ℕ) where
   -- by the lists, with b, whatever the shortest durations would be refused with
-  pub says-early : (b s k : ℕ) → (b ≡ 0 → ⊥) → b ≤ 6 → Says (or_else (or_else b s) k) values new n out work (refusing b) out work
+  says-early : (b s k : ℕ) → (b ≡ 0 → ⊥) → b ≤ 6 → Says (or_else (or_else b s) k) values new n out work (refusing b) out work
   unfolding work_of
   says-early zero s k z h = absurd (z refl)
   says-early (suc b) s k z h =
       record { answer = refl; output = refl; workspace = rw (ne_eqb (suc b) 0 z, ne_eqb (suc b) 7 (λ q. omega arith), ne_eqb (suc b) 8 (λ q. omega arith)) }
 
+  pub says-refused : (e : Refusal) (b s k : ℕ) → number_of e ≡ b → b ≤ 6 → Says (or_else (or_else b s) k) values new n out work (refusing (number_of e)) out work
+  says-refused e b s k q h = rw q (says-early b s k (λ z. let g = some_number e in omega arith) h)
+
   -- by these, where the lists are taken
-  pub says-unfit : (b s k : ℕ) → b ≡ 0 → s ≡ 15 → Says (or_else (or_else b s) k) values new n out work (refusing 15) out work
+  pub says-unfit : (b s k j : ℕ) → b ≡ 0 → s ≡ 15 → j ≡ s → Says (or_else (or_else b s) k) values new n out work (refusing j) out work
   unfolding work_of
-  says-unfit b s k z e = rw (z, e) (record { answer = refl; output = refl; workspace = refl })
+  says-unfit b s k j z e f = rw (z, f, e) (record { answer = refl; output = refl; workspace = refl })
 
 -- ---- a loop that moves n numbers from the front of one list to that of another has moved i
 
@@ -90,55 +92,45 @@ module _ (n k : ℕ) (new out work w : List ℕ) (long : length w ≡ n) (late :
       }
 
   -- a fit's outcome, handed out
-  pub says-handed : (v : ℕ) (r s : Fitted) (out' work' : List ℕ) → fitted r ≡ answer_of k (v ∷ []) → (k ≡ 0 → w ≡ new) → n ≤ length out → HandsOut r n out (w ++ drop n work) s out' work' → Says (or_else 0 k) (v ∷ []) new n out work (fitted s) out' work'
-  says-handed v (fit.Done c) s out' work' e t room h = says-whole (v ∷ []) (fitted s) out' work' (ap fitted h.same ∙ e) (ap (λ (x : Fitted). (fitted x).number) h.same) room t h.output h.workspace
-  says-handed v (fit.Refused m) s out' work' e t room h = rw h.output (says-late v [] m (fitted s) work' (ap fitted h.same) (ap fitted h.same ∙ e) h.workspace)
+  pub says-handed : (v : ℕ) (r s : Result ℕ Refusal) (out' work' : List ℕ) → counted r ≡ answer_of k (v ∷ []) → (k ≡ 0 → w ≡ new) → n ≤ length out → HandsOut r n out (w ++ drop n work) s out' work' → Says (or_else 0 k) (v ∷ []) new n out work (counted s) out' work'
+  says-handed v (Ok c) s out' work' e t room h = says-whole (v ∷ []) (counted s) out' work' (ap counted h.same ∙ e) (ap (λ (x : Result ℕ Refusal). (counted x).number) h.same) room t h.output h.workspace
+  says-handed v (Err m) s out' work' e t room h = rw h.output (says-late v [] (number_of m) (counted s) work' (ap counted h.same) (ap counted h.same ∙ e) h.workspace)
 
 -- an alignment's answer from that of its fit: n durations, and u changes
-module _ (k n u : ℕ) (new out work : List ℕ) (s : Fitted) (out' work' : List ℕ) (f : Says k (u ∷ []) new n out work (fitted s) out' work') where
-  pub aligned-done : (c : ℕ) → s ≡ fit.Done c → Says k (n ∷ u ∷ []) new n out work (aligned (align.Done n c)) out' work'
+module _ (k n u : ℕ) (new out work : List ℕ) (s : Result ℕ Refusal) (out' work' : List ℕ) (f : Says k (u ∷ []) new n out work (counted s) out' work') where
+  pub aligned-done : (c : ℕ) → s ≡ Ok c → Says k (n ∷ u ∷ []) new n out work (aligned (Ok (record { states = n; changes = c }))) out' work'
   aligned-done c e =
-      let y = accepted_is (fitted (fit.Done c)) k _ (ap fitted (sym e) ∙ f.answer) refl in
+      let y = accepted_is (counted (Ok c)) k _ (ap counted (sym e) ∙ f.answer) refl in
       let q : c ∷ [] ≡ u ∷ [] = y.1 in
       let v : c ≡ u = cc in
       record { answer = rw (y.0, v); output = f.output; workspace = f.workspace }
 
-  pub aligned-refused : (m j : ℕ) → s ≡ fit.Refused m → j ≡ (fitted s).number → Says k (n ∷ u ∷ []) new n out work (aligned (align.Refused j)) out' work'
-  aligned-refused m j e q =
-      let y = refused_is m k u [] (ap fitted (sym e) ∙ f.answer) in
-      let v : j ≡ k = q ∙ ap (λ (x : Fitted). (fitted x).number) e ∙ sym y.0 in
-      record { answer = ap refusing v ∙ refused k _ y.1; output = f.output; workspace = f.workspace }
+  pub aligned-refused : (m : Refusal) → s ≡ Err m → Says k (n ∷ u ∷ []) new n out work (aligned (Err m)) out' work'
+  aligned-refused m e =
+      let y = refused_is (number_of m) k u [] (ap counted (sym e) ∙ f.answer) in
+      record { answer = refuses m k (n ∷ u ∷ []) (sym y.0); output = f.output; workspace = f.workspace }
 
 -- ---- two outcomes of one call are equal
 
-fitted-one : (r s : Fitted) → Same (fitted r) (fitted s) → r ≡ s
-fitted-one (fit.Done c) (fit.Done d) e = let q = e.1 in cc
-fitted-one (fit.Done c) (fit.Refused k) e = absurd (let q = e.1 in let z : ◌≡◌ {A = ℕ} 0 1 = cc in omega arith)
-fitted-one (fit.Refused k) (fit.Done d) e = absurd (let q = e.1 in let z : ◌≡◌ {A = ℕ} 0 1 = cc in omega arith)
-fitted-one (fit.Refused k) (fit.Refused l) e = ap fit.Refused e.0
-
-aligned-one : (r s : Aligned) → Same (aligned r) (aligned s) → r ≡ s
-aligned-one (align.Done v c) (align.Done w d) e = let q = e.1 in cc
-aligned-one (align.Done v c) (align.Refused k) e = absurd (let q = e.1 in let z : ◌≡◌ {A = ℕ} 0 1 = cc in omega arith)
-aligned-one (align.Refused k) (align.Done w d) e = absurd (let q = e.1 in let z : ◌≡◌ {A = ℕ} 0 1 = cc in omega arith)
-aligned-one (align.Refused k) (align.Refused l) e = ap align.Refused e.0
+aligned-one : (r s : Result Aligned Refusal) → Same (aligned r) (aligned s) → r ≡ s
+aligned-one = answered-one (λ a. a.states ∷ a.changes ∷ []) (λ a b e. let f : a.states ≡ b.states = cc in let g : a.changes ≡ b.changes = cc in ap (λ (n : ℕ). record { states = n; changes = a.changes }) f ∙ ap (λ (n : ℕ). record { states = b.states; changes = n }) g)
 
 module _ (k : ℕ) (values new : List ℕ) (n : ℕ) (out work o₁ o₂ w₁ w₂ : List ℕ) where
   says-one : (a b : Answer) → Says k values new n out work a o₁ w₁ → Says k values new n out work b o₂ w₂ → (a ≡ b) × (o₁ ≡ o₂) × (w₁ ≡ w₂)
   says-one a b f g = (f.answer ∙ sym g.answer, f.output ∙ sym g.output, f.workspace ∙ sym g.workspace)
 
-  fitted-says-one : (r s : Fitted) → Says k values new n out work (fitted r) o₁ w₁ → Says k values new n out work (fitted s) o₂ w₂ → (r ≡ s) × (o₁ ≡ o₂) × (w₁ ≡ w₂)
-  fitted-says-one r s f g = let h = says-one (fitted r) (fitted s) f g in (fitted-one r s (same h.0), h.1, h.2)
+  fitted-says-one : (r s : Result ℕ Refusal) → Says k values new n out work (counted r) o₁ w₁ → Says k values new n out work (counted s) o₂ w₂ → (r ≡ s) × (o₁ ≡ o₂) × (w₁ ≡ w₂)
+  fitted-says-one r s f g = let h = says-one (counted r) (counted s) f g in (counted-one r s (same h.0), h.1, h.2)
 
-  aligned-says-one : (r s : Aligned) → Says k values new n out work (aligned r) o₁ w₁ → Says k values new n out work (aligned s) o₂ w₂ → (r ≡ s) × (o₁ ≡ o₂) × (w₁ ≡ w₂)
+  aligned-says-one : (r s : Result Aligned Refusal) → Says k values new n out work (aligned r) o₁ w₁ → Says k values new n out work (aligned s) o₂ w₂ → (r ≡ s) × (o₁ ≡ o₂) × (w₁ ≡ w₂)
   aligned-says-one r s f g = let h = says-one (aligned r) (aligned s) f g in (aligned-one r s (same h.0), h.1, h.2)
 
-module _ (ss : States) (x : Float) (out work o₁ o₂ w₁ w₂ : List ℕ) (r s : Fitted) where
+module _ (ss : States) (x : Float) (out work o₁ o₂ w₁ w₂ : List ℕ) (r s : Result ℕ Refusal) where
   pub fit-says-one : FitSays ss x out work r o₁ w₁ → FitSays ss x out work s o₂ w₂ → (r ≡ s) × (o₁ ≡ o₂) × (w₁ ≡ w₂)
   fit-says-one f g = fitted-says-one _ _ _ _ out work o₁ o₂ w₁ w₂ r s f g
 
   pub speed-says-one : SpeedSays ss x out work r o₁ w₁ → SpeedSays ss x out work s o₂ w₂ → (r ≡ s) × (o₁ ≡ o₂) × (w₁ ≡ w₂)
   speed-says-one f g = fitted-says-one _ _ _ _ out work o₁ o₂ w₁ w₂ r s f g
 
-pub align_says_one : (ss : States) (nstate : ℕ) (ends : List Float) (out work o₁ o₂ w₁ w₂ : List ℕ) (r s : Aligned) → AlignOnTime ss nstate ends out work r o₁ w₁ → AlignOnTime ss nstate ends out work s o₂ w₂ → (r ≡ s) × (o₁ ≡ o₂) × (w₁ ≡ w₂)
+pub align_says_one : (ss : States) (nstate : ℕ) (ends : List Float) (out work o₁ o₂ w₁ w₂ : List ℕ) (r s : Result Aligned Refusal) → AlignOnTime ss nstate ends out work r o₁ w₁ → AlignOnTime ss nstate ends out work s o₂ w₂ → (r ≡ s) × (o₁ ≡ o₂) × (w₁ ≡ w₂)
 align_says_one ss nstate ends out work o₁ o₂ w₁ w₂ r s f g = aligned-says-one _ _ _ _ out work o₁ o₂ w₁ w₂ r s f.says g.says

@@ -9,25 +9,27 @@ use lib.Dec.{ltb}
 use lib.ListN.{length, take, drop, length-take, take-append-drop}
 use lib.Ieee.{Float}
 use borrow.Author.Tests.{lt-ltb, le-ltb, ltb-false}
+use Rattle.lists.specs.Ends.{counted}
+use Rattle.lists.specs.declared.Refusal.TheVariants.{EstimateTooLong}
+use Rattle.lists.specs.declared.Refusal.{Refusal}
+use Rattle.std.proofs.Common.{Result, Ok, Err}
+use Rattle.duration.specs.declared.align.End.{End}
+use Rattle.duration.specs.declared.align.End.TheVariants.{At, Open}
 use Rattle.lists.specs.Sizes.{most_frames}
 use Rattle.lists.specs.Totals.{total}
 use Rattle.lists.proofs.Numbers.{le_or_lt}
 use Rattle.lists.proofs.Refusals.{or_first, or_none}
-use Rattle.duration.specs.declared.Fitted.{Fitted}
-use Rattle.duration.specs.declared.Fitted.TheVariants as fit
-use Rattle.duration.specs.declared.align.Closed.TheVariants as close
-use Rattle.duration.specs.declared.align.End.{End}
-use Rattle.duration.specs.declared.align.End.TheVariants.{At, Open}
 use Rattle.steps.specs.Steps.{States, size, least, Outcome, unchanged}
 use Rattle.floats.specs.Numbers.{nought}
 use Rattle.duration.specs.Estimate.{naturals}
 use Rattle.duration.specs.Fit.{at_shortest, fit_to, refusal_to}
 use Rattle.lists.specs.Refusals.{or_else}
 use Rattle.duration.specs.Align.{Group, given, tail, states_in, target_of, fit_of, refusal_to_end, refusal_of, refusal_along}
-use Rattle.duration.specs.Promise.{fitted, clears}
+use Rattle.duration.specs.Promise.{clears}
 use Rattle.duration.specs.Inner.Asked.{InPlace, closed, grown, Closes}
-use Rattle.lists.specs.Answers.{refusing}
-use Rattle.lists.proofs.Answers.{refused, refused_is, accepted_is}
+use Rattle.lists.specs.Refusals.{number_of}
+use Rattle.lists.proofs.Answers.{refused_is, accepted_is}
+use Rattle.lists.proofs.Ends.{refuses}
 use Rattle.steps.proofs.Stepping.{settle-few}
 use Rattle.duration.proofs.Refusals.{cond-none}
 use Rattle.duration.proofs.Estimates.{length-estimates}
@@ -43,32 +45,31 @@ module _ (ss : States) (from to : ℕ) (x : Float) (frames : ℕ) (work w work' 
   abbrev own : ℕ
   own = refusal_to (states_in g ss) (target_of x frames)
 
-  module _ (r : Fitted) (f : InPlace own (fit_of ss g frames) r w) where
-    pub close_refused : (m k : ℕ) → r ≡ fit.Refused m → k ≡ (fitted r).number → Closes ss g frames work (grown ss g frames) (closed (close.Refused k)) work'
+  module _ (r : Result ℕ Refusal) (f : InPlace own (fit_of ss g frames) r w) where
+    pub close_refused : (m : Refusal) → r ≡ Err m → Closes ss g frames work (grown ss g frames) (closed (Err m)) work'
     unfolding refusal_of
-    close_refused m k e q =
-        let s = refused_is m own _ [] (ap fitted (sym e) ∙ f.answer) in
+    close_refused m e =
+        let s = refused_is (number_of m) own _ [] (ap counted (sym e) ∙ f.answer) in
         let o : refusal_of ss g frames ≡ own = or_first own _ s.1 in
         let z : refusal_of ss g frames ≡ 0 → ⊥ = λ q. s.1 (sym o ∙ q) in
-        let n : k ≡ refusal_of ss g frames = q ∙ ap (λ (x : Fitted). (fitted x).number) e ∙ sym (o ∙ s.0) in
-        record { answer = ap refusing n ∙ refused (refusal_of ss g frames) _ z; output = λ q. absurd (z q) }
+        record { answer = refuses m (refusal_of ss g frames) (grown ss g frames) (sym (o ∙ s.0)); output = λ q. absurd (z q) }
 
     -- it comes to the larger of its target and the sum of its shortest
-    module _ (c s : ℕ) (e : r ≡ fit.Done c) (some : 0 < size (states_in g ss)) (agree : length (states_in g ss).shortest ≡ size (states_in g ss)) (sum : s ≡ max (target_of x frames) (least (states_in g ss))) where
-      done : (own ≡ 0) × ((fitted (fit.Done c)).values ≡ (fit_of ss g frames).changes ∷ [])
-      done = accepted_is (fitted (fit.Done c)) own _ (ap fitted (sym e) ∙ f.answer) refl
+    module _ (c s : ℕ) (e : r ≡ Ok c) (some : 0 < size (states_in g ss)) (agree : length (states_in g ss).shortest ≡ size (states_in g ss)) (sum : s ≡ max (target_of x frames) (least (states_in g ss))) where
+      done : (own ≡ 0) × ((counted (Ok c)).values ≡ (fit_of ss g frames).changes ∷ [])
+      done = accepted_is (counted (Ok c)) own _ (ap counted (sym e) ∙ f.answer) refl
 
       sum_is : s ≡ total (fit_of ss g frames).durations
       sum_is = sum ∙ sym (fit-total (states_in g ss) (target_of x frames) some agree done.0)
 
-      pub close_long : most_frames < frames + s → Closes ss g frames work (grown ss g frames) (closed (close.Refused 8)) work'
+      pub close_long : most_frames < frames + s → Closes ss g frames work (grown ss g frames) (closed (Err EstimateTooLong)) work'
       unfolding refusal_of
       close_long h =
           let l : most_frames < frames + total (fit_of ss g frames).durations = rw (← sum_is) h in
           let o : refusal_of ss g frames ≡ 8 = rw (done.0, lt-ltb most_frames (frames + total (fit_of ss g frames).durations) l) in
           record { answer = rw o; output = λ q. absurd (omega arith) }
 
-      pub close_grown : frames + s ≤ most_frames → work' ≡ take from work ++ (w ++ drop to work) → Closes ss g frames work (grown ss g frames) (closed (close.Grown c s)) work'
+      pub close_grown : frames + s ≤ most_frames → work' ≡ take from work ++ (w ++ drop to work) → Closes ss g frames work (grown ss g frames) (closed (Ok (record { changes = c; frames = s }))) work'
       unfolding refusal_of
       close_grown h p =
           let l : frames + total (fit_of ss g frames).durations ≤ most_frames = rw (← sum_is) h in
@@ -94,19 +95,19 @@ module _ (ss : States) (from to frames changes : ℕ) (work : List ℕ) where
   unfolding refusal_of
   one_test = over-either (total naturals_of) (frames + total naturals_of) (omega arith)
 
-  pub tail-long : (work' : List ℕ) → most_frames < frames + total naturals_of → Closes ss (tail from to) frames work (changes ∷ []) (fitted (fit.Refused 8)) work'
+  pub tail-long : (work' : List ℕ) → most_frames < frames + total naturals_of → Closes ss (tail from to) frames work (changes ∷ []) (counted (Err EstimateTooLong)) work'
   tail-long work' h =
       let o : refusal_of ss (tail from to) frames ≡ 8 = one_test ∙ rw (lt-ltb most_frames (frames + total naturals_of) h) in
       record { answer = rw o; output = λ q. absurd (omega arith) }
 
   module _ (few : frames + total naturals_of ≤ most_frames) where
-    pub tail-fits : (w work' : List ℕ) → w ≡ naturals_of → work' ≡ take from work ++ (w ++ drop to work) → Closes ss (tail from to) frames work (changes ∷ []) (fitted (fit.Done changes)) work'
+    pub tail-fits : (w work' : List ℕ) → w ≡ naturals_of → work' ≡ take from work ++ (w ++ drop to work) → Closes ss (tail from to) frames work (changes ∷ []) (counted (Ok changes)) work'
     tail-fits w work' e p =
         let o : refusal_of ss (tail from to) frames ≡ 0 = one_test ∙ rw (le-ltb most_frames (frames + total naturals_of) few) in
         record { answer = rw o; output = λ q. rw (← e) p }
 
 -- a tail of no state
-pub tail_none : (ss : States) (from to frames changes : ℕ) (work : List ℕ) → from ≡ to → frames ≤ most_frames → Closes ss (tail from to) frames work (changes ∷ []) (fitted (fit.Done changes)) work
+pub tail_none : (ss : States) (from to frames changes : ℕ) (work : List ℕ) → from ≡ to → frames ≤ most_frames → Closes ss (tail from to) frames work (changes ∷ []) (counted (Ok changes)) work
 unfolding naturals total
 tail_none ss from to frames changes work e h =
     let z : to - from ≡ 0 = omega arith in

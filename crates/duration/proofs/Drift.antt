@@ -9,6 +9,8 @@ use lib.ListN.{length, get_or, drop}
 use lib.Seq.{drop-drop, take_at, drop_at, take-append-le}
 use lib.Ieee.{Float, nan, le}
 use borrow.Rule.Slice.PartMut.{mid_len}
+use Rattle.lists.specs.declared.Refusal.{Refusal}
+use Rattle.std.proofs.Common.{Result}
 use Rattle.lists.specs.Sizes.{most_frames}
 use Rattle.lists.specs.Totals.{total}
 use Rattle.lists.proofs.Sums.{total-part, total-front}
@@ -104,7 +106,7 @@ module _ (ss : States) (k : ℕ) (ends : List Float) (ds : List ℕ) (some : 1 �
     no_drift_of i h at = on_time_here i (closed_before k ends i) h at (closed-most k ends i) (fair_from i (omega arith))
 
 -- The theorem, of every outcome that an alignment's promise allows with an accepted answer
-module _ (ss : States) (nstate : ℕ) (ends : List Float) (out work : List ℕ) (r : Aligned) (out' work' : List ℕ) (held : Held ends) (z : (aligned r).number ≡ 0) (f : AlignSays ss nstate ends out work r out' work') where
+module _ (ss : States) (nstate : ℕ) (ends : List Float) (out work : List ℕ) (r : Result Aligned Refusal) (out' work' : List ℕ) (held : Held ends) (z : (aligned r).number ≡ 0) (f : AlignSays ss nstate ends out work r out' work') where
   low : (length ss.shortest ≡ size ss) × Taken ss.shortest
   low = align_shortest ss nstate ends out work r out' work' z f
 
@@ -126,5 +128,5 @@ module _ (ss : States) (nstate : ℕ) (ends : List Float) (out work : List ℕ) 
       rw (same_total (closed_before nstate ends i) d, same_total (suc i * nstate) n) o
 
 -- so what the call promises, with ends that were lent as f64
-pub on_time_kept : (ss : States) (nstate : ℕ) (ends : List Float) (out work : List ℕ) (r : Aligned) (out' work' : List ℕ) → Held ends → AlignSays ss nstate ends out work r out' work' → AlignOnTime ss nstate ends out work r out' work'
+pub on_time_kept : (ss : States) (nstate : ℕ) (ends : List Float) (out work : List ℕ) (r : Result Aligned Refusal) (out' work' : List ℕ) → Held ends → AlignSays ss nstate ends out work r out' work' → AlignOnTime ss nstate ends out work r out' work'
 on_time_kept ss nstate ends out work r out' work' held f = record { says = f; on_time = λ z. no_drift ss nstate ends out work r out' work' held z f }

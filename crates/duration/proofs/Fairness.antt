@@ -9,20 +9,21 @@ use lib.Dec.{ltb, leb}
 use lib.ListN.{length}
 use lib.Ieee.{Float, eq}
 use borrow.Author.Tests.{le-ltb, le-leb, lt-leb, ne_eqb, ltb-false}
+use Rattle.lists.specs.Ends.{counted}
+use Rattle.lists.specs.declared.Refusal.{Refusal}
+use Rattle.std.proofs.Common.{Result, Ok, Err}
 use Rattle.lists.specs.Sizes.{most_frames}
 use Rattle.lists.specs.Totals.{total, gap}
 use Rattle.lists.specs.Refusals.{or_else}
 use Rattle.lists.proofs.Numbers.{le_or_lt}
 use Rattle.floats.specs.Rounding.{rounded_of}
 use Rattle.floats.specs.Numbers.{one}
-use Rattle.duration.specs.declared.Fitted.{Fitted}
-use Rattle.duration.specs.declared.Fitted.TheVariants as fit
 use Rattle.duration.specs.Estimate.{naturals}
 use Rattle.steps.specs.Steps.{States, size, least, Outcome, unchanged, settle}
 use Rattle.duration.specs.Fit.{rho_for, start_of, fit_to, refusal_to}
 use Rattle.duration.specs.Speed.{target_at, fit_at, refusal_at}
 use Rattle.lists.specs.Answers.{Answer, answer_of}
-use Rattle.duration.specs.Promise.{fitted, early_refusal, Says, FitSays, SpeedSays}
+use Rattle.duration.specs.Promise.{early_refusal, Says, FitSays, SpeedSays}
 use Rattle.duration.specs.Fitting.{distance, Fair, Ample, Accepted}
 use Rattle.duration.proofs.Refusals.{lists-fit, cond-none}
 use Rattle.duration.proofs.Estimates.{length-estimates, estimates-above}
@@ -106,9 +107,9 @@ module _ (ss : States) (t : ℕ) (some : 0 < size ss) (agree : length ss.shortes
       fair (ltb-false most_frames t b.0) (ltb-false most_frames (total (start_of ss t)) (cond-none (ltb most_frames (total (start_of ss t))) 7 0 c).0)
 
 -- an answer that is accepted
-fitted_is : (r : Fitted) (o : Outcome) → fitted r ≡ answer_of 0 (o.changes ∷ []) → r ≡ fit.Done o.changes
-fitted_is (fit.Done c) o e = let q : c ∷ [] ≡ o.changes ∷ [] = ap (λ (a : Answer). a.values) e in cc
-fitted_is (fit.Refused k) o e = absurd (let q : ◌≡◌ {A = List ℕ} [] (o.changes ∷ []) = ap (λ (a : Answer). a.values) e in let z : ◌≡◌ {A = ℕ} 0 1 = cc in omega arith)
+fitted_is : (r : Result ℕ Refusal) (o : Outcome) → counted r ≡ answer_of 0 (o.changes ∷ []) → r ≡ Ok o.changes
+fitted_is (Ok c) o e = let q : c ∷ [] ≡ o.changes ∷ [] = ap (λ (a : Answer). a.values) e in cc
+fitted_is (Err k) o e = absurd (let q : ◌≡◌ {A = List ℕ} [] (o.changes ∷ []) = ap (λ (a : Answer). a.values) e in let z : ◌≡◌ {A = ℕ} 0 1 = cc in omega arith)
 
 -- a target that is not above the sum of the shortest
 pub shortest-fit : (ss : States) (t : ℕ) → 0 < size ss → t ≤ least ss → fit_to ss t ≡ unchanged ss.shortest
@@ -133,7 +134,7 @@ module _ (ss : States) (t : ℕ) (out work : List ℕ) (m : Ample ss t out work)
   unfolding refusal_to
   fit_none = rw (ne_eqb (size ss) 0 (λ q. omega (arith, m.some)), le-ltb most_frames t m.within, lt-leb t (least ss) m.above, le-ltb most_frames (total (start_of ss t)) m.start)
 
-  accepted : (k : ℕ) (r : Fitted) (out' work' : List ℕ) → k ≡ 0 → Says k ((fit_to ss t).changes ∷ []) (fit_to ss t).durations (size ss) out work (fitted r) out' work' → Accepted ss t out r out'
+  accepted : (k : ℕ) (r : Result ℕ Refusal) (out' work' : List ℕ) → k ≡ 0 → Says k ((fit_to ss t).changes ∷ []) (fit_to ss t).durations (size ss) out work (counted r) out' work' → Accepted ss t out r out'
   accepted k r out' work' z f =
       let g : Fair ss t (fit_to ss t) = fair ss t m.some m.shortest m.above m.within m.start in
       record {
@@ -144,11 +145,11 @@ module _ (ss : States) (t : ℕ) (out work : List ℕ) (m : Ample ss t out work)
       }
 
 -- The theorem of the fit, of every outcome that the fit's promise allows
-pub fit_theorem : (ss : States) (len : Float) (out work : List ℕ) (r : Fitted) (out' work' : List ℕ) → Ample ss (rounded_of len) out work → FitSays ss len out work r out' work' → Accepted ss (rounded_of len) out r out'
+pub fit_theorem : (ss : States) (len : Float) (out work : List ℕ) (r : Result ℕ Refusal) (out' work' : List ℕ) → Ample ss (rounded_of len) out work → FitSays ss len out work r out' work' → Accepted ss (rounded_of len) out r out'
 fit_theorem ss len out work r out' work' m f = accepted ss (rounded_of len) out work m _ r out' work' (rw (early-none ss (rounded_of len) out work m) (fit_none ss (rounded_of len) out work m)) f
 
 -- the same at a speed other than 1
-pub speed_theorem : (ss : States) (speed : Float) (out work : List ℕ) (r : Fitted) (out' work' : List ℕ)
+pub speed_theorem : (ss : States) (speed : Float) (out work : List ℕ) (r : Result ℕ Refusal) (out' work' : List ℕ)
     → Ample ss (target_at ss speed) out work → total (naturals ss) ≤ most_frames → eq speed one ≡ false
     → SpeedSays ss speed out work r out' work' → Accepted ss (target_at ss speed) out r out'
 unfolding fit_at refusal_at
@@ -157,4 +158,4 @@ speed_theorem ss speed out work r out' work' m n e f =
     let k : ℕ = or_else (early_refusal ss out work) (refusal_at ss speed) in
     let z : k ≡ 0 = rw (early-none ss t out work m, le-ltb most_frames (total (naturals ss)) n, e) (fit_none ss t out work m) in
     let o : fit_at ss speed ≡ fit_to ss t = rw e in
-    accepted ss t out work m k r out' work' z (subst (λ (x : Outcome). Says k (x.changes ∷ []) x.durations (size ss) out work (fitted r) out' work') o f)
+    accepted ss t out work m k r out' work' z (subst (λ (x : Outcome). Says k (x.changes ∷ []) x.durations (size ss) out work (counted r) out' work') o f)

@@ -11,6 +11,11 @@ use lib.IntN.{pos, negsuc}
 use lib.ListN.{length, get_or, set, take, drop, replicate, length-set, length-take, length-drop, length-replicate, get_or-replicate}
 use lib.Ieee.{Float, binary64, add, mul}
 use borrow.Author.Tests.{eq-eqb}
+use Rattle.lists.specs.Ends.{counted}
+use Rattle.lists.specs.declared.Refusal.{Refusal}
+use Rattle.std.proofs.Common.{Result}
+use Rattle.duration.specs.declared.align.End.{End}
+use Rattle.duration.specs.declared.align.End.TheVariants.{At, Open}
 use Rattle.lists.specs.Sizes.{most_frames}
 use Rattle.lists.specs.Build.{build}
 use Rattle.lists.specs.Totals.{total}
@@ -22,17 +27,14 @@ use Rattle.lists.proofs.Sums.{total-same, total-part}
 use Rattle.floats.specs.Rounding.{Integral, undefined, endless, whole, frames_of, to_integral, rounded_of}
 use Rattle.floats.specs.Numbers.{nought}
 use Rattle.steps.specs.Steps.{States, state, states, least, Key, moved, key_of, keys, least_of, step, Outcome, unchanged, once_more, settle}
-use Rattle.duration.specs.declared.Fitted.{Fitted}
 use Rattle.duration.specs.declared.Aligned.{Aligned}
-use Rattle.duration.specs.declared.align.End.{End}
-use Rattle.duration.specs.declared.align.End.TheVariants.{At, Open}
 use Rattle.duration.specs.Shortest.{refusal_of_shortest}
 use Rattle.duration.specs.Estimate.{estimates, naturals}
 use Rattle.duration.specs.Fit.{rho_of, start_of, fit_to, refusal_to}
 use Rattle.duration.specs.Speed.{target_at, fit_at, refusal_at}
 use Rattle.duration.specs.Align.{Group, groups, states_in, within, target_of, fit_to_end, fit_along, refusal_to_end, refusal_of, refusal_along}
 use Rattle.duration.specs.Drift.{closed_before, group_states, group_least, NoDrift}
-use Rattle.duration.specs.Promise.{fitted, aligned, refusal_of_lists, refusal_of_labels, early_refusal, early_of_labels, Says, FitSays, SpeedSays, AlignSays, AlignOnTime}
+use Rattle.duration.specs.Promise.{aligned, refusal_of_lists, refusal_of_labels, early_refusal, early_of_labels, Says, FitSays, SpeedSays, AlignSays, AlignOnTime}
 use Rattle.duration.specs.Ones as before
 use Rattle.duration.proofs.Shortest.{taken-fit}
 use Rattle.duration.proofs.Estimates.{length-estimates}
@@ -216,12 +218,12 @@ module _ (values : Outcome → List ℕ) (n : ℕ) (out work : List ℕ) (a : An
   same-said zero f = rw ((f refl).0, (f refl).1) (λ s. s, λ s. s)
   same-said (suc b) f = (λ s. record { answer = s.answer; output = s.output; workspace = s.workspace }, λ s. record { answer = s.answer; output = s.output; workspace = s.workspace })
 
-module _ (ms vs : List Float) (out work : List ℕ) (r : Fitted) (out' work' : List ℕ) where
+module _ (ms vs : List Float) (out work : List ℕ) (r : Result ℕ Refusal) (out' work' : List ℕ) where
   pub fit-ones : (len : Float) → FitSays (states ms vs (replicate (length ms) 1)) len out work r out' work' ↔ before.FitSays ms vs len out work r out' work'
-  fit-ones len = rw (early-ones ms vs out work) (same-said (λ o. o.changes ∷ []) (length ms) out work (fitted r) out' work' (early ms vs out work) (λ z. fit_same ms vs (early-lists ms vs out work z).agree (rounded_of len)))
+  fit-ones len = rw (early-ones ms vs out work) (same-said (λ o. o.changes ∷ []) (length ms) out work (counted r) out' work' (early ms vs out work) (λ z. fit_same ms vs (early-lists ms vs out work z).agree (rounded_of len)))
 
   pub speed-ones : (speed : Float) → SpeedSays (states ms vs (replicate (length ms) 1)) speed out work r out' work' ↔ before.SpeedSays ms vs speed out work r out' work'
-  speed-ones speed = rw (early-ones ms vs out work) (same-said (λ o. o.changes ∷ []) (length ms) out work (fitted r) out' work' (early ms vs out work) (λ z. speed-same ms vs (early-lists ms vs out work z).agree speed))
+  speed-ones speed = rw (early-ones ms vs out work) (same-said (λ o. o.changes ∷ []) (length ms) out work (counted r) out' work' (early ms vs out work) (λ z. speed-same ms vs (early-lists ms vs out work z).agree speed))
 
 -- ---- no drift: the shortest of a group sum to the number of its states
 
@@ -241,7 +243,7 @@ module _ (k : ℕ) (ends : List Float) (n : ℕ) (cover : length ends * k ≡ n)
   pub drift_ones : (ds : List ℕ) → NoDrift k ends (replicate n 1) ds ↔ before.NoDrift k ends ds
   drift_ones ds = (λ f i h at. rw (← group-ones i h) (f i h at), λ f i h at. rw (group-ones i h) (f i h at))
 
-module _ (ms vs : List Float) (nstate : ℕ) (ends : List Float) (out work : List ℕ) (r : Aligned) (out' work' : List ℕ) where
+module _ (ms vs : List Float) (nstate : ℕ) (ends : List Float) (out work : List ℕ) (r : Result Aligned Refusal) (out' work' : List ℕ) where
   pub align_ones : AlignSays (states ms vs (replicate (length ms) 1)) nstate ends out work r out' work' ↔ before.AlignSays ms vs nstate ends out work r out' work'
   align_ones = rw (early-along ms vs out work nstate ends) (same-said (λ o. length ms ∷ o.changes ∷ []) (length ms) out work (aligned r) out' work' (early_along ms vs out work nstate ends) (λ z. along-same ms vs (early-labels ms vs out work nstate ends z).1.agree (groups nstate 0 0 ends) 0))
 

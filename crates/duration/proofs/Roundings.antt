@@ -5,22 +5,24 @@ use mathlib.Core.List.{List, [], ◌∷◌, ◌++◌}
 use Prim.Native.Nat.{ℕ, ◌+◌, max}
 use lib.Dec.{ltb, leb, eqb}
 use lib.Ieee.{Float, binary64, add, sub, mul, div, eq}
+use Rattle.lists.specs.Ends.{counted}
+use Rattle.lists.specs.declared.Refusal.{Refusal}
+use Rattle.std.proofs.Common.{Result}
+use Rattle.duration.specs.declared.align.End.{End}
+use Rattle.duration.specs.declared.align.End.TheVariants.{At, Open}
 use Rattle.lists.specs.Sizes.{most_frames}
 use Rattle.lists.specs.Build.{build}
 use Rattle.lists.specs.Totals.{total}
 use Rattle.lists.specs.Refusals.{or_else}
 use Rattle.floats.specs.Rounding.{rounded_of}
 use Rattle.floats.specs.Numbers.{nought, one, number}
-use Rattle.duration.specs.declared.Fitted.{Fitted}
 use Rattle.duration.specs.declared.Aligned.{Aligned}
-use Rattle.duration.specs.declared.align.End.{End}
-use Rattle.duration.specs.declared.align.End.TheVariants.{At, Open}
 use Rattle.duration.specs.Estimate.{estimates, naturals}
 use Rattle.steps.specs.Steps.{States, size, state_at, least, Outcome, unchanged, settle}
 use Rattle.duration.specs.Fit.{rho_for, start_of, at_shortest, fit_to, refusal_to}
 use Rattle.duration.specs.Speed.{target_at, fit_at, refusal_at}
 use Rattle.duration.specs.Align.{Group, groups, states_in, target_of, fit_to_end, fit_of, fit_along, refusal_to_end, refusal_of, refusal_along}
-use Rattle.duration.specs.Promise.{fitted, aligned, early_refusal, early_of_labels, Says}
+use Rattle.duration.specs.Promise.{aligned, early_refusal, early_of_labels, Says}
 
 module _ (rounding : Float → ℕ) where
   unfoldable pub estimates_by : Float → States → List ℕ
@@ -81,17 +83,17 @@ module _ (rounding : Float → ℕ) where
   refusal_along_by ss [] frames = 0
   refusal_along_by ss (g ∷ gs) frames = or_else (refusal_of_by ss g frames) (refusal_along_by ss gs (frames + total (fit_of_by ss g frames).durations))
 
-  abbrev pub FitSaysBy : States → Float → List ℕ → List ℕ → Fitted → List ℕ → List ℕ → Type 0
+  abbrev pub FitSaysBy : States → Float → List ℕ → List ℕ → Result ℕ Refusal → List ℕ → List ℕ → Type 0
   FitSaysBy ss len out work r =
       let o = fit_to_by ss (rounding len) in
-      Says (or_else (early_refusal ss out work) (refusal_to_by ss (rounding len))) (o.changes ∷ []) o.durations (size ss) out work (fitted r)
+      Says (or_else (early_refusal ss out work) (refusal_to_by ss (rounding len))) (o.changes ∷ []) o.durations (size ss) out work (counted r)
 
-  abbrev pub SpeedSaysBy : States → Float → List ℕ → List ℕ → Fitted → List ℕ → List ℕ → Type 0
+  abbrev pub SpeedSaysBy : States → Float → List ℕ → List ℕ → Result ℕ Refusal → List ℕ → List ℕ → Type 0
   SpeedSaysBy ss speed out work r =
       let o = fit_at_by ss speed in
-      Says (or_else (early_refusal ss out work) (refusal_at_by ss speed)) (o.changes ∷ []) o.durations (size ss) out work (fitted r)
+      Says (or_else (early_refusal ss out work) (refusal_at_by ss speed)) (o.changes ∷ []) o.durations (size ss) out work (counted r)
 
-  abbrev pub AlignSaysBy : States → ℕ → List Float → List ℕ → List ℕ → Aligned → List ℕ → List ℕ → Type 0
+  abbrev pub AlignSaysBy : States → ℕ → List Float → List ℕ → List ℕ → Result Aligned Refusal → List ℕ → List ℕ → Type 0
   AlignSaysBy ss nstate ends out work r =
       let gs = groups nstate 0 0 ends in
       let o = fit_along_by ss gs 0 in

@@ -12,11 +12,12 @@ use lib.Seq.{drop-cons, take_all, get_or-take, get_or-drop}
 use borrow.Author.Tests.{ltb-false, le-ltb, eqb-false, ne_eqb}
 use Rattle.lists.specs.Sizes.{most_frames}
 use Rattle.lists.specs.Totals.{total}
+use Rattle.lists.specs.Answers.{accepting, refusing, answer_of}
+use Rattle.lists.proofs.Answers.{refused_is}
+use Rattle.lists.proofs.Ends.{passed}
 use Rattle.lists.proofs.Flags.{neither}
 use Rattle.lists.proofs.Sums.{total-more, total-part, total-front}
-use Rattle.duration.specs.declared.Low.TheVariants as low
 use Rattle.duration.specs.Shortest.{any_none, unfit, refusal_of_shortest}
-use Rattle.duration.specs.Inner.Asked.{low_of}
 
 -- each is at least 1, and they come to no more than 65,536 frames
 pub record Taken (ls : List ℕ) : Type 0 where
@@ -74,27 +75,19 @@ part_low ls a n = omega (arith, total-part ls a n, total-front ls (a + n))
 
 -- ---- what `low_of` answers
 
-pub low-unfit : (ls : List ℕ) (none : Bool) (sum : ℕ) → (none ≡ any_none ls) × (sum ≡ total ls) → (none || ltb 65536 sum) ≡ true → low.Refused ≡ low_of ls
+pub low-unfit : (ls : List ℕ) (none : Bool) (sum : ℕ) → (none ≡ any_none ls) × (sum ≡ total ls) → (none || ltb 65536 sum) ≡ true → refusing 15 ≡ answer_of (refusal_of_shortest ls) (total ls ∷ [])
+unfolding refusal_of_shortest
 low-unfit ls none sum e h = rw (← e.0, ← e.1, h)
 
-pub low-fit : (ls : List ℕ) (none : Bool) (sum : ℕ) → (none ≡ any_none ls) × (sum ≡ total ls) → (none || ltb 65536 sum) ≡ false → low.Frames sum ≡ low_of ls
+pub low-fit : (ls : List ℕ) (none : Bool) (sum : ℕ) → (none ≡ any_none ls) × (sum ≡ total ls) → (none || ltb 65536 sum) ≡ false → accepting (sum ∷ []) ≡ answer_of (refusal_of_shortest ls) (total ls ∷ [])
+unfolding refusal_of_shortest
 low-fit ls none sum e h = rw (← e.0, ← e.1, h)
 
-pub low-refused : (ls : List ℕ) → low_of ls ≡ low.Refused → refusal_of_shortest ls ≡ 15
-unfolding refusal_of_shortest
-low-refused ls =
-    elim (unfit ls) as (λ s. cond s low.Refused (low.Frames (total ls)) ≡ low.Refused → ◌≡◌ {A = ℕ} (cond s 15 0) 15) [
-      | true ↦ λ e. refl
-      | false ↦ λ e. absurd (let z : ◌≡◌ {A = ℕ} 0 1 = cc in omega arith)
-    ]
+pub low-refused : (ls : List ℕ) (m : ℕ) → refusing m ≡ answer_of (refusal_of_shortest ls) (total ls ∷ []) → (refusal_of_shortest ls ≡ 15) × (m ≡ refusal_of_shortest ls)
+low-refused ls m e = let r = refused_is m (refusal_of_shortest ls) (total ls) [] e in (shortest-number ls r.1, sym r.0)
 
-pub low-frames : (ls : List ℕ) (n : ℕ) → low_of ls ≡ low.Frames n → (refusal_of_shortest ls ≡ 0) × (n ≡ total ls)
-unfolding refusal_of_shortest
-low-frames ls n =
-    elim (unfit ls) as (λ s. cond s low.Refused (low.Frames (total ls)) ≡ low.Frames n → (◌≡◌ {A = ℕ} (cond s 15 0) 0) × (n ≡ total ls)) [
-      | true ↦ λ e. absurd (let z : ◌≡◌ {A = ℕ} 0 1 = cc in omega arith)
-      | false ↦ λ e. (refl, cc)
-    ]
+pub low-frames : (ls : List ℕ) (n : ℕ) → accepting (n ∷ []) ≡ answer_of (refusal_of_shortest ls) (total ls ∷ []) → (refusal_of_shortest ls ≡ 0) × (n ≡ total ls)
+low-frames ls n e = let r = passed (refusal_of_shortest ls) (total ls) n e in (r.0, sym r.1)
 
 -- ---- its loop: i of them are passed
 

@@ -9,6 +9,11 @@ use lib.Dec.{ltb, leb, eqb}
 use lib.IntN.{pos, negsuc}
 use lib.Ieee.{Float, binary64, div, eq}
 use borrow.Author.Tests.{lt-ltb, le-ltb, ltb-false}
+use Rattle.lists.specs.Ends.{counted as told}
+use Rattle.lists.specs.declared.Refusal.{Refusal}
+use Rattle.std.proofs.Common.{Result}
+use Rattle.duration.specs.declared.align.End.{End}
+use Rattle.duration.specs.declared.align.End.TheVariants.{At, Open}
 use Rattle.lists.specs.Sizes.{most_frames}
 use Rattle.lists.specs.Build.{build}
 use Rattle.lists.specs.Totals.{total}
@@ -18,16 +23,13 @@ use Rattle.lists.proofs.Numbers.{le_or_lt}
 use Rattle.lists.proofs.Refusals.{or_none}
 use Rattle.floats.specs.Rounding.{Integral, undefined, endless, whole, to_integral, frames_of, rounded_of}
 use Rattle.floats.specs.Numbers.{nought, one, number}
-use Rattle.duration.specs.declared.Fitted.{Fitted}
 use Rattle.duration.specs.declared.Aligned.{Aligned}
-use Rattle.duration.specs.declared.align.End.{End}
-use Rattle.duration.specs.declared.align.End.TheVariants.{At, Open}
 use Rattle.duration.specs.Estimate.{estimates, naturals}
 use Rattle.steps.specs.Steps.{States, size, state_at, least, Outcome, unchanged, settle}
 use Rattle.duration.specs.Fit.{rho_for, start_of, fit_to, refusal_to}
 use Rattle.duration.specs.Speed.{target_at, fit_at, refusal_at}
 use Rattle.duration.specs.Align.{Group, groups, states_in, target_of, fit_to_end, fit_of, fit_along, refusal_to_end, refusal_of, refusal_along}
-use Rattle.duration.specs.Promise.{fitted, aligned, early_refusal, early_of_labels, Says, FitSays, SpeedSays, AlignSays}
+use Rattle.duration.specs.Promise.{aligned, early_refusal, early_of_labels, Says, FitSays, SpeedSays, AlignSays}
 use Rattle.duration.proofs.Roundings.{estimates_by, start_by, fit_to_by, refusal_to_by, naturals_by, target_at_by, fit_at_by, refusal_at_by, target_of_by, fit_to_end_by, fit_of_by, fit_along_by, refusal_to_end_by, refusal_of_by, refusal_along_by, FitSaysBy, SpeedSaysBy, AlignSaysBy}
 
 -- ---- a number and its cap
@@ -259,12 +261,12 @@ module _ (big : ℕ) (above : most_frames < big) where
   pub start-uncapped : (ss : States) (t : ℕ) → total (start_of ss t) ≤ most_frames → start_by (counted big) ss t ≡ start_of ss t
   start-uncapped ss t h = capped_same (start_capped (counted big) counted_caps ss t) h
 
-  module _ (ss : States) (x : Float) (out work : List ℕ) (r : Fitted) (out' work' : List ℕ) where
+  module _ (ss : States) (x : Float) (out work : List ℕ) (r : Result ℕ Refusal) (out' work' : List ℕ) where
     abbrev Told : ℕ → Outcome → Type 0
-    Told = Said (λ o. o.changes ∷ []) (size ss) out work (fitted r) out' work' (early_refusal ss out work)
+    Told = Said (λ o. o.changes ∷ []) (size ss) out work (told r) out' work' (early_refusal ss out work)
 
     told-both : {j k : ℕ} {o p : Outcome} → Alike j k o p → Told k p ↔ Told j o
-    told-both = said-both (λ o. o.changes ∷ []) (size ss) out work (fitted r) out' work' (early_refusal ss out work)
+    told-both = said-both (λ o. o.changes ∷ []) (size ss) out work (told r) out' work' (early_refusal ss out work)
 
     pub fit-uncapped : FitSays ss x out work r out' work' ↔ FitSaysBy (counted big) ss x out work r out' work'
     fit-uncapped = told-both (fit-alike (counted big) counted_caps ss (counted big x) (rounded_of x) (counted_caps x))
@@ -272,7 +274,7 @@ module _ (big : ℕ) (above : most_frames < big) where
     pub speed-uncapped : SpeedSays ss x out work r out' work' ↔ SpeedSaysBy (counted big) ss x out work r out' work'
     speed-uncapped = told-both (speed-alike (counted big) counted_caps ss x)
 
-  pub align_uncapped : (ss : States) (nstate : ℕ) (ends : List Float) (out work : List ℕ) (r : Aligned) (out' work' : List ℕ) → AlignSays ss nstate ends out work r out' work' ↔ AlignSaysBy (counted big) ss nstate ends out work r out' work'
+  pub align_uncapped : (ss : States) (nstate : ℕ) (ends : List Float) (out work : List ℕ) (r : Result Aligned Refusal) (out' work' : List ℕ) → AlignSays ss nstate ends out work r out' work' ↔ AlignSaysBy (counted big) ss nstate ends out work r out' work'
   align_uncapped ss nstate ends out work r out' work' =
       said-both (λ o. size ss ∷ o.changes ∷ []) (size ss) out work (aligned r) out' work' (early_of_labels nstate ends ss out work)
       (along-alike (counted big) counted_caps ss (groups nstate 0 0 ends) 0)

@@ -1,14 +1,12 @@
 -- RULES, Durations: the theorem of the fit, which is what a fit to a target above the sum of the shortest comes to.
-use Rattle.std.specs.Prelude.{◌≡◌, ◌⊎◌, List, [], ◌∷◌, ◌++◌, ℕ, ◌+◌, ◌≤◌, ◌<◌, length, get_or, drop}
-use Rattle.lists.specs.Sizes.{most_frames, most_states}
-use Rattle.lists.specs.Totals.{total, gap}
-use Rattle.duration.specs.declared.Fitted.{Fitted}
-use Rattle.duration.specs.declared.Fitted.TheVariants as fit
-use Rattle.duration.specs.declared.Aligned.{Aligned}
-use Rattle.duration.specs.declared.Aligned.TheVariants as align
-use Rattle.steps.specs.Steps.{States, states, size, least, Outcome, unchanged, Settles}
+use Rattle.lists.specs.declared.Refusal.{Refusal}
+use Rattle.std.specs.Prelude.{◌≡◌, ◌⊎◌, List, [], ◌∷◌, ◌++◌, ℕ, ◌+◌, ◌≤◌, ◌<◌, length, get_or, drop, Result, Ok}
 use Rattle.duration.specs.declared.align.End.{End}
 use Rattle.duration.specs.declared.align.End.TheVariants.{At, Open}
+use Rattle.lists.specs.Sizes.{most_frames, most_states}
+use Rattle.lists.specs.Totals.{total, gap}
+use Rattle.duration.specs.declared.Aligned.{Aligned}
+use Rattle.steps.specs.Steps.{States, states, size, least, Outcome, unchanged, Settles}
 use Rattle.duration.specs.Estimate.{naturals}
 use Rattle.duration.specs.Fit.{rho_for, start_of}
 use Rattle.duration.specs.Align.{Group, states_in, target_of}
@@ -71,9 +69,9 @@ pub record Ample (ss : States) (t : ℕ) (out work : List ℕ) : Type 0 where
   pub start : total (start_of ss t) ≤ most_frames
 
 -- a call that is accepted, with a fair outcome at the front of its output
-pub record Accepted (ss : States) (t : ℕ) (out : List ℕ) (r : Fitted) (out' : List ℕ) : Type 0 where
+pub record Accepted (ss : States) (t : ℕ) (out : List ℕ) (r : Result ℕ Refusal) (out' : List ℕ) : Type 0 where
   pub outcome : Outcome
-  pub answer : r ≡ fit.Done outcome.changes
+  pub answer : r ≡ Ok outcome.changes
   pub output : out' ≡ outcome.durations ++ drop (size ss) out
   pub fair : Fair ss t outcome
 
@@ -88,9 +86,9 @@ last_from (g ∷ []) = g.from
 last_from (g ∷ h ∷ gs) = last_from (h ∷ gs)
 
 -- an alignment that is accepted: within the sizes, one duration a state, each at least its shortest and so 1, fair group after group, and the tail's natural
-pub record AcceptedAlong (ss : States) (gs : List Group) (out : List ℕ) (r : Aligned) (out' : List ℕ) : Type 0 where
+pub record AcceptedAlong (ss : States) (gs : List Group) (out : List ℕ) (r : Result Aligned Refusal) (out' : List ℕ) : Type 0 where
   pub outcome : Outcome
-  pub answer : r ≡ align.Done (size ss) outcome.changes
+  pub answer : r ≡ Ok (record { states = size ss; changes = outcome.changes })
   pub output : out' ≡ outcome.durations ++ drop (size ss) out
   pub states : size ss ≤ most_states
   pub frames : total outcome.durations ≤ most_frames

@@ -1,6 +1,8 @@
 -- The rules as they were without shortest durations, under the names that they have: an estimate is at least 1, a target not above the number of states
 -- gives each one frame, and only a state above 1 frame gives one. No code is held to it: `proofs/Ones.antt` has that with ones it is what is promised.
-use Rattle.std.specs.Prelude.{◌≡◌, Bool, true, false, not, ◌||◌, cond, List, [], ◌∷◌, ◌++◌, ℕ, zero, suc, ◌+◌, ◌-◌, ◌*◌, ◌<◌, ltb, leb, eqb, length, get_or, set, replicate, Float}
+use Rattle.lists.specs.Ends.{counted}
+use Rattle.lists.specs.declared.Refusal.{Refusal}
+use Rattle.std.specs.Prelude.{◌≡◌, Bool, true, false, not, ◌||◌, cond, List, [], ◌∷◌, ◌++◌, ℕ, zero, suc, ◌+◌, ◌-◌, ◌*◌, ◌<◌, ltb, leb, eqb, length, get_or, set, replicate, Float, Result}
 use Rattle.std.specs.Float.{nan, binary64}
 use Rattle.std.specs.Float.Ieee.{add, mul, div, eq, le}
 use Rattle.lists.specs.Sizes.{most_frames, most_states, most_label_states}
@@ -10,14 +12,13 @@ use Rattle.floats.specs.Rounding.{rounded_of}
 use Rattle.floats.specs.Numbers.{nought, one, number}
 use Rattle.steps.specs.Steps.{cost_of, moved, Key, least_of, Outcome, unchanged, once_more}
 use Rattle.steps.specs.Steps.Key.{Fixed, Cost}
-use Rattle.duration.specs.declared.Fitted.{Fitted}
 use Rattle.duration.specs.declared.Aligned.{Aligned}
 use Rattle.duration.specs.declared.align.End.{End}
 use Rattle.duration.specs.declared.align.End.TheVariants.{At, Open}
 use Rattle.duration.specs.Fit.{rho_of}
 use Rattle.duration.specs.Align.{Group, groups, within, target_of}
 use Rattle.duration.specs.Drift.{OnTime, frames_before, group_states, total_at}
-use Rattle.duration.specs.Promise.{fitted, aligned, Says}
+use Rattle.duration.specs.Promise.{aligned, Says}
 
 -- ---- a step
 
@@ -142,19 +143,19 @@ unfoldable pub refusal_of_labels : ℕ → ℕ → ℕ → ℕ → ℕ → ℕ �
 refusal_of_labels k m n v o w = cond (ltb most_states n) 3 (cond (ltb k 1) 3 (cond (ltb most_label_states k) 3 (cond (not (eqb (m * k) n)) 4 (refusal_of_lists n v o w))))
 
 -- `estimate_duration_with_frame_length`
-abbrev pub FitSays : List Float → List Float → Float → List ℕ → List ℕ → Fitted → List ℕ → List ℕ → Type 0
+abbrev pub FitSays : List Float → List Float → Float → List ℕ → List ℕ → Result ℕ Refusal → List ℕ → List ℕ → Type 0
 FitSays ms vs len out work r =
     let o = fit_to ms vs (rounded_of len) in
-    Says (or_else (refusal_of_lists (length ms) (length vs) (length out) (length work)) (refusal_to ms vs (rounded_of len))) (o.changes ∷ []) o.durations (length ms) out work (fitted r)
+    Says (or_else (refusal_of_lists (length ms) (length vs) (length out) (length work)) (refusal_to ms vs (rounded_of len))) (o.changes ∷ []) o.durations (length ms) out work (counted r)
 
 -- `create`
-abbrev pub SpeedSays : List Float → List Float → Float → List ℕ → List ℕ → Fitted → List ℕ → List ℕ → Type 0
+abbrev pub SpeedSays : List Float → List Float → Float → List ℕ → List ℕ → Result ℕ Refusal → List ℕ → List ℕ → Type 0
 SpeedSays ms vs speed out work r =
     let o = fit_at ms vs speed in
-    Says (or_else (refusal_of_lists (length ms) (length vs) (length out) (length work)) (refusal_at ms vs speed)) (o.changes ∷ []) o.durations (length ms) out work (fitted r)
+    Says (or_else (refusal_of_lists (length ms) (length vs) (length out) (length work)) (refusal_at ms vs speed)) (o.changes ∷ []) o.durations (length ms) out work (counted r)
 
 -- an alignment
-abbrev pub AlignSays : List Float → List Float → ℕ → List Float → List ℕ → List ℕ → Aligned → List ℕ → List ℕ → Type 0
+abbrev pub AlignSays : List Float → List Float → ℕ → List Float → List ℕ → List ℕ → Result Aligned Refusal → List ℕ → List ℕ → Type 0
 AlignSays ms vs nstate ends out work r =
     let gs = groups nstate 0 0 ends in
     let o = fit_along ms vs gs 0 in
@@ -165,6 +166,6 @@ abbrev pub NoDrift : ℕ → List Float → List ℕ → Type 0
 NoDrift k ends ds = (i : ℕ) → i < length ends → le nought (get_or ends i nan) ≡ true → OnTime (get_or ends i nan) (frames_before k ends ds i) (group_states k ends i) (total_at k ds i)
 
 -- `create_with_alignment`
-pub record AlignOnTime (ms vs : List Float) (nstate : ℕ) (ends : List Float) (out work : List ℕ) (r : Aligned) (out' work' : List ℕ) : Type 0 where
+pub record AlignOnTime (ms vs : List Float) (nstate : ℕ) (ends : List Float) (out work : List ℕ) (r : Result Aligned Refusal) (out' work' : List ℕ) : Type 0 where
   pub says : AlignSays ms vs nstate ends out work r out' work'
   pub on_time : (aligned r).number ≡ 0 → NoDrift nstate ends out'

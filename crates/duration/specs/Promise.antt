@@ -1,29 +1,22 @@
 -- What the three calls promise.
-use Rattle.std.specs.Prelude.{◌≡◌, Bool, not, ◌||◌, cond, List, [], ◌∷◌, ◌++◌, ℕ, ◌*◌, ltb, eqb, length, drop, replicate, Float}
+use Rattle.lists.specs.Ends.{answered, counted}
+use Rattle.lists.specs.declared.Refusal.{Refusal}
+use Rattle.std.specs.Prelude.{◌≡◌, Bool, not, ◌||◌, cond, List, [], ◌∷◌, ◌++◌, ℕ, ◌*◌, ltb, eqb, length, drop, replicate, Float, Result}
 use Rattle.floats.specs.Rounding.{rounded_of}
-use Rattle.duration.specs.declared.Fitted.{Fitted}
-use Rattle.duration.specs.declared.Fitted.TheVariants as fit
 use Rattle.duration.specs.declared.Aligned.{Aligned}
-use Rattle.duration.specs.declared.Aligned.TheVariants as align
 use Rattle.steps.specs.Steps.{States, size}
 use Rattle.duration.specs.Shortest.{refusal_of_shortest}
 use Rattle.duration.specs.Fit.{fit_to, refusal_to}
 use Rattle.lists.specs.Sizes.{most_states, most_label_states}
 use Rattle.lists.specs.Refusals.{or_else}
-use Rattle.lists.specs.Answers.{Answer, accepting, refusing, answer_of, written}
+use Rattle.lists.specs.Answers.{Answer, answer_of, written}
 use Rattle.duration.specs.Speed.{fit_at, refusal_at}
 use Rattle.duration.specs.Align.{groups, fit_along, refusal_along}
 use Rattle.duration.specs.Drift.{NoDrift}
 
--- of a fit or a speed: the unit changes
-abbrev pub fitted : Fitted → Answer
-fitted (fit.Done changes) = accepting (changes ∷ [])
-fitted (fit.Refused number) = refusing number
-
 -- of an alignment: how many durations were written, one a state, and the unit changes
-abbrev pub aligned : Aligned → Answer
-aligned (align.Done count changes) = accepting (count ∷ changes ∷ [])
-aligned (align.Refused number) = refusing number
+abbrev pub aligned : Result Aligned Refusal → Answer
+aligned = answered (λ a. a.states ∷ a.changes ∷ [])
 
 -- RULES, Refusals: an accepted call, 7 and 8 zero the call's part of the work space; any other refusal leaves it as it was
 abbrev pub clears : ℕ → Bool
@@ -59,19 +52,19 @@ abbrev pub Says : ℕ → List ℕ → List ℕ → ℕ → List ℕ → List �
 Says k values = Answers (answer_of k values)
 
 -- `estimate_duration_with_frame_length`
-abbrev pub FitSays : States → Float → List ℕ → List ℕ → Fitted → List ℕ → List ℕ → Type 0
+abbrev pub FitSays : States → Float → List ℕ → List ℕ → Result ℕ Refusal → List ℕ → List ℕ → Type 0
 FitSays ss len out work r =
     let o = fit_to ss (rounded_of len) in
-    Says (or_else (early_refusal ss out work) (refusal_to ss (rounded_of len))) (o.changes ∷ []) o.durations (size ss) out work (fitted r)
+    Says (or_else (early_refusal ss out work) (refusal_to ss (rounded_of len))) (o.changes ∷ []) o.durations (size ss) out work (counted r)
 
 -- `create`
-abbrev pub SpeedSays : States → Float → List ℕ → List ℕ → Fitted → List ℕ → List ℕ → Type 0
+abbrev pub SpeedSays : States → Float → List ℕ → List ℕ → Result ℕ Refusal → List ℕ → List ℕ → Type 0
 SpeedSays ss speed out work r =
     let o = fit_at ss speed in
-    Says (or_else (early_refusal ss out work) (refusal_at ss speed)) (o.changes ∷ []) o.durations (size ss) out work (fitted r)
+    Says (or_else (early_refusal ss out work) (refusal_at ss speed)) (o.changes ∷ []) o.durations (size ss) out work (counted r)
 
 -- an alignment: one duration a state
-abbrev pub AlignSays : States → ℕ → List Float → List ℕ → List ℕ → Aligned → List ℕ → List ℕ → Type 0
+abbrev pub AlignSays : States → ℕ → List Float → List ℕ → List ℕ → Result Aligned Refusal → List ℕ → List ℕ → Type 0
 AlignSays ss nstate ends out work r =
     let gs = groups nstate 0 0 ends in
     let o = fit_along ss gs 0 in
@@ -79,6 +72,6 @@ AlignSays ss nstate ends out work r =
 
 -- `create_with_alignment`: and no call that is accepted drifts, since every end is an f64, off which the frames so far are taken with no error
 -- where it is not below them
-pub record AlignOnTime (ss : States) (nstate : ℕ) (ends : List Float) (out work : List ℕ) (r : Aligned) (out' work' : List ℕ) : Type 0 where
+pub record AlignOnTime (ss : States) (nstate : ℕ) (ends : List Float) (out work : List ℕ) (r : Result Aligned Refusal) (out' work' : List ℕ) : Type 0 where
   pub says : AlignSays ss nstate ends out work r out' work'
   pub on_time : (aligned r).number ≡ 0 → NoDrift nstate ends ss.shortest out'

@@ -1,11 +1,13 @@
 // Alignment: labels with an end close groups of states, and the states after the last of them are the tail.
-ghost use Rattle.std.specs.Prelude.{◌≡◌, [], ◌∷◌, ◌<◌};
-ghost use Rattle.steps.specs.Steps.{states};
-ghost use Rattle.duration.specs.Align.{label_of, given, tail, groups, fit_along, refusal_along};
-ghost use Rattle.duration.specs.Promise.{fitted};
+ghost use Rattle.std.specs.Prelude.{◌≡◌, [], ◌∷◌, ◌≤◌, ◌<◌, length};
+ghost use Rattle.steps.specs.Lent.{lent};
+ghost use Rattle.duration.specs.Align.{label_of, given, tail, states_in, groups, fit_along, refusal_along};
+ghost use Rattle.lists.specs.Ends.{counted};
 ghost use Rattle.duration.specs.Inner.Asked.{InPlace, Lies, closed, grown, Closes, Labelled};
 
-use crate::Fitted;
+use crate::fit::{estimate_duration, fit};
+use lists::Refusal;
+use steps::States;
 
 // A label's end: a time in frames, or open.
 #[derive(Clone, Copy)]
@@ -14,6 +16,7 @@ pub(crate) enum End {
     Open,
 }
 
+// A label's first state, and its end.
 #[derive(Clone, Copy)]
 pub(crate) struct Label {
     pub(crate) first: usize,
@@ -37,127 +40,112 @@ impl Label {
     }
 }
 
-// A group's unit changes and frames, or its refusal.
+// A group's unit changes and frames.
 #[derive(Clone, Copy)]
-pub(crate) enum Closed {
-    Grown(u32, u32),
-    Refused(u8),
+pub(crate) struct Grown {
+    pub(crate) changes: u32,
+    pub(crate) frames: u32,
 }
 
-impl Closed {
-    // The refusal's number, 0 for none.
-    fn number(self) -> u8
-        ensures { result ≡ (closed self).number }
-    {
-        match self {
-            Closed::Grown(_, _) => 0,
-            Closed::Refused(number) => number,
-        }
+// The states from one place up to another.
+fn part(states: States<'_>, from: usize, to: usize) -> States<'_>
+    requires order { from ≤ to }
+    requires means { to ≤ length states.means.now }
+    requires varis { to ≤ length states.varis.now }
+    requires shortest { to ≤ length states.shortest.now }
+    ensures { lent result ≡ states_in (tail from to) (lent states.entry) }
+{
+    States {
+        means: &states.means[from..to],
+        varis: &states.varis[from..to],
+        shortest: &states.shortest[from..to],
     }
 }
 
 // Fits the states from one place up to another to the end that they are given, after so many frames, in their place in work. A fit comes to its target, or
 // to the sum of the shortest, so that its frames need not be counted.
 fn close_group(
-    means: &[f64],
-    varis: &[f64],
-    shortest: &[u32],
-    end: f64,
-    frames: u32,
+    states: States,
     from: usize,
     to: usize,
+    end: f64,
+    frames: u32,
     work: &mut [u32],
-) -> Closed
-    requires lies { Lies (states means.now varis.now shortest.now) work.old (given from to end) frames }
+) -> Result<Grown, Refusal>
+    requires lies { Lies (lent states) work.old (given from to end) frames }
     requires from_lt_to { from < to }
-    ensures { Closes (states means.now varis.now shortest.now) (given from to end) frames work.old (grown (states means.now varis.now shortest.now) (given from to end) frames) (closed result) work.new }
+    ensures { Closes (lent states.entry) (given from to end) frames work.old (grown (lent states.entry) (given from to end) frames) (closed result) work.new }
 {
     let target = floats::rounded(end - (frames as f64));
-    let low = lists::total_u32(&shortest[from..to]) as u32;
-    let answer = crate::fit::fit(
-        &means[from..to],
-        &varis[from..to],
-        &shortest[from..to],
-        low,
-        target,
-        &mut work[from..to],
-    );
-    let Fitted::Done(changes) = answer else {
-        return Closed::Refused(answer.number());
+    let group = part(states, from, to);
+    let low = lists::total_u32(group.shortest) as u32;
+    let answer = fit(group, low, target, &mut work[from..to]);
+    let Ok(changes) = answer else {
+        return Err(answer.unwrap_err());
     };
-    let sum = crate::fit::larger(target, low);
+    let sum = target.max(low);
     if sum > 65_536 - frames {
-        return Closed::Refused(8);
+        return Err(Refusal::EstimateTooLong);
     }
-    Closed::Grown(changes, sum)
+    Ok(Grown {
+        changes,
+        frames: sum,
+    })
 }
 
 // Gives the states from one place up to another, the tail, their natural durations, after so many frames, in their place in work.
 // The answer is the alignment's, with the changes that there were.
 fn close_tail(
-    means: &[f64],
-    varis: &[f64],
-    shortest: &[u32],
-    frames: u32,
-    changes: u32,
+    states: States,
     from: usize,
     to: usize,
+    frames: u32,
+    changes: u32,
     work: &mut [u32],
-) -> Fitted
-    requires { Lies (states means.now varis.now shortest.now) work.old (tail from to) frames }
-    ensures { Closes (states means.now varis.now shortest.now) (tail from to) frames work.old (changes ∷ []) (fitted result) work.new }
+) -> Result<u32, Refusal>
+    requires { Lies (lent states) work.old (tail from to) frames }
+    ensures { Closes (lent states.entry) (tail from to) frames work.old (changes ∷ []) (counted result) work.new }
 {
     if from == to {
-        return Fitted::Done(changes);
+        return Ok(changes);
     }
-    let sum = crate::fit::estimate_duration(
-        &means[from..to],
-        &varis[from..to],
-        &shortest[from..to],
-        0.0,
-        &mut work[from..to],
-    );
-    if sum > (65_536 - frames) as u64 {
-        return Fitted::Refused(8);
+    let sum = estimate_duration(part(states, from, to), 0.0, &mut work[from..to]);
+    if sum > u64::from(65_536 - frames) {
+        return Err(Refusal::EstimateTooLong);
     }
-    Fitted::Done(changes)
+    Ok(changes)
 }
 
 // Fits each group of labels to its end, in place in work, and then the tail, and counts the unit changes.
 pub(crate) fn fit_along(
-    means: &[f64],
-    varis: &[f64],
-    shortest: &[u32],
+    states: States,
     nstate: usize,
     ends: &[f64],
     work: &mut [u32],
-) -> Fitted
-    requires { Labelled (states means.now varis.now shortest.now) nstate ends.now work.old }
-    ensures { InPlace (refusal_along (states means.now varis.now shortest.now) (groups nstate 0 0 ends.now) 0) (fit_along (states means.now varis.now shortest.now) (groups nstate 0 0 ends.now) 0) result work.new }
+) -> Result<u32, Refusal>
+    requires { Labelled (lent states) nstate ends.now work.old }
+    ensures { InPlace (refusal_along (lent states.entry) (groups nstate 0 0 ends.now) 0) (fit_along (lent states.entry) (groups nstate 0 0 ends.now) 0) result work.new }
 {
     let mut done = 0;
     let mut first = 0;
     let mut frames: u32 = 0;
     let mut changes: u32 = 0;
-    let mut i = 0;
-    while i < ends.len() {
-        let label = Label::new(first, ends[i]);
-        let next = label.first + nstate;
+    for end in ends {
+        let label = Label::new(first, *end);
+        first = label.first + nstate;
         let end = label.end;
-        first = next;
-        i += 1;
         match end {
             End::Open => {}
             End::At(time) => {
-                let group = close_group(means, varis, shortest, time, frames, done, next, work);
-                let Closed::Grown(more, length) = group else {
-                    return Fitted::Refused(group.number());
+                let answer = close_group(states, done, first, time, frames, work);
+                let Ok(group) = answer else {
+                    return Err(answer.unwrap_err());
                 };
-                changes += more;
-                frames += length;
-                done = next;
+                changes += group.changes;
+                frames += group.frames;
+                done = first;
             }
         }
     }
-    close_tail(means, varis, shortest, frames, changes, done, first, work)
+    close_tail(states, done, first, frames, changes, work)
 }

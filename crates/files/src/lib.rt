@@ -1,8 +1,7 @@
 // What the programs share that read a file or standard input. No contract can say what is read or written.
 #![tactic(auto)]
 
-ghost use Rattle.std.specs.Prelude.{◌≡◌, ◌≤◌, length};
-ghost use Rattle.files.specs.Reading.{Within};
+ghost use Rattle.std.specs.Prelude.{◌≡◌, ◌≤◌, length, IfOk};
 ghost use Rattle.files.specs.Words.{is_text};
 
 use std::env::{Env, FillError};
@@ -13,39 +12,20 @@ use std::{fs, io, str};
 // The most bytes of a word that a program is given: those of the longest path.
 pub const WORD: usize = 4096;
 
-// How many bytes were read, unless a read failed.
-#[derive(Clone, Copy)]
-pub enum Input {
-    Bytes(usize),
-    Failed(io::Error),
-}
-
-// Reads once: no bytes where the input has ended.
-pub fn read_some<R: Read>(from: &mut R, room: &mut [u8]) -> Input
-    ensures { Within result (length room.new) }
-{
-    match from.read(room) {
-        Ok(got) => Input::Bytes(got),
-        Err(error) => Input::Failed(error),
-    }
-}
-
 // Reads until the input ends or there is no room left.
-pub fn read_all<R: Read>(from: &mut R, room: &mut [u8]) -> Input
-    ensures { Within result (length room.new) }
+pub fn read_all<R: Read>(from: &mut R, room: &mut [u8]) -> io::Result<usize>
+    ensures { IfOk result (λ n. n ≤ length room.new) }
 {
     let mut n = 0;
+    // A turn takes as many bytes as one read gives.
     while n < room.len() {
-        let more = match read_some(from, &mut room[n..]) {
-            Input::Bytes(more) => more,
-            Input::Failed(error) => return Input::Failed(error),
-        };
+        let more = from.read(&mut room[n..])?;
         if more == 0 {
-            return Input::Bytes(n);
+            return Ok(n);
         }
         n += more;
     }
-    Input::Bytes(n)
+    Ok(n)
 }
 
 // Opens a file to be read.
@@ -68,16 +48,16 @@ pub fn word_count(env: &impl Env) -> usize {
 }
 
 // The word at a place, if there is room for it.
-pub fn word(env: &impl Env, place: usize, room: &mut [u8]) -> Input
-    ensures { Within result (length room.new) }
+pub fn word(env: &impl Env, place: usize, room: &mut [u8]) -> io::Result<usize>
+    ensures { IfOk result (λ n. n ≤ length room.new) }
 {
     match env.arg(place, room) {
-        Ok(n) => Input::Bytes(n),
-        Err(FillError::TooLong) => Input::Failed(io::Error::new(
+        Ok(n) => Ok(n),
+        Err(FillError::TooLong) => Err(io::Error::new(
             ErrorKind::InvalidFilename,
             "File name too long",
         )),
-        Err(FillError::NotPresent) => Input::Failed(io::Error::new(
+        Err(FillError::NotPresent) => Err(io::Error::new(
             ErrorKind::InvalidInput,
             "Invalid argument",
         )),
@@ -88,7 +68,7 @@ pub fn word(env: &impl Env, place: usize, room: &mut [u8]) -> Input
 pub fn is(word: &[u8], text: &[u8]) -> bool
     ensures { result ≡ is_text word.now text.now }
 {
-    (word.len() == text.len()) & lists::starts_with(word, text)
+    word == text
 }
 
 // How long an error's text is, up to its number or the zeros that are left of its room.
@@ -114,6 +94,13 @@ pub fn fail(err: &impl io::Print, program: &[u8], what: &[u8], error: &io::Error
     let _ = err.write_all(b": ");
     let _ = err.write_all(&text[..n]);
     let _ = err.write_all(b"\n");
+}
+
+// Says it where not all could be printed.
+pub fn end_of_print(err: &impl io::Print, program: &[u8], printed: io::Result<()>) {
+    if let Err(error) = printed {
+        fail(err, program, b"standard output", &error);
+    }
 }
 
 // Says on standard error that a program has no such option.

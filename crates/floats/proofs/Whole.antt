@@ -1,13 +1,13 @@
 -- `rounded_of` by the value, and the value by the bit pattern.
 use mathlib.Core.Path.{◌≡◌, refl, sym, ap, ◌∙◌, subst}
-use mathlib.Core.Bool.{true, false, not, true≢false}
+use mathlib.Core.Bool.{true, false, true≢false}
 use Prim.Native.Nat.{ℕ, zero, suc, ◌+◌, ◌-◌, ◌*◌, ◌/◌, ◌%◌, ◌^◌, ◌≤◌, ◌<◌}
 use native.Mathlib.Nat.{mul_assoc}
 use native.Mathlib.Omega.{arith}
 use borrow.Author.Tests.{ltb-false}
 use lib.Dec.{T}
 use lib.Pow.{pow_pos, pow-add}
-use lib.Ieee.{Float, nan, inf, fin, binary64, up, down, odd, fits, is_nan, lt, le, of_fields, of_bits, to_bits}
+use lib.Ieee.{Float, nan, inf, fin, binary64, up, down, odd, fits, lt, le, of_fields, of_bits, to_bits}
 use lib.Ieee.Fits.{down_pos}
 use lib.Ieee.Bits.{of_bits-to_bits}
 use lib.Ieee.Exact.{HasValue, odd_sign}
@@ -97,21 +97,12 @@ digits_value b g h =
         subst (λ (v : Float). HasValue v false ((t + 2 ^ 52) * 2 ^ k) (2 ^ 52)) (sym (normal_is j t (omega arith)))
         (value_same (odd 53 false d j 1074) false (d * 2 ^ j) (2 ^ 1074) ((t + 2 ^ 52) * 2 ^ k) (2 ^ 52) (pow_pos 1074) (scaled d (t + 2 ^ 52) j k (omega arith) (omega arith)) (odd_sign 53 false d j 1074))
 
-positive-number : (x : Float) → T (positive x) → T (not (is_nan x))
-unfolding is_nan
-positive-number nan p = absurd p
-positive-number (inf s) p = tt
-positive-number (fin s m e) p = tt
-
 module _ (x : Float) (F : T (fits binary64 x)) (from : T (le one x)) (to : T (le x most)) where
   abbrev b : ℕ
   b = to_bits binary64 x
 
   inside : T (positive x)
   inside = between one x most one-positive most-positive from to
-
-  pub no_nan_inside : T (not (is_nan x))
-  no_nan_inside = positive-number x inside
 
   pub field_from : 1023 ≤ b / 2 ^ 52
   unfolding to_bits of_bits fits

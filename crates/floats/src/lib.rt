@@ -93,9 +93,7 @@ fn nearest_root(d: u64) -> u64
     let mut root: u64 = 0;
     let mut left: u64 = 0;
     let mut rest = d;
-    let mut turn: u64 = 0;
-    while turn < 53 {
-        turn += 1;
+    for _turn in 0..53u64 {
         let next = left * 4 + rest / 0x10_0000_0000_0000;
         rest = rest % 0x10_0000_0000_0000 * 4;
         let trial = root * 4 + 1;

@@ -1,7 +1,7 @@
 -- Laws of the gradient, which is made row by row with the objective's first part.
 use mathlib.Core.Path.{◌≡◌, refl, ap, ◌∙◌}
 use mathlib.Core.List.{List}
-use Prim.Native.Nat.{ℕ, ◌+◌, ◌<◌, ◌≤◌}
+use Prim.Native.Nat.{ℕ, ◌+◌, ◌-◌, ◌<◌, ◌≤◌}
 use native.Mathlib.Nat.{mul-le-mul_left}
 use native.Mathlib.Omega.{arith}
 use lib.ListN.{length, set}
@@ -22,10 +22,13 @@ use Rattle.region.proofs.Stores.{factors-stored}
 use Rattle.gv.specs.Gv.{plus_right, plus_left, beside, gradient_at, gradient, hmm_term, hmm_obj}
 use Rattle.gv.specs.Inner.Turns.{Graded}
 
--- ---- a row: g has the diagonal and k entries to each side
+-- ---- a row: g has the diagonal and the entries before i to each side
 
-pub beside-next : (w : ℕ) (wuw par : List Float) (t k : ℕ) (g y x z : Float) → g ≡ over (beside w wuw par t) k y → x ≡ plus_right w wuw par t (k + 1) g → z ≡ plus_left w wuw par t (k + 1) x → z ≡ over (beside w wuw par t) (k + 1) y
-beside-next w wuw par t k g y x z e a b = b ∙ rw (a, e) (over-step (beside w wuw par t) k y)
+pub beside-next : (w : ℕ) (wuw par : List Float) (t i : ℕ) (g y x z : Float) → 0 < i → g ≡ over (beside w wuw par t) (i - 1) y → x ≡ plus_right w wuw par t i g → z ≡ plus_left w wuw par t i x → z ≡ over (beside w wuw par t) (i + 1 - 1) y
+beside-next w wuw par t i g y x z h e a b =
+    let o : i + 1 - 1 ≡ i - 1 + 1 = omega arith in
+    let q : i ≡ i - 1 + 1 = omega arith in
+    (rw q at b) ∙ rw (rw q at a, e, o) (over-step (beside w wuw par t) (i - 1) y)
 
 -- ---- the rows: m is a region d with t rows of its gradient, h the sum of their terms
 

@@ -1,28 +1,66 @@
 -- Laws of the switches, and of sums over the switched values.
 use mathlib.Core.Path.{◌≡◌, refl, sym, ◌∙◌}
-use mathlib.Core.Bool.{Bool, true, false, cond}
+use mathlib.Core.Bool.{Bool, true, false, cond, not}
 use mathlib.Core.List.{List, [], ◌∷◌, map}
-use Prim.Native.Nat.{ℕ, suc, ◌+◌, ◌<◌, ◌≤◌}
+use mathlib.Core.Logic.{⊎_elim}
+use Prim.Native.Nat.{ℕ, zero, suc, ◌+◌, ◌<◌, ◌≤◌}
 use native.Mathlib.Numerals.{add-one}
 use native.Mathlib.Omega.{arith}
-use lib.ListN.{length, get_or, drop, drop_of_length-le, length-map, get_or-map}
+use borrow.Author.Tests.{lt-ltb, le-ltb, ne_eqb}
+use lib.Dec.{eqb, ltb}
+use lib.ListN.{length, get_or, drop, drop_of_length-le, length-map}
 use lib.Seq.{drop-cons}
 use lib.Ieee.{Float, nan, binary64, add}
+use Rattle.std.specs.Prelude.{Some, None}
+use Rattle.std.specs.Option.{unwrap_or}
+use Rattle.std.specs.List.{count_by, position, position_or_len}
+use Rattle.std.proofs.lemmas.List.Recursion.{is_count_by}
 use Rattle.lists.specs.Build.{fold_from}
 use Rattle.lists.specs.Frames.{select, count}
 use Rattle.lists.specs.Flags.{is_on}
-use Rattle.lists.proofs.Flags.{on_true}
+use Rattle.lists.proofs.Numbers.{le_or_lt}
 use Rattle.lists.proofs.Counts.{count_most}
 use Rattle.region.specs.Rows.{elem}
 use Rattle.gv.specs.Gv.{sum_from_first}
-use Rattle.gv.specs.Inner.Turns.{first_on, joined, Sampled}
+use Rattle.gv.specs.Inner.Turns.{first_on, Sampled}
 use Rattle.gv.specs.declared.MlpgGlobalVariance.{MlpgGlobalVariance}
 
-pub switch_off : (on : List ℕ) (t : ℕ) → get_or on t 0 ≡ 0 → false ≡ get_or (map is_on on) t false
-switch_off on t e = sym (get_or-map is_on on t 0 ∙ rw e)
+-- a number that is not 0 is on
+not_zero : (x : ℕ) → eqb (suc x) 0 ≡ false
+not_zero x = ne_eqb (suc x) 0 (λ e. omega arith)
 
-pub switch_on : (on : List ℕ) (t : ℕ) → (get_or on t 0 ≡ 0 → ⊥) → true ≡ get_or (map is_on on) t false
-switch_on on t e = sym (get_or-map is_on on t 0 ∙ on_true (get_or on t 0) e)
+pub on_is : (x : ℕ) → not (eqb x 0) ≡ is_on x
+on_is zero = refl
+on_is (suc x) = rw (not_zero x)
+
+-- how many are on
+count_step : (x : ℕ) (on : List ℕ) → count (map is_on (x ∷ on)) ≡ cond (not (eqb x 0)) (1 + count (map is_on on)) (count (map is_on on))
+unfolding count
+count_step zero on = refl
+count_step (suc x) on = rw (not_zero x) (omega arith)
+
+pub count_is : (on : List ℕ) → count_by (λ x. not (eqb x 0)) on ≡ count (map is_on on)
+unfolding count
+count_is on = sym (is_count_by (λ l. count (map is_on l)) (λ x. not (eqb x 0)) refl count_step on)
+
+-- the first that is, or the end
+first_is : (on : List ℕ) → position_or_len (λ x. not (eqb x 0)) on ≡ first_on (map is_on on)
+unfolding first_on
+first_is [] = refl
+first_is (zero ∷ on) = omega (arith, first_is on)
+first_is (suc x ∷ on) = rw (not_zero x)
+
+first_most : (bs : List Bool) → first_on bs ≤ length bs
+unfolding first_on
+first_most [] = omega arith
+first_most (true ∷ bs) = omega arith
+first_most (false ∷ bs) = omega (arith, first_most bs)
+
+or_end : (k n : ℕ) → k ≤ n → unwrap_or (cond (ltb k n) (Some k) None) n ≡ k
+or_end k n h = ⊎_elim (λ (g : n ≤ k). let e : n ≡ k = omega (arith, g, h) in rw (le-ltb k n g) e) (λ (g : k < n). rw (lt-ltb k n g)) (le_or_lt n k)
+
+pub first_or_end : (on : List ℕ) → unwrap_or (position (λ x. not (eqb x 0)) on) (length on) ≡ first_on (map is_on on)
+first_or_end on = or_end (position_or_len (λ x. not (eqb x 0)) on) (length on) (omega (arith, first_is on, first_most (map is_on on), length-map on is_on)) ∙ first_is on
 
 first-inside : (bs : List Bool) → 0 < count bs → first_on bs < length bs
 unfolding count first_on
@@ -42,30 +80,6 @@ module _ (on : List ℕ) where
 
   none : (t : ℕ) → length on ≤ t → drop t bools ≡ []
   none t h = let q : length bools ≤ t = rw bools-length h in drop_of_length-le bools q
-
-  pub count-on : (t : ℕ) → t < length on → get_or bools t false ≡ true → count (drop t bools) ≡ count (drop (t + 1) bools) + 1
-  unfolding count
-  count-on t h e = rw (next t h, e) (omega arith)
-
-  pub count-off : (t : ℕ) → t < length on → get_or bools t false ≡ false → count (drop t bools) ≡ count (drop (t + 1) bools)
-  unfolding count
-  count-off t h e = rw (next t h, e)
-
-  pub count-end : (t : ℕ) → length on ≤ t → count (drop t bools) ≡ 0
-  unfolding count
-  count-end t h = rw (none t h)
-
-  pub first_on_lem : (t : ℕ) → t < length on → get_or bools t false ≡ true → first_on (drop t bools) ≡ 0
-  unfolding first_on
-  first_on_lem t h e = rw (next t h, e)
-
-  pub first_off : (t : ℕ) → t < length on → get_or bools t false ≡ false → first_on (drop t bools) ≡ first_on (drop (t + 1) bools) + 1
-  unfolding first_on
-  first_off t h e = rw (next t h, e) (omega arith)
-
-  pub first-end : (t : ℕ) → length on ≤ t → first_on (drop t bools) ≡ 0
-  unfolding first_on
-  first-end t h = rw (none t h)
 
   -- ---- what is known where some frame is switched
 
@@ -105,14 +119,17 @@ module _ (f : Float → Float) (on : List ℕ) (par : List Float) (e : length on
       record { within = omega arith; rest = rw (q, select-first (map is_on on) par (bools-length on ∙ e) b, ← o, add-one) }
 
   module _ (t : ℕ) (sum : Float) (k : Summing f on par t sum) where
-    pub summing_next : (sum' : Float) → t < length par → sum' ≡ joined f (map is_on on) par t sum → Summing f on par (t + 1) sum'
+    pub summing_on : get_or (map is_on on) t false ≡ true → t < length par → (y : Float) → y ≡ f (elem par t) → Summing f on par (t + 1) (add binary64 sum y)
     unfolding select fold_from
-    summing_next sum' h q =
-        let one = (elim (get_or (map is_on on) t false) as (λ b. get_or (map is_on on) t false ≡ b → sum_from f on par (t + 1) (cond b (add binary64 sum (f (elem par t))) sum) ≡ sum_from f on par t sum) [
-          | true ↦ λ o. rw (next on t (omega arith), o, drop-cons par t nan h, add-one)
-          | false ↦ λ o. rw (next on t (omega arith), o, drop-cons par t nan h, add-one)
-        ]) refl in
+    summing_on o h y q =
+        let one : sum_from f on par (t + 1) (add binary64 sum (f (elem par t))) ≡ sum_from f on par t sum = rw (next on t (omega arith), o, drop-cons par t nan h, add-one) in
         record { within = omega arith; rest = rw q (one ∙ k.rest) }
+
+    pub summing_off : get_or (map is_on on) t false ≡ false → t < length par → Summing f on par (t + 1) sum
+    unfolding select fold_from
+    summing_off o h =
+        let same : sum_from f on par (t + 1) sum ≡ sum_from f on par t sum = rw (next on t (omega arith), o, drop-cons par t nan h, add-one) in
+        record { within = omega arith; rest = same ∙ k.rest }
 
     pub summing_done : length par ≤ t → sum ≡ sum_from_first f (select (map is_on on) par)
     unfolding select fold_from

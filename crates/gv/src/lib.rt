@@ -13,16 +13,14 @@ ghost use Rattle.gv.specs.Gv.{mean_of, vari_of, conv_gv, weight_of, hmm_obj};
 ghost use Rattle.gv.specs.Promise.{opens, VarySays};
 ghost use Rattle.gv.specs.Inner.Turns.{Counted, Planned, Sampled, Suited, Pulls, moved_in, lists_in, gradient_of, Turned, five_turns, parmgen_in};
 
-use gradient::{inner_rows_of_three, rows_by_entries};
+use gradient::{grade_rows, gradient_at, gradient_of_three};
 use objective::{W2, gv_obj, weight_of};
-use reads::el;
 use region::{Layout, Places};
 use steps::{Descent, Pull, next_at};
-use switches::{count_on, first_on, is_switched, rescale, squares_sum, switched_sum};
+use switches::{count_on, first_on, is_switched, rescale, switched_sum};
 
 mod gradient;
 mod objective;
-mod reads;
 mod steps;
 mod switches;
 
@@ -55,17 +53,12 @@ impl MlpgGlobalVariance {
         requires { length on.now ≡ g.n }
         ensures { Planned g (map is_on on.now) result }
     {
-        let windows = lists::small(g.windows);
-        let length = on.len();
-        let width = lists::small(g.w);
-        let switched = count_on(on);
-        let first = first_on(on);
         MlpgGlobalVariance {
-            windows,
-            length,
-            width,
-            switched,
-            first,
+            windows: usize::from(g.windows),
+            length: on.len(),
+            width: usize::from(g.w),
+            switched: count_on(on),
+            first: first_on(on),
         }
     }
 
@@ -76,8 +69,8 @@ impl MlpgGlobalVariance {
     {
         let first = self.first;
         let n = self.switched as f64;
-        let mean = switched_sum(par, on, first) / n;
-        let vari = squares_sum(par, on, first, mean) / n;
+        let mean = switched_sum(par, on, first, |x| x) / n;
+        let vari = switched_sum(par, on, first, |x| (x - mean) * (x - mean)) / n;
         Moments { mean, vari }
     }
 
@@ -100,12 +93,15 @@ impl MlpgGlobalVariance {
         let n = self.length;
         let w = self.width;
         let weight = weight_of(self.windows, n);
+        let by_entries = |m: &[f64], t: usize| gradient_at(m, p, n, w, t);
         if w == 3 && 5 <= n {
-            let first = rows_by_entries(m, p, n, w, 0, 2, weight, 0.0);
-            let inner = inner_rows_of_three(m, p, n, weight, first);
-            return rows_by_entries(m, p, n, w, n - 2, n, weight, inner);
+            let first = grade_rows(m, p, n, w, 0, 2, weight, 0.0, by_entries);
+            let inner = grade_rows(m, p, n, w, 2, n - 2, weight, first, |m, t| {
+                gradient_of_three(m, p, n, t)
+            });
+            return grade_rows(m, p, n, w, n - 2, n, weight, inner, by_entries);
         }
-        rows_by_entries(m, p, n, w, 0, n, weight, 0.0)
+        grade_rows(m, p, n, w, 0, n, weight, 0.0, by_entries)
     }
 
     // What the next step is the same in for every frame.
@@ -137,11 +133,11 @@ impl MlpgGlobalVariance {
     {
         next_at(
             s,
-            el(m, p.rows + t * self.width),
+            m[p.rows + t * self.width],
             is_switched(on, t),
-            el(m, p.factors + t),
-            el(m, p.right + t),
-            el(m, p.values + t),
+            m[p.factors + t],
+            m[p.right + t],
+            m[p.values + t],
         )
     }
 
@@ -150,13 +146,9 @@ impl MlpgGlobalVariance {
         requires { Suited self p (length m.old) × (length on.now ≡ self.length) }
         ensures { m.new ≡ sets m.old p.values (build (moved_in self p (map is_on on.now) s m.old) self.length) }
     {
-        let n = self.length;
-        let values = p.values;
-        let mut t = 0;
-        while t < n {
+        for t in 0..self.length {
             let x = self.step_at(m, p, on, s, t);
-            m[values + t] = x;
-            t += 1;
+            m[p.values + t] = x;
         }
     }
 
@@ -189,10 +181,8 @@ impl MlpgGlobalVariance {
         ensures { lists_in self p m.new ≡ five_turns self (map is_on on.now) gv_mean gv_vari (lists_in self p m.old) (lists_in self p m.old).values }
     {
         let mut s = Descent::start();
-        let mut k = 0;
-        while k < Self::GV_MAX_ITERATION {
+        for _ in 0..Self::GV_MAX_ITERATION {
             s = self.turn(m, p, on, gv_mean, gv_vari, s);
-            k += 1;
         }
     }
 
@@ -224,15 +214,10 @@ impl MlpgGlobalVariance {
         ensures { Across (λ l b e. lists_in self p e ≡ parmgen_in self (map is_on on.now) (mul binary64 (elem means.now l) weight) (elem varis.now l) (lists_in self p b))
             p.size (length means.now) work.old work.new }
     {
-        let lanes = means.len();
-        let size = p.size;
-        let mut l = 0;
-        let mut o = 0;
-        while l < lanes {
-            let e = o + size;
-            self.parmgen(&mut work[o..e], p, on, means[l] * weight, varis[l]);
-            o = e;
-            l += 1;
+        for l in 0..means.len() {
+            let o = l * p.size;
+            let m = &mut work[o..o + p.size];
+            self.parmgen(m, p, on, means[l] * weight, varis[l]);
         }
     }
 }
@@ -241,22 +226,12 @@ impl MlpgGlobalVariance {
 fn opens(g: Layout, on: usize, means: usize, varis: usize, floats: usize) -> bool
     ensures { result ≡ opens g on means varis floats }
 {
-    if g.w == 0 {
-        return false;
-    }
-    if 4 < g.windows {
-        return false;
-    }
-    if 65536 < g.n {
-        return false;
-    }
-    if on != lists::wide(g.n) {
-        return false;
-    }
-    if varis != means {
-        return false;
-    }
-    g.fits(means, floats)
+    0 < g.w
+        && g.windows <= 4
+        && g.n <= 65536
+        && on == g.n as usize
+        && varis == means
+        && g.fits(means, floats)
 }
 
 // The global variance of each component, one for each mean, with the weight of the means; nothing where the lists don't fit.

@@ -3,14 +3,14 @@ use mathlib.Core.Path.{◌≡◌, sym, ap, subst, ◌∙◌}
 use mathlib.Core.List.{List}
 use Prim.Native.Nat.{ℕ}
 use lib.Ieee.{Float}
-use Rattle.lists.specs.Ends.{changed_number, counted}
-use Rattle.lists.specs.declared.Changed.{Changed}
-use Rattle.lists.specs.declared.Changed.TheVariants.{Done}
-use Rattle.lists.specs.declared.Counted.{Counted}
-use Rattle.houses.specs.declared.Used.{Used}
+use Rattle.std.specs.Prelude.{Result, Ok}
+use Rattle.lists.specs.Ends.{counted, spanned, refused}
+use Rattle.lists.specs.declared.Refusal.{Refusal}
+use Rattle.lists.specs.declared.Span.{Span}
+use Rattle.lists.proofs.Ends.{accepted_ok}
 use Rattle.houses.specs.Slots.{Table}
 use Rattle.houses.specs.Changes.{SameSets}
-use Rattle.houses.specs.Promise.{used, StartSays, start_refusal}
+use Rattle.houses.specs.Promise.{StartSays}
 use Rattle.houses.specs.Calls.{Asked, Told, changed, told_used, told_count, Makes, Call, Run, own_calls, asked_in, Alike}
 use Rattle.houses.specs.Calls as below
 use Rattle.houses.specs.Apart.{ToldTheSame, ChangesItsOwn, Apart}
@@ -19,30 +19,29 @@ use Rattle.houses.proofs.Apart.{apart}
 use Rattle.houses.proofs.Started.{started-alike}
 use Rattle.hejmirov.specs.Houses.{TableStartCallSays, CallAsked, CallTold, number, CallMakes, set_made, clear_made, use_made, free_made}
 use Rattle.hejmirov.proofs.One.{hands_one, hands_two}
-use Rattle.hejmirov.proofs.Keeping.{zero-done}
 
 -- ---- one call: what is told is the answer of the call below it
 
-same_change : {a b : Changed} → changed a ≡ changed b → a ≡ b
+same_change : {a b : Result (Unit {0}) Refusal} → changed a ≡ changed b → a ≡ b
 same_change e = cc
 
-same_use : {a b : Used} {v w : List ℕ} → told_used a v ≡ told_used b w → (a ≡ b) × (v ≡ w)
+same_use : {a b : Result Span Refusal} {v w : List ℕ} → told_used a v ≡ told_used b w → (a ≡ b) × (v ≡ w)
 same_use e = (cc, cc)
 
-same_count : {a b : Counted} → told_count a ≡ told_count b → a ≡ b
+same_count : {a b : Result ℕ Refusal} → told_count a ≡ told_count b → a ≡ b
 same_count e = cc
 
 pub calls-told : ToldTheSame CallMakes
 calls-told house asked x y t u t' u' a (set_made f) (set_made g) =
     let (e, l) = told_the_same house _ _ _ t u t' u' a (below.set_made f.says) (below.set_made g.says) in
-    (ap number (f.gives ∙ ap changed_number (same_change e) ∙ sym g.gives), l)
+    (ap number (f.gives ∙ ap refused (same_change e) ∙ sym g.gives), l)
 calls-told house asked x y t u t' u' a (clear_made f) (clear_made g) =
     let (e, l) = told_the_same house _ _ _ t u t' u' a (below.clear_made f.says) (below.clear_made g.says) in
-    (ap number (f.gives ∙ ap changed_number (same_change e) ∙ sym g.gives), l)
+    (ap number (f.gives ∙ ap refused (same_change e) ∙ sym g.gives), l)
 calls-told house asked x y t u t' u' a (use_made {first = first} {count} {r} {first'} {count'} f) (use_made {r = q} {first' = first''} {count' = count''} g) =
     let (e, l) = told_the_same house _ _ _ t u t u a (below.use_made f.says) (below.use_made g.says) in
     let (i, w) = same_use e in
-    let (n, m, k) = hands_two _ _ first count r q first' count' first'' count'' (ap used i) f.gives g.gives in
+    let (n, m, k) = hands_two _ _ first count r q first' count' first'' count'' (ap spanned i) f.gives g.gives in
     (rw (n, m, w, k), l)
 calls-told house asked x y t u t' u' a (free_made {free = free} {r} {free'} f) (free_made {r = q} {free' = free''} g) =
     let (e, l) = told_the_same house _ _ _ t u t u a (below.free_made f.says) (below.free_made g.says) in
@@ -74,8 +73,8 @@ calls-apart = apart CallMakes calls-told calls_change
 
 -- and of tables that two such calls have started with the same sets, whatever they held
 module _ {t u t' u' : Table} (common : ℕ) (ws vs : List ℕ) (cs : List Float) (a : TableStartCallSays t common ws cs 0 t') (b : TableStartCallSays u common vs cs 0 u') (same : SameSets common ws vs) where
-  done : {t t' : Table} {ws : List ℕ} → TableStartCallSays t common ws cs 0 t' → StartSays t common ws cs Done t'
-  done {t} {t'} {ws} c = subst (λ (x : Changed). StartSays t common ws cs x t') (zero-done (start_refusal t common ws cs) c.answer c.says.answer (sym c.gives)) c.says
+  done : {t t' : Table} {ws : List ℕ} → TableStartCallSays t common ws cs 0 t' → StartSays t common ws cs (Ok tt) t'
+  done {t} {t'} {ws} c = subst (λ (x : Result (Unit {0}) Refusal). StartSays t common ws cs x t') (accepted_ok c.answer (sym c.gives)) c.says
 
   pub calls-start-alike : (house : ℕ) → Alike house t' u'
   calls-start-alike = started-alike common ws vs cs (done a) (done b) same

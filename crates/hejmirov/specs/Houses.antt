@@ -1,40 +1,39 @@
 -- What the C calls of a table of window sets promise: a call below is made, and its answer taken apart; and these calls one after the other.
-use Rattle.std.specs.Prelude.{◌≡◌, List, ℕ, Float}
-use Rattle.lists.specs.Ends.{changed_number, counted}
-use Rattle.lists.specs.declared.Changed.{Changed}
-use Rattle.lists.specs.declared.Counted.{Counted}
+use Rattle.std.specs.Prelude.{◌≡◌, Result, List, ℕ, Float}
+use Rattle.lists.specs.Ends.{counted, spanned, refused}
+use Rattle.lists.specs.declared.Refusal.{Refusal}
+use Rattle.lists.specs.declared.Span.{Span}
 use Rattle.houses.specs.Slots.{Table}
-use Rattle.houses.specs.Promise.{used, StartSays, SetSays, ClearSays, UseSays, FreeSays}
-use Rattle.houses.specs.declared.Used.{Used}
+use Rattle.houses.specs.Promise.{StartSays, SetSays, ClearSays, UseSays, FreeSays}
 use Rattle.hejmirov.specs.Promise.{HandsOne, HandsTwo}
 
 -- `hejmirov_table_start`
 pub record TableStartCallSays (t : Table) (common : ℕ) (widths : List ℕ) (coefs : List Float) (r : ℕ) (t' : Table) : Type 0 where
-  pub answer : Changed
+  pub answer : Result (Unit {0}) Refusal
   pub says : StartSays t common widths coefs answer t'
-  pub gives : r ≡ changed_number answer
+  pub gives : r ≡ refused answer
 
 -- `hejmirov_table_set`
 pub record TableSetCallSays (t : Table) (house s : ℕ) (widths : List ℕ) (coefs : List Float) (r : ℕ) (t' : Table) : Type 0 where
-  pub answer : Changed
+  pub answer : Result (Unit {0}) Refusal
   pub says : SetSays t house s widths coefs answer t'
-  pub gives : r ≡ changed_number answer
+  pub gives : r ≡ refused answer
 
 -- `hejmirov_table_clear`
 pub record TableClearCallSays (t : Table) (house s r : ℕ) (t' : Table) : Type 0 where
-  pub answer : Changed
+  pub answer : Result (Unit {0}) Refusal
   pub says : ClearSays t house s answer t'
-  pub gives : r ≡ changed_number answer
+  pub gives : r ≡ refused answer
 
 -- `hejmirov_table_use`
 pub record TableUseCallSays (t : Table) (house s first : ℕ) (widths : List ℕ) (count r first' : ℕ) (widths' : List ℕ) (count' : ℕ) : Type 0 where
-  pub answer : Used
+  pub answer : Result Span Refusal
   pub says : UseSays t house s widths answer widths'
-  pub gives : HandsTwo (used answer) first count r first' count'
+  pub gives : HandsTwo (spanned answer) first count r first' count'
 
 -- `hejmirov_table_free`
 pub record TableFreeCallSays (t : Table) (house free r free' : ℕ) : Type 0 where
-  pub answer : Counted
+  pub answer : Result ℕ Refusal
   pub says : FreeSays t house answer
   pub gives : HandsOne (counted answer) free r free'
 

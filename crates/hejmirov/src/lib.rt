@@ -3,32 +3,86 @@
 // A list is a pointer and a length.
 #![tactic(auto)]
 
-ghost use Rattle.std.specs.Prelude.{◌≡◌};
+ghost use Rattle.std.specs.Prelude.{◌≡◌, ℕ};
 ghost use Rattle.steps.specs.Steps.{states};
-ghost use Rattle.duration.specs.Promise.{fitted, aligned};
-ghost use Rattle.lists.specs.Ends.{filled, changed_number, counted};
-ghost use Rattle.mlpg_adjust.specs.Promise.{created};
-ghost use Rattle.spool.specs.Promise.{placed, spanned};
-ghost use Rattle.read_along.specs.Promise.{counted_as, written_as, parted_as};
+ghost use Rattle.lists.specs.Refusals.{number_of};
+ghost use Rattle.read_along.specs.Promise.{number_of as words_number};
 ghost use Rattle.job.specs.Damage.{old_number};
 ghost use Rattle.job.specs.Promise.{answered};
-ghost use Rattle.hejmirov.specs.Settings.{HandsSettings, SettingsClearCallSays, SettingsSetCallSays, SettingsGetCallSays, SettingsRemoveCallSays, SettingsCountCallSays, SettingsReadCallSays, SettingsWriteCallSays};
+ghost use Rattle.mlpg_adjust.specs.Promise.{created};
+ghost use Rattle.houses.specs.Slots.{table};
+ghost use Rattle.hejmirov.specs.Settings.{SettingsClearCallSays, SettingsSetCallSays, SettingsGetCallSays, SettingsRemoveCallSays, SettingsCountCallSays, SettingsReadCallSays, SettingsWriteCallSays};
 ghost use Rattle.hejmirov.specs.Words.{WordsSpansCallSays, WordsMillisecondsCallSays, WordsAtCallSays, WordsExcerptCallSays, WordsWriteCallSays, WordsReadCallSays};
 ghost use Rattle.hejmirov.specs.Runs.{RunsCallSays, RunCallSays};
-ghost use Rattle.houses.specs.Slots.{table};
-ghost use Rattle.houses.specs.Promise.{used};
 ghost use Rattle.hejmirov.specs.Houses.{TableStartCallSays, TableSetCallSays, TableClearCallSays, TableUseCallSays, TableFreeCallSays};
-ghost use Rattle.hejmirov.specs.Promise.{HandsOne, HandsTwo, HandsJob, variance_of, stream_of, FitCallSays, SpeedCallSays, AlignCallSays, MaskCallSays, BandCallSays, TrajectoryCallSays, PlaceCallSays, ExcerptCallSays, JobCallSays, LinkBeginCallSays, LinkPartCallSays, LinkEndCallSays};
+ghost use Rattle.hejmirov.specs.Promise.{number_in, Hands, HandsSpan, HandsTwo, HandsJob, variance_of, stream_of, FitCallSays, SpeedCallSays, AlignCallSays, MaskCallSays, BandCallSays, TrajectoryCallSays, PlaceCallSays, ExcerptCallSays, JobCallSays, LinkBeginCallSays, LinkPartCallSays, LinkEndCallSays};
 
-use duration::{Aligned, Fitted};
-use houses::Used;
-use job::Answered;
-use lists::{Counted, Filled};
-use mlpg_adjust::{Created, GlobalVariance, Stream};
-use read_along::Part;
-use read_along::file::Written;
-use settings::{Got, Settings};
-use spool::{Placed, Span};
+use job::{Done, Failure};
+use lists::{Refusal, Span};
+use mlpg_adjust::{Clamped, Stream};
+use read_along::WordsRefusal;
+use settings::Settings;
+
+// What C is told of a refusal: its number.
+trait Told {
+    ghost number_is: { Self → ℕ };
+
+    fn told(self) -> u32
+        ensures { result ≡ number_is self };
+}
+
+impl Told for Refusal {
+    ghost number_is = { number_of };
+
+    fn told(self) -> u32 {
+        u32::from(self.number())
+    }
+}
+
+impl Told for WordsRefusal {
+    ghost number_is = { words_number };
+
+    fn told(self) -> u32 {
+        u32::from(self.number())
+    }
+}
+
+// An answer's number.
+fn number_in<T: Copy, E: Told + Copy>(answer: Result<T, E>) -> u32
+    ensures { result ≡ number_in E.number_is answer }
+{
+    match answer {
+        Ok(_) => 0,
+        Err(refusal) => refusal.told(),
+    }
+}
+
+// The same, and its value goes through the pointer.
+fn hand_out<T: Copy, E: Told + Copy>(answer: Result<T, E>, to: &mut T) -> u32
+    ensures { Hands E.number_is answer to.old result to.new }
+{
+    match answer {
+        Ok(value) => {
+            *to = value;
+            0
+        }
+        Err(refusal) => refusal.told(),
+    }
+}
+
+// The same of a span, whose two numbers go through pointers.
+fn hand_out_span<E: Told + Copy>(answer: Result<Span, E>, first: &mut u64, count: &mut u64) -> u32
+    ensures { HandsSpan E.number_is answer first.old count.old result first.new count.new }
+{
+    match answer {
+        Ok(span) => {
+            *first = span.first;
+            *count = span.count;
+            0
+        }
+        Err(refusal) => refusal.told(),
+    }
+}
 
 // States' durations, fitted to a length in frames.
 #[unsafe(no_mangle)]
@@ -51,7 +105,7 @@ pub extern "C" fn hejmirov_fit(
         out,
         work,
     );
-    hand_out_fit(answer, changes)
+    hand_out(answer, changes)
 }
 
 // States' durations at a speed.
@@ -68,20 +122,7 @@ pub extern "C" fn hejmirov_speed(
     ensures { SpeedCallSays (states means.now varis.now shortest.now) speed out.old work.old changes.old result out.new work.new changes.new }
 {
     let answer = duration::create(means, varis, shortest, speed, out, work);
-    hand_out_fit(answer, changes)
-}
-
-// A fit's number; its changes go through the pointer.
-fn hand_out_fit(answer: Fitted, changes: &mut u32) -> u32
-    ensures { HandsOne (fitted answer) changes.old result changes.new }
-{
-    match answer {
-        Fitted::Done(count) => {
-            *changes = count;
-            0
-        }
-        Fitted::Refused(number) => number as u32,
-    }
+    hand_out(answer, changes)
 }
 
 // States' durations, one a state, with each label that has an end closed at it.
@@ -100,19 +141,13 @@ pub extern "C" fn hejmirov_align(
     ensures { AlignCallSays (states means.now varis.now shortest.now) nstate ends.now out.old work.old written.old changes.old result out.new work.new written.new changes.new }
 {
     let answer = duration::create_with_alignment(means, varis, shortest, nstate, ends, out, work);
-    hand_out_alignment(answer, written, changes)
-}
-
-fn hand_out_alignment(answer: Aligned, written: &mut u32, changes: &mut u32) -> u32
-    ensures { HandsTwo (aligned answer) written.old changes.old result written.new changes.new }
-{
     match answer {
-        Aligned::Done(states, count) => {
-            *written = states;
-            *changes = count;
+        Ok(aligned) => {
+            *written = aligned.states;
+            *changes = aligned.changes;
             0
         }
-        Aligned::Refused(number) => number as u32,
+        Err(refusal) => refusal.told(),
     }
 }
 
@@ -132,20 +167,7 @@ pub extern "C" fn hejmirov_mask(
     let answer = voicing::mask::mask_with_distances(
         weights, threshold, durations, voiced, left, right,
     );
-    hand_out_filled(answer, frames)
-}
-
-// The number of a call that fills lists; how many it has told of goes through the pointer.
-fn hand_out_filled(answer: Filled, count: &mut u32) -> u32
-    ensures { HandsOne (filled answer) count.old result count.new }
-{
-    match answer {
-        Filled::Done(told) => {
-            *count = told;
-            0
-        }
-        Filled::Refused(number) => number as u32,
-    }
+    hand_out(answer, frames)
 }
 
 // The rows of the band matrix and the right side.
@@ -161,7 +183,7 @@ pub extern "C" fn hejmirov_band_rows(
     ensures { BandCallSays widths.now coefficients.now means.now ivars.now rows.old right.old result rows.new right.new }
 {
     let answer = band::band_rows(widths, coefficients, means, ivars, rows, right);
-    answer.number() as u32
+    number_in(answer)
 }
 
 // The trajectory of a stream, from its states' records.
@@ -202,7 +224,21 @@ pub extern "C" fn hejmirov_trajectory(
         work,
         marks,
     );
-    hand_out_created(answer, clamped_high, clamped_low)
+    hand_out_clamped(answer, clamped_high, clamped_low)
+}
+
+// A trajectory's number, and how many pairs were clamped.
+fn hand_out_clamped(answer: Result<Clamped, Refusal>, high: &mut u32, low: &mut u32) -> u32
+    ensures { HandsTwo (created answer) high.old low.old result high.new low.new }
+{
+    match answer {
+        Ok(clamped) => {
+            *high = clamped.high;
+            *low = clamped.low;
+            0
+        }
+        Err(refusal) => refusal.told(),
+    }
 }
 
 // How many voiced runs a stream has, and the first frame and the frames of each.
@@ -220,7 +256,7 @@ pub extern "C" fn hejmirov_runs(
     ensures { RunsCallSays v masked threshold windows records.now durations.now runs.old count.old result runs.new count.new }
 {
     let answer = runs::runs(v, masked != 0, threshold, windows, records, durations, runs);
-    hand_out_filled(answer, count)
+    hand_out(answer, count)
 }
 
 // The trajectory of one voiced run alone.
@@ -261,23 +297,7 @@ pub extern "C" fn hejmirov_run(
         work,
         marks,
     );
-    hand_out_filled(answer, frames)
-}
-
-fn hand_out_created(answer: Created, high: &mut u32, low: &mut u32) -> u32
-    ensures { HandsTwo (created answer) high.old low.old result high.new low.new }
-{
-    match answer {
-        Created::Done {
-            high: above,
-            low: below,
-        } => {
-            *high = above;
-            *low = below;
-            0
-        }
-        Created::Refused(number) => number as u32,
-    }
+    hand_out(answer, frames)
 }
 
 // The stream that the first six numbers of a call say.
@@ -293,13 +313,10 @@ fn stream_of(v: u32, masked: u32, threshold: f64, fill: f64, gv_on: u32, gv_weig
     }
 }
 
-fn variance_of(on: u32, weight: f64) -> GlobalVariance
+fn variance_of(on: u32, weight: f64) -> Option<f64>
     ensures { result ≡ variance_of on weight }
 {
-    if on == 0 {
-        return GlobalVariance::Off;
-    }
-    GlobalVariance::On(weight)
+    if on == 0 { None } else { Some(weight) }
 }
 
 // The byte place of a frame's component in the spool.
@@ -307,19 +324,7 @@ fn variance_of(on: u32, weight: f64) -> GlobalVariance
 pub extern "C" fn hejmirov_place(frame: u32, component: u32, v: u32, place: &mut u64) -> u32
     ensures { PlaceCallSays frame component v place.old result place.new }
 {
-    hand_out_place(spool::place(frame, component, v), place)
-}
-
-fn hand_out_place(answer: Placed, place: &mut u64) -> u32
-    ensures { HandsOne (placed answer) place.old result place.new }
-{
-    match answer {
-        Placed::At(byte) => {
-            *place = byte;
-            0
-        }
-        Placed::Refused(number) => number as u32,
-    }
+    hand_out(spool::place(frame, component, v), place)
 }
 
 // Where a state's numbers stand in a trajectory: the first, and how many.
@@ -334,21 +339,8 @@ pub extern "C" fn hejmirov_excerpt(
 ) -> u32
     ensures { ExcerptCallSays trajectory.now durations.now v state first.old count.old result first.new count.new }
 {
-    let answer = spool::excerpt_span(trajectory, durations, v, state);
-    hand_out_span(answer, first, count)
-}
-
-fn hand_out_span(answer: Span, first: &mut u64, count: &mut u64) -> u32
-    ensures { HandsTwo (spanned answer) first.old count.old result first.new count.new }
-{
-    match answer {
-        Span::Numbers(from, numbers) => {
-            *first = from;
-            *count = numbers;
-            0
-        }
-        Span::Refused(number) => number as u32,
-    }
+    let span = spool::excerpt_span(trajectory, durations, v, state);
+    hand_out_span(span, first, count)
 }
 
 // The durations of a job file's states, at its speed.
@@ -368,8 +360,9 @@ pub extern "C" fn hejmirov_job(
     hand_out_job(answer, states, frames, changes, place)
 }
 
+// A job's number; its values go through the pointers, or of a damaged one the place.
 fn hand_out_job(
-    answer: Answered,
+    answer: Result<Done, Failure>,
     states: &mut u32,
     frames: &mut u32,
     changes: &mut u32,
@@ -378,21 +371,17 @@ fn hand_out_job(
     ensures { HandsJob (answered answer) states.old frames.old changes.old place.old result states.new frames.new changes.new place.new }
 {
     match answer {
-        Answered::Done {
-            states: count,
-            frames: total,
-            changes: steps,
-        } => {
-            *states = count;
-            *frames = total;
-            *changes = steps;
+        Ok(done) => {
+            *states = done.states;
+            *frames = done.frames;
+            *changes = done.changes;
             0
         }
-        Answered::Damaged(damage, at) => {
+        Err(Failure::Damaged(damage, at)) => {
             *place = at;
-            damage.number() as u32
+            u32::from(damage.number())
         }
-        Answered::Refused(number) => number as u32,
+        Err(Failure::Refused(refusal)) => refusal.told(),
     }
 }
 
@@ -410,7 +399,7 @@ pub extern "C" fn hejmirov_link_begin(link: &mut [u8]) -> u32
     ensures { LinkBeginCallSays link.old result link.new }
 {
     let answer = job::link::begin(link);
-    answer.number() as u32
+    number_in(answer)
 }
 
 // Takes a part of the job, of any length and cut anywhere.
@@ -419,7 +408,7 @@ pub extern "C" fn hejmirov_link_part(link: &mut [u8], part: &[u8]) -> u32
     ensures { LinkPartCallSays link.old part.now result link.new }
 {
     let answer = job::link::part(link, part);
-    answer.number() as u32
+    number_in(answer)
 }
 
 // Ends the job, and answers it as the file of its bytes is answered.
@@ -445,7 +434,7 @@ pub extern "C" fn hejmirov_settings_clear(voices: &mut [u32], settings: &mut [u6
     ensures { SettingsClearCallSays voices.old settings.old result voices.new settings.new }
 {
     let answer = settings::clear(voices, settings);
-    answer.number() as u32
+    number_in(answer)
 }
 
 // A voice's settings become these: in its place, or where it isn't held in the first that is free.
@@ -466,7 +455,7 @@ pub extern "C" fn hejmirov_settings_set(
         threshold: floats::bits_of(threshold),
     };
     let answer = settings::set(voices, settings, voice, given);
-    answer.number() as u32
+    number_in(answer)
 }
 
 // A voice's settings.
@@ -482,20 +471,14 @@ pub extern "C" fn hejmirov_settings_get(
     ensures { SettingsGetCallSays voices.now settings.now voice speed.old gv_weight.old threshold.old result speed.new gv_weight.new threshold.new }
 {
     let answer = settings::get(voices, settings, voice);
-    hand_out_settings(answer, speed, gv_weight, threshold)
-}
-
-fn hand_out_settings(answer: Got, speed: &mut f64, weight: &mut f64, threshold: &mut f64) -> u32
-    ensures { HandsSettings answer speed.old weight.old threshold.old result speed.new weight.new threshold.new }
-{
     match answer {
-        Got::Held(held) => {
+        Ok(held) => {
             *speed = floats::of_bits(held.speed);
-            *weight = floats::of_bits(held.weight);
+            *gv_weight = floats::of_bits(held.weight);
             *threshold = floats::of_bits(held.threshold);
             0
         }
-        Got::Refused(number) => number as u32,
+        Err(refusal) => refusal.told(),
     }
 }
 
@@ -509,7 +492,7 @@ pub extern "C" fn hejmirov_settings_remove(
     ensures { SettingsRemoveCallSays voices.old settings.old voice result voices.new settings.new }
 {
     let answer = settings::remove(voices, settings, voice);
-    answer.number() as u32
+    number_in(answer)
 }
 
 // How many voices a store holds.
@@ -517,19 +500,7 @@ pub extern "C" fn hejmirov_settings_remove(
 pub extern "C" fn hejmirov_settings_count(voices: &[u32], held: &mut u32) -> u32
     ensures { SettingsCountCallSays voices.now held.old result held.new }
 {
-    hand_out_count(settings::count(voices), held)
-}
-
-fn hand_out_count(answer: Counted, count: &mut u32) -> u32
-    ensures { HandsOne (counted answer) count.old result count.new }
-{
-    match answer {
-        Counted::Number(many) => {
-            *count = many;
-            0
-        }
-        Counted::Refused(number) => number as u32,
-    }
+    hand_out(settings::count(voices), held)
 }
 
 // The store becomes what a settings file says.
@@ -542,7 +513,7 @@ pub extern "C" fn hejmirov_settings_read(
     ensures { SettingsReadCallSays voices.old settings.old bytes.now result voices.new settings.new }
 {
     let answer = settings::file::read(voices, settings, bytes);
-    answer.number() as u32
+    number_in(answer)
 }
 
 // The settings file of a store.
@@ -556,18 +527,12 @@ pub extern "C" fn hejmirov_settings_write(
     ensures { SettingsWriteCallSays voices.now settings.now out.old written.old result out.new written.new }
 {
     let answer = settings::file::write(voices, settings, out);
-    hand_out_length(answer, written)
-}
-
-fn hand_out_length(answer: Counted, written: &mut u64) -> u32
-    ensures { HandsOne (counted answer) written.old result written.new }
-{
     match answer {
-        Counted::Number(bytes) => {
-            *written = bytes as u64;
+        Ok(bytes) => {
+            *written = u64::from(bytes);
             0
         }
-        Counted::Refused(number) => number as u32,
+        Err(refusal) => refusal.told(),
     }
 }
 
@@ -589,7 +554,7 @@ pub extern "C" fn hejmirov_table_start(
         common_coefficients,
         common,
     );
-    answer.number() as u32
+    number_in(answer)
 }
 
 // A house sets a slot of its own that is empty.
@@ -612,7 +577,7 @@ pub extern "C" fn hejmirov_table_set(
         widths,
         coefficients,
     );
-    answer.number() as u32
+    number_in(answer)
 }
 
 // A house clears a slot of its own.
@@ -626,7 +591,7 @@ pub extern "C" fn hejmirov_table_clear(
     ensures { TableClearCallSays (table widths_table.old coefficients_table.old) house slot result (table widths_table.new coefficients_table.new) }
 {
     let answer = houses::clear(widths_table, coefficients_table, house, slot);
-    answer.number() as u32
+    number_in(answer)
 }
 
 // Where the coefficients of a slot's set stand in the table, and its widths.
@@ -642,21 +607,8 @@ pub extern "C" fn hejmirov_table_use(
 ) -> u32
     ensures { TableUseCallSays (table widths_table.now coefficients_table.now) house slot first.old widths.old count.old result first.new widths.new count.new }
 {
-    let answer = houses::use_set(widths_table, coefficients_table, house, slot, widths);
-    hand_out_used(answer, first, count)
-}
-
-fn hand_out_used(answer: Used, first: &mut u64, count: &mut u64) -> u32
-    ensures { HandsTwo (used answer) first.old count.old result first.new count.new }
-{
-    match answer {
-        Used::At(place, coefficients) => {
-            *first = place;
-            *count = coefficients;
-            0
-        }
-        Used::Refused(number) => number as u32,
-    }
+    let used = houses::use_set(widths_table, coefficients_table, house, slot, widths);
+    hand_out_span(used, first, count)
 }
 
 // How many of a house's own slots are empty.
@@ -669,7 +621,7 @@ pub extern "C" fn hejmirov_table_free(
 ) -> u32
     ensures { TableFreeCallSays (table widths_table.now coefficients_table.now) house free.old result free.new }
 {
-    hand_out_count(houses::free(widths_table, coefficients_table, house), free)
+    hand_out(houses::free(widths_table, coefficients_table, house), free)
 }
 
 // Each word's first frame and the frame after its last. This call and those below have refusal numbers of their own.
@@ -682,7 +634,7 @@ pub extern "C" fn hejmirov_words_spans(
 ) -> u32
     ensures { WordsSpansCallSays words.now nstate durations.now spans.old result spans.new }
 {
-    words_number(read_along::spans(words, nstate, durations, spans))
+    number_in(read_along::spans(words, nstate, durations, spans))
 }
 
 // The same in milliseconds.
@@ -695,16 +647,7 @@ pub extern "C" fn hejmirov_words_milliseconds(
 ) -> u32
     ensures { WordsMillisecondsCallSays words.now nstate durations.now spans.old result spans.new }
 {
-    words_number(read_along::milliseconds(words, nstate, durations, spans))
-}
-
-fn words_number(answer: read_along::Counted) -> u32
-    ensures { result ≡ (counted_as answer).number }
-{
-    match answer {
-        read_along::Counted::Number(_) => 0,
-        read_along::Counted::Refused(number) => number as u32,
-    }
+    number_in(read_along::milliseconds(words, nstate, durations, spans))
 }
 
 // The word that sounds at a frame.
@@ -718,19 +661,7 @@ pub extern "C" fn hejmirov_words_at(
 ) -> u32
     ensures { WordsAtCallSays words.now nstate durations.now frame word.old result word.new }
 {
-    hand_out_word(read_along::at(words, nstate, durations, frame), word)
-}
-
-fn hand_out_word(answer: read_along::Counted, word: &mut u32) -> u32
-    ensures { HandsOne (counted_as answer) word.old result word.new }
-{
-    match answer {
-        read_along::Counted::Number(given) => {
-            *word = given;
-            0
-        }
-        read_along::Counted::Refused(number) => number as u32,
-    }
+    hand_out(read_along::at(words, nstate, durations, frame), word)
 }
 
 // The part of a trajectory that a word has, by its numbers' places.
@@ -747,21 +678,8 @@ pub extern "C" fn hejmirov_words_excerpt(
 ) -> u32
     ensures { WordsExcerptCallSays words.now nstate durations.now trajectory.now v word first.old count.old result first.new count.new }
 {
-    let answer = read_along::excerpt_part(words, nstate, durations, trajectory, v, word);
-    hand_out_part(answer, first, count)
-}
-
-fn hand_out_part(answer: Part, first: &mut u64, count: &mut u64) -> u32
-    ensures { HandsTwo (parted_as answer) first.old count.old result first.new count.new }
-{
-    match answer {
-        Part::Numbers(begin, length) => {
-            *first = begin;
-            *count = length;
-            0
-        }
-        Part::Refused(number) => number as u32,
-    }
+    let part = read_along::excerpt_part(words, nstate, durations, trajectory, v, word);
+    hand_out_span(part, first, count)
 }
 
 // The timing file of words.
@@ -776,19 +694,7 @@ pub extern "C" fn hejmirov_words_write(
     ensures { WordsWriteCallSays words.now nstate durations.now out.old written.old result out.new written.new }
 {
     let answer = read_along::file::write(words, nstate, durations, out);
-    hand_out_written(answer, written)
-}
-
-fn hand_out_written(answer: Written, written: &mut u64) -> u32
-    ensures { HandsOne (written_as answer) written.old result written.new }
-{
-    match answer {
-        Written::Bytes(bytes) => {
-            *written = bytes;
-            0
-        }
-        Written::Refused(number) => number as u32,
-    }
+    hand_out(answer, written)
 }
 
 // The spans that a timing file says.
@@ -796,5 +702,5 @@ fn hand_out_written(answer: Written, written: &mut u64) -> u32
 pub extern "C" fn hejmirov_words_read(bytes: &[u8], spans: &mut [u32], words: &mut u32) -> u32
     ensures { WordsReadCallSays bytes.now spans.old words.old result spans.new words.new }
 {
-    hand_out_word(read_along::file::read(bytes, spans), words)
+    hand_out(read_along::file::read(bytes, spans), words)
 }

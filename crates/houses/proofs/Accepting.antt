@@ -1,35 +1,38 @@
 -- What an accepted call asks, and leaves.
 use mathlib.Core.Path.{◌≡◌, refl, ◌∙◌}
 use mathlib.Core.Bool.{true, false}
-use mathlib.Core.List.{List}
-use Prim.Native.Nat.{ℕ, zero, suc, ◌*◌, ◌≤◌}
-use native.Mathlib.Omega.{arith}
+use mathlib.Core.List.{List, [], ◌∷◌}
+use Rattle.std.proofs.Common.{Ok}
+use Prim.Native.Nat.{ℕ, ◌*◌, ◌≤◌}
 use borrow.Author.Tests.{leb-true, eqb-true, ltb-false}
 use lib.ListN.{length}
 use lib.Ieee.{Float}
 use Rattle.lists.specs.Build.{build}
 use Rattle.lists.specs.Sizes.{most_windows, most_common}
 use Rattle.lists.specs.Totals.{total}
-use Rattle.lists.specs.declared.Changed.TheVariants.{Done}
+use Rattle.lists.specs.Answers.{answer_of}
+use Rattle.lists.specs.Ends.{spanned}
+use Rattle.lists.specs.declared.Span.{Span}
+use Rattle.lists.proofs.Answers.{accepted_is}
 use Rattle.lists.proofs.Flags.{both}
 use Rattle.lists.proofs.Refusals.{none_then, then-none, or_none}
 use Rattle.model.specs.Windows.{all_of, all_finite, window_refusal}
 use Rattle.lists.proofs.Ends.{done_none}
-use Rattle.houses.specs.declared.Used.TheVariants.{At}
 use Rattle.houses.specs.Slots.{Table, slot_at, is_empty, owns, may_use}
 use Rattle.houses.specs.Changes.{row_length, row_of}
-use Rattle.houses.specs.Promise.{used_of, table_refusal, set_refusal, clear_refusal, use_refusal, start_refusal, row_fits, ChangesTo}
+use Rattle.houses.specs.Promise.{table_refusal, set_refusal, clear_refusal, use_refusal, start_refusal, row_fits, ChangesTo}
 
 -- ---- answers
 
 -- a call that is done isn't refused, and leaves what it is to leave
-pub done-then : {k : ℕ} {new t t' : Table} → ChangesTo k new t Done t' → (k ≡ 0) × (t' ≡ new)
+pub done-then : {k : ℕ} {new t t' : Table} → ChangesTo k new t (Ok tt) t' → (k ≡ 0) × (t' ≡ new)
 done-then {k} c = let e = done_none k c.answer in (e, c.left ∙ rw e)
 
 -- nor is one that says where a set is
-pub at-then : (k a b first count : ℕ) → At first count ≡ used_of k a b → (k ≡ 0) × (first ≡ a) × (count ≡ b)
-at-then zero a b first count e = (refl, cc, cc)
-at-then (suc k) a b first count e = absurd (let z : ◌≡◌ {A = ℕ} 0 1 = cc in omega arith)
+pub at-then : (k a b : ℕ) (p : Span) → spanned (Ok p) ≡ answer_of k (a ∷ b ∷ []) → (k ≡ 0) × (p.first ≡ a) × (p.count ≡ b)
+at-then k a b p e =
+    let (z, v) = accepted_is _ k _ e refl in
+    (z, cc, cc)
 
 -- ---- refusals: none is left of those that a call asks for
 

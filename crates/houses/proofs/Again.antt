@@ -2,24 +2,24 @@
 use mathlib.Core.Path.{◌≡◌, sym, ap, ◌∙◌}
 use mathlib.Core.Bool.{true, false}
 use mathlib.Core.List.{List, [], ◌++◌}
+use Rattle.std.proofs.Common.{Result, Ok}
 use Prim.Native.Nat.{ℕ, ◌*◌, ◌≤◌, ◌<◌}
 use native.Mathlib.Omega.{arith}
 use borrow.Author.Tests.{le-ltb}
 use lib.ListN.{length, take, drop}
 use lib.Seq.{take-take, take_at}
 use lib.Ieee.{Float}
-use Rattle.lists.specs.Ends.{changed_of}
 use Rattle.lists.specs.Parts.{part}
 use Rattle.lists.specs.Sizes.{most_windows, most_set_taps, slot_count}
 use Rattle.lists.specs.Totals.{total}
-use Rattle.lists.specs.declared.Changed.{Changed}
-use Rattle.lists.specs.declared.Changed.TheVariants.{Done}
+use Rattle.lists.specs.declared.Refusal.{Refusal}
+use Rattle.lists.specs.declared.Span.{Span}
+use Rattle.lists.proofs.Answers.{same as same-answers}
+use Rattle.lists.proofs.Ends.{refused-one, spanned-one}
 use Rattle.lists.proofs.Regions.{cut-length}
 use Rattle.model.specs.Windows.{window_refusal}
 use Rattle.model.proofs.Accepted.{accepted-few, accepted-whole}
 use Rattle.lists.proofs.Refusals.{or_zero}
-use Rattle.houses.specs.declared.Used.{Used}
-use Rattle.houses.specs.declared.Used.TheVariants.{At}
 use Rattle.houses.specs.Slots.{Table, Slot, slot_at, trimmed, widths_in, coefficients_in, is_empty}
 use Rattle.houses.specs.Changes.{padded, holding, cleared, put_in}
 use Rattle.houses.specs.Promise.{table_refusal, set_refusal, use_refusal, SetSays, ClearSays, UseSays}
@@ -31,7 +31,7 @@ use Rattle.houses.proofs.Accepting.{done-then, at-then, ClearAccepted, clear_acc
 -- ---- set of an empty slot
 
 -- two tables that are the same but for what an empty slot has
-module _ (house s : ℕ) (ws : List ℕ) (cs : List Float) {t u t' u' : Table} {r q : Changed} (same : put_in s cleared t ≡ put_in s cleared u) (e : is_empty (slot_at t s) ≡ true) (f : is_empty (slot_at u s) ≡ true)
+module _ (house s : ℕ) (ws : List ℕ) (cs : List Float) {t u t' u' : Table} {r q : Result (Unit {0}) Refusal} (same : put_in s cleared t ≡ put_in s cleared u) (e : is_empty (slot_at t s) ≡ true) (f : is_empty (slot_at u s) ≡ true)
     (a : SetSays t house s ws cs r t') (b : SetSays u house s ws cs q u') where
   -- set answers the same
   pub empty-answer : r ≡ q
@@ -39,10 +39,10 @@ module _ (house s : ℕ) (ws : List ℕ) (cs : List Float) {t u t' u' : Table} {
   empty-answer =
       let room : table_refusal t ≡ table_refusal u = sym (put-room s cleared t) ∙ ap table_refusal same ∙ put-room s cleared u in
       let number : set_refusal t house s ws cs ≡ set_refusal u house s ws cs = rw (e, f, room) in
-      a.answer ∙ ap changed_of number ∙ sym b.answer
+      refused-one r q (a.answer ∙ number ∙ sym b.answer)
 
   -- RULES, Houses: whatever an empty slot has, setting it leaves the same table
-  pub empty-set : r ≡ Done → t' ≡ u'
+  pub empty-set : r ≡ Ok tt → t' ≡ u'
   empty-set d =
       let x : Slot = holding ws cs in
       let over : (v : Table) → put_in s x (put_in s cleared v) ≡ put_in s x v = λ v. put-over s x v (holding-sized ws cs) cleared (holding-sized [] []) in
@@ -50,7 +50,7 @@ module _ (house s : ℕ) (ws : List ℕ) (cs : List Float) {t u t' u' : Table} {
 
 -- ---- clear
 
-module _ {t t' : Table} (house s : ℕ) (c : ClearSays t house s Done t') where
+module _ {t t' : Table} (house s : ℕ) (c : ClearSays t house s (Ok tt) t') where
   clear_asked : ClearAccepted t house s
   clear_asked = clear_accepted t house s (done-then c).0
 
@@ -68,8 +68,8 @@ module _ {t t' : Table} (house s : ℕ) (c : ClearSays t house s Done t') where
   clear_same = ap (put_in s cleared) (done-then c).1 ∙ put-over s cleared t (holding-sized [] []) cleared (holding-sized [] [])
 
   -- RULES, Houses: a slot that was cleared is as one that was never set
-  pub set_again : {u t'' u'' : Table} {r q : Changed} (ws : List ℕ) (cs : List Float) → put_in s cleared t ≡ put_in s cleared u → is_empty (slot_at u s) ≡ true
-      → SetSays t' house s ws cs r t'' → SetSays u house s ws cs q u'' → (r ≡ q) × (r ≡ Done → t'' ≡ u'')
+  pub set_again : {u t'' u'' : Table} {r q : Result (Unit {0}) Refusal} (ws : List ℕ) (cs : List Float) → put_in s cleared t ≡ put_in s cleared u → is_empty (slot_at u s) ≡ true
+      → SetSays t' house s ws cs r t'' → SetSays u house s ws cs q u'' → (r ≡ q) × (r ≡ Ok tt → t'' ≡ u'')
   set_again ws cs same e a b =
       let one : put_in s cleared t' ≡ put_in s cleared _ = clear_same ∙ same in
       (empty-answer house s ws cs one clear_then e a b, empty-set house s ws cs one clear_then e a b)
@@ -82,7 +82,7 @@ coefficients-part t s h =
     let few : total (widths_in (slot_at t s)) ≤ most_set_taps = accepted-total (widths_in (slot_at t s)) (coefficients_in (slot_at t s)) (held-accepted (slot_at t s) h) in
     sym (take-take _ most_set_taps (drop (s * most_set_taps) t.coefficients) few)
 
-module _ {t t' : Table} (house s : ℕ) (ws : List ℕ) (cs : List Float) (c : SetSays t house s ws cs Done t') where
+module _ {t t' : Table} (house s : ℕ) (ws : List ℕ) (cs : List Float) (c : SetSays t house s ws cs (Ok tt) t') where
   set-asked : SetAccepted t house s ws cs
   set-asked = set-accepted t house s ws cs (done-then c).0
 
@@ -113,23 +113,23 @@ module _ {t t' : Table} (house s : ℕ) (ws : List ℕ) (cs : List Float) (c : S
   pub set-part : part (s * most_set_taps) (length cs) t'.coefficients ≡ cs
   set-part = rw (← set-count) (coefficients-part t' s set-held) ∙ set-coefficients
 
-  module _ (out out' : List ℕ) (r : Used) (four : most_windows ≤ length out) (u : UseSays t' house s out r out') where
+  module _ (out out' : List ℕ) (r : Result Span Refusal) (four : most_windows ≤ length out) (u : UseSays t' house s out r out') where
     -- use isn't refused then
     use_number : use_refusal t' house s out ≡ 0
     unfolding use_refusal
     use_number = rw (own-used house s set-asked.own, set-held, (done-then c).1, put-room s (holding ws cs) t, set-asked.room, le-ltb (length out) most_windows four)
 
     -- and hands out the set
-    pub set_use : (r ≡ At (s * most_set_taps) (length cs)) × (out' ≡ padded most_windows 0 ws ++ drop most_windows out)
+    pub set_use : (r ≡ Ok (record { first = s * most_set_taps; count = length cs })) × (out' ≡ padded most_windows 0 ws ++ drop most_windows out)
     set_use =
         let f : (slot_at t' s).widths ≡ padded most_windows 0 ws = ap (λ (x : Slot). x.widths) set-slot in
-        (u.answer ∙ rw (use_number, set-count), u.output ∙ rw (use_number, f, padded-length most_windows 0 ws))
+        (spanned-one r _ (same-answers (u.answer ∙ rw (use_number, set-count))), u.output ∙ rw (use_number, f, padded-length most_windows 0 ws))
 
 -- ---- what use hands out
 
-module _ {t : Table} (house s first count : ℕ) (out out' : List ℕ) (u : UseSays t house s out (At first count) out') where
-  told : (use_refusal t house s out ≡ 0) × (first ≡ s * most_set_taps) × (count ≡ total (widths_in (slot_at t s)))
-  told = at-then (use_refusal t house s out) (s * most_set_taps) (total (widths_in (slot_at t s))) first count u.answer
+module _ {t : Table} (house s : ℕ) (p : Span) (out out' : List ℕ) (u : UseSays t house s out (Ok p) out') where
+  told : (use_refusal t house s out ≡ 0) × (p.first ≡ s * most_set_taps) × (p.count ≡ total (widths_in (slot_at t s)))
+  told = at-then (use_refusal t house s out) (s * most_set_taps) (total (widths_in (slot_at t s))) p u.answer
 
   use_asked : UseAccepted t house s out
   use_asked = use_accepted t house s out told.0
@@ -139,11 +139,11 @@ module _ {t : Table} (house s first count : ℕ) (out out' : List ℕ) (u : UseS
   used-accepted = held-accepted (slot_at t s) use_asked.held
 
   -- as many coefficients as it has
-  pub used-count : count ≡ length (coefficients_in (slot_at t s))
+  pub used-count : p.count ≡ length (coefficients_in (slot_at t s))
   used-count = told.2 ∙ sym (accepted-whole (widths_in (slot_at t s)) (coefficients_in (slot_at t s)) used-accepted)
 
   -- which stand there
-  pub used-part : part first count t.coefficients ≡ coefficients_in (slot_at t s)
+  pub used-part : part p.first p.count t.coefficients ≡ coefficients_in (slot_at t s)
   used-part = rw (told.1, told.2) (coefficients-part t s use_asked.held)
 
   -- and its widths, of the four that are written

@@ -5,7 +5,8 @@ use Prim.Native.Nat.{ℕ, ◌*◌, ◌<◌}
 use native.Mathlib.Omega.{arith}
 use lib.Ieee.{Float}
 use Rattle.lists.specs.Sizes.{most_windows, most_set_taps, slot_count}
-use Rattle.lists.specs.declared.Changed.{Changed}
+use Rattle.std.proofs.Common.{Result}
+use Rattle.lists.specs.declared.Refusal.{Refusal}
 use Rattle.lists.proofs.Regions.{dropped_before}
 use Rattle.lists.proofs.Answers.{given-either}
 use Rattle.houses.specs.Slots.{Table, Slot}
@@ -18,7 +19,7 @@ use Rattle.houses.proofs.Putting.{Sized, holding-sized}
 use Rattle.houses.proofs.Started.{started-behind}
 
 -- a call that changes the table only where it isn't refused
-changes-behind : {k : ℕ} {new t t' : Table} {r : Changed} → (k ≡ 0 → SameBehind new t) → ChangesTo k new t r t' → SameBehind t' t
+changes-behind : {k : ℕ} {new t t' : Table} {r : Result (Unit {0}) Refusal} → (k ≡ 0 → SameBehind new t) → ChangesTo k new t r t' → SameBehind t' t
 changes-behind {k} {new} {t} f c = rw c.left (given-either (λ u. SameBehind u t) k new t f (refl, refl))
 
 -- a slot that is put into the table
@@ -30,7 +31,7 @@ put-behind s x t z h = (
 )
 
 -- RULES, Houses: what lies behind is not touched, by start
-pub start-behind : {t t' : Table} {r : Changed} (common : ℕ) (ws : List ℕ) (cs : List Float) → StartSays t common ws cs r t' → SameBehind t' t
+pub start-behind : {t t' : Table} {r : Result (Unit {0}) Refusal} (common : ℕ) (ws : List ℕ) (cs : List Float) → StartSays t common ws cs r t' → SameBehind t' t
 start-behind {t} common ws cs = changes-behind (λ e. started-behind (row_length common ws) ws cs t)
 
 -- nor by any other call

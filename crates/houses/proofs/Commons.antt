@@ -3,17 +3,16 @@ use mathlib.Core.Path.{◌≡◌, refl, sym, ap, ◌∙◌}
 use mathlib.Core.Bool.{Bool, true, false, not}
 use mathlib.Core.List.{List, [], ◌++◌}
 use Prim.Native.Nat.{ℕ, ◌+◌, ◌*◌, ◌^◌, ◌≤◌, ◌<◌, zero-le}
-use native.Mathlib.Nat.{mul-le-mul, div-zero}
+use native.Mathlib.Nat.{mul-le-mul}
 use native.Mathlib.Omega.{arith}
-use borrow.Author.Tests.{leb-true, le-leb, lt-leb, eq-eqb, ne_eqb, not-true, not-false}
-use lib.Dec.{leb, eqb}
+use borrow.Author.Tests.{le-leb, lt-leb, eq-eqb, not-true, not-false}
+use lib.Dec.{eqb}
 use lib.ListN.{length, take, drop, length-take}
-use lib.Seq.{sets, length-sets}
+use lib.Seq.{sets}
 use lib.Ieee.{Float}
 use Rattle.lists.specs.Build.{build, rows}
 use Rattle.lists.specs.Sizes.{most_windows, most_set_taps, most_common, slot_count}
 use Rattle.lists.specs.Totals.{total}
-use Rattle.lists.proofs.Flags.{both}
 use Rattle.lists.proofs.Joins.{rows_none, rows-length, rows-stored}
 use Rattle.lists.proofs.Stores.{sets-next}
 use Rattle.lists.proofs.Sums.{total-whole}
@@ -27,9 +26,6 @@ use Rattle.houses.proofs.Putting.{padded-length}
 
 -- ---- rows
 
-pub row-none : (common : ℕ) (ws : List ℕ) → common ≡ 0 → 0 ≡ row_length common ws
-row-none common ws e = rw e (sym (div-zero (length ws)))
-
 -- so many rows have been looked at, and fit
 pub record Fitting (ws : List ℕ) (n count i : ℕ) : Type 0 where
   pub within : i ≤ count
@@ -40,9 +36,6 @@ unfolding build all_of
 fitting ws n count = record { within = zero-le; so_far = refl }
 
 module _ {ws : List ℕ} {n count i : ℕ} (k : Fitting ws n count i) where
-  pub fitting-done : count ≤ i → true ≡ all_of row_fits (build (row_of n ws) count)
-  fitting-done h = let e : i ≡ count = omega (arith, k.within) in sym k.so_far ∙ ap (λ (j : ℕ). all_of row_fits (build (row_of n ws) j)) e
-
   module _ (h : i < count) (row own : List ℕ) (t : Bool) (r : row ≡ row_of n ws i) (o : own ≡ trimmed row) (w : t ≡ widths_fit own) where
     this : t ≡ row_fits (row_of n ws i)
     this = rw (w, o, r)
@@ -53,27 +46,13 @@ module _ {ws : List ℕ} {n count i : ℕ} (k : Fitting ws n count i) where
     pub fitting_stop : not t ≡ true → false ≡ all_of row_fits (build (row_of n ws) count)
     fitting_stop e = sym (all_fails row_fits (row_of n ws) count i h (sym this ∙ not-true t e))
 
--- no row has more than four numbers, and each fits
-module _ (common n : ℕ) (ws : List ℕ) (e : n ≡ row_length common ws) where
-  pub rows_long : most_windows < n → false ≡ rows_fit common ws
-  rows_long h = rw (← e, lt-leb n most_windows h)
-
-  pub rows_short : (t : Bool) → n ≤ most_windows → t ≡ all_of row_fits (build (row_of n ws) common) → t ≡ rows_fit common ws
-  rows_short t h q = rw (← e, le-leb n most_windows h) q
-
 -- ---- lists that agree
 
-module _ (common k n : ℕ) (ws : List ℕ) (cs : List Float) (c : k ≡ common) (e : n ≡ row_length common ws) where
-  product : k * n ≡ common * row_length common ws
-  product = rw (c, e)
-
-  pub agree_not : (k * n ≡ length ws → ⊥) → false ≡ common_agree common ws cs
-  agree_not d = rw (← product, ne_eqb (k * n) (length ws) d)
-
-  pub agree_as : (t : ℕ) → common ≤ most_common → row_length common ws ≤ most_windows → k * n ≡ length ws → t ≡ total (take (2 ^ 32) ws) → eqb (length cs) t ≡ common_agree common ws cs
+module _ (common n : ℕ) (ws : List ℕ) (cs : List Float) (e : n ≡ row_length common ws) where
+  pub agree_as : (t : ℕ) → common ≤ most_common → n ≤ most_windows → common * n ≡ length ws → t ≡ total (take (2 ^ 32) ws) → eqb (length cs) t ≡ common_agree common ws cs
   agree_as t h g d q =
-      let l : length ws ≤ 4294967296 = omega (arith, product, mul-le-mul h g) in
-      rw (← product, eq-eqb (k * n) (length ws) d, q, total-whole ws l)
+      let l : length ws ≤ 4294967296 = omega (arith, mul-le-mul h g) in
+      rw (← e, eq-eqb (common * n) (length ws) d, q, total-whole ws l)
 
 -- ---- the ways out of a check
 
@@ -88,9 +67,6 @@ module _ (t : Table) (common : ℕ) (ws : List ℕ) (cs : List Float) where
     start-rows n = rw (le-leb common most_common h, ← e, not-true f n)
 
     module _ (n : not f ≡ false) (g : Bool) (d : g ≡ all_finite cs) where
-      pub start-narrow : row_length common ws ≤ most_windows
-      start-narrow = leb-true _ _ (both (leb (row_length common ws) most_windows) (all_of row_fits (build (row_of (row_length common ws) ws) common)) (sym e ∙ not-false f n)).0
-
       pub start_infinite : not g ≡ true → ◌≡◌ {A = ℕ} 2 (start_refusal t common ws cs)
       unfolding start_refusal
       start_infinite m = rw (le-leb common most_common h, ← e, not-false f n, ← d, not-true g m)
@@ -161,10 +137,3 @@ module _ (n : ℕ) (ws : List ℕ) (cs : List Float) where
         let q : cs' ≡ rows taps_of_lem slot_count ++ drop (slot_count * most_set_taps) cs₀ =
         k.coefficients ∙ ap (λ (j : ℕ). sets cs₀ 0 (rows taps_of_lem j)) e ∙ sets-next [] (rows taps_of_lem slot_count) cs₀ 0 (slot_count * most_set_taps) refl (omega (arith, b)) g in
         rw (p, q)
-
-    -- the lists are as long as they were
-    pub still-widths : length ws' ≡ length ws₀
-    still-widths = ap length k.widths ∙ length-sets ws₀ 0 (rows widths_of s)
-
-    pub still-coefficients : length cs' ≡ length cs₀
-    still-coefficients = ap length k.coefficients ∙ length-sets cs₀ 0 (rows taps_of_lem s)

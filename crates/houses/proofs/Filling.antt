@@ -1,19 +1,19 @@
 -- Laws of how a slot is written: a set, and zeros behind it.
 use mathlib.Core.Path.{◌≡◌, refl, sym, ap, ◌∙◌}
 use mathlib.Core.List.{List, [], ◌∷◌, ◌++◌}
-use Prim.Native.Nat.{ℕ, zero, suc, ◌+◌, ◌-◌, ◌*◌, ◌≤◌, ◌<◌, min}
+use Prim.Native.Nat.{ℕ, zero, suc, ◌+◌, ◌-◌, ◌*◌, ◌≤◌, min}
 use native.Mathlib.Omega.{arith}
 use borrow.Rule.Slice.PartMut.{mid_of, put_mid}
 use lib.ListN.{length, take, replicate, length-take}
 use lib.Seq.{sets, length-sets}
 use lib.Ieee.{Float}
-use Rattle.lists.specs.Sizes.{most_windows, most_set_taps, slot_count}
+use Rattle.lists.specs.Sizes.{most_windows, most_set_taps}
 use Rattle.lists.proofs.Parts.{take_min}
 use Rattle.lists.proofs.Regions.{lent_stored, lent_filled}
 use Rattle.lists.proofs.Stores.{sets_behind}
 use Rattle.floats.specs.Numbers.{nought}
 use Rattle.houses.specs.Slots.{table}
-use Rattle.houses.specs.Changes.{padded, holding, cleared, put_in}
+use Rattle.houses.specs.Changes.{padded, holding, put_in}
 
 module _ {A : Type 0} where
   -- a front of the same number over and over
@@ -45,15 +45,9 @@ module _ {A : Type 0} where
         ∙ sets_behind (take k given) (replicate (n - k) z) l (put_mid b (b + n - b) l w) b (b + k) first (omega (arith, length-take k given))
         ∙ ap (sets l b) p
 
--- a slot has this set, or zeros alone
+-- a slot has this set
 module _ (ws ws' : List ℕ) (cs cs' : List Float) (s : ℕ) where
   pub set-put : (set-ws : List ℕ) (set-cs : List Float) → ws' ≡ sets ws (s * most_windows) (padded most_windows 0 set-ws) → cs' ≡ sets cs (s * most_set_taps) (padded most_set_taps nought set-cs)
       → table ws' cs' ≡ put_in s (holding set-ws set-cs) (table ws cs)
   unfolding put_in
   set-put set-ws set-cs e f = rw (e, f)
-
-module _ (ws w : List ℕ) (cs c : List Float) (s : ℕ) (h : s < slot_count) (m : slot_count * most_windows ≤ length ws) (n : slot_count * most_set_taps ≤ length cs) where
-  pub zeros-put : w ≡ sets (mid_of (s * 4) (s * 4 + 4 - s * 4) ws) 0 (replicate 4 0) → c ≡ sets (mid_of (s * 60) (s * 60 + 60 - s * 60) cs) 0 (replicate 60 nought)
-      → table (put_mid (s * 4) (s * 4 + 4 - s * 4) ws w) (put_mid (s * 60) (s * 60 + 60 - s * 60) cs c) ≡ put_in s cleared (table ws cs)
-  unfolding put_in
-  zeros-put e f = rw (lent_filled ws w (s * 4) (s * 4 + 4) 4 0 refl (omega arith) e, lent_filled cs c (s * 60) (s * 60 + 60) 60 nought refl (omega arith) f)

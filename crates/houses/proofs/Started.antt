@@ -14,7 +14,7 @@ use Rattle.lists.specs.Build.{build, rows}
 use Rattle.lists.specs.Frames.{count}
 use Rattle.lists.specs.Sizes.{most_windows, most_set_taps, slot_count, house_count, most_own}
 use Rattle.lists.specs.Totals.{total}
-use Rattle.lists.specs.declared.Changed.TheVariants.{Done}
+use Rattle.std.proofs.Common.{Ok}
 use Rattle.lists.proofs.Builds.{build-same}
 use Rattle.lists.proofs.Joins.{rows-length, rows-part}
 use Rattle.lists.proofs.Numbers.{le_or_lt}
@@ -73,7 +73,7 @@ module _ (n : ℕ) (ws : List ℕ) (cs : List Float) where
 
 -- ---- a start that is accepted
 
-module _ {t t' : Table} (common : ℕ) (ws : List ℕ) (cs : List Float) (a : StartSays t common ws cs Done t') where
+module _ {t t' : Table} (common : ℕ) (ws : List ℕ) (cs : List Float) (a : StartSays t common ws cs (Ok tt) t') where
   abbrev size : ℕ
   size = row_length common ws
 
@@ -147,7 +147,7 @@ module _ {t t' : Table} (common : ℕ) (ws : List ℕ) (cs : List Float) (a : St
 
 -- ---- two starts
 
-module _ {t u t' u' : Table} (common : ℕ) (ws vs : List ℕ) (cs : List Float) (a : StartSays t common ws cs Done t') (b : StartSays u common vs cs Done u') (same : SameSets common ws vs) where
+module _ {t u t' u' : Table} (common : ℕ) (ws vs : List ℕ) (cs : List Float) (a : StartSays t common ws cs (Ok tt) t') (b : StartSays u common vs cs (Ok tt) u') (same : SameSets common ws vs) where
   abbrev n : ℕ
   n = row_length common ws
 

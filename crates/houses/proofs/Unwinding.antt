@@ -1,25 +1,27 @@
 -- One call on two tables that are alike to its house, and what one call leaves as it was.
 use mathlib.Core.Path.{◌≡◌, refl, sym, ap, ◌∙◌}
 use mathlib.Core.Bool.{true, false, true≢false}
-use mathlib.Core.List.{List, []}
+use mathlib.Core.List.{List, [], ◌∷◌}
 use mathlib.Core.Logic.{◌≢◌}
 use Prim.Native.Nat.{ℕ, zero, suc, ◌+◌, ◌*◌, ◌<◌}
 use borrow.Author.Tests.{ltb-true}
 use lib.Dec.{ltb}
 use lib.Ieee.{Float}
-use Rattle.lists.specs.Answers.{given, written}
-use Rattle.lists.specs.Ends.{changed_of, counted_of}
+use Rattle.std.proofs.Common.{Result}
+use Rattle.lists.specs.Answers.{answer_of, given, written}
 use Rattle.lists.specs.Frames.{count}
 use Rattle.lists.specs.Sizes.{most_set_taps, house_count, most_own}
 use Rattle.lists.specs.Totals.{total}
-use Rattle.lists.specs.declared.Changed.{Changed}
+use Rattle.lists.specs.declared.Refusal.{Refusal}
+use Rattle.lists.proofs.Answers.{same}
+use Rattle.lists.proofs.Ends.{refused-one, counted-one, spanned-one}
 use Rattle.lists.proofs.Builds.{build-same}
 use Rattle.lists.proofs.Numbers.{by_place}
 use Rattle.lists.proofs.Flags.{by_test}
 use Rattle.lists.proofs.Answers.{given-either}
 use Rattle.houses.specs.Slots.{Table, Slot, slot_at, widths_in, is_empty, owns, may_use, first_own, free_of}
 use Rattle.houses.specs.Changes.{cleared, put_in}
-use Rattle.houses.specs.Promise.{used_of, table_refusal, set_refusal, clear_refusal, use_refusal, free_refusal, ChangesTo}
+use Rattle.houses.specs.Promise.{table_refusal, set_refusal, clear_refusal, use_refusal, free_refusal, ChangesTo}
 use Rattle.houses.specs.Calls.{Asked, Told, changed, told_count, Makes, set_made, clear_made, use_made, free_made, Alike}
 use Rattle.houses.specs.Apart.{ToldTheSame, ChangesItsOwn}
 use Rattle.houses.proofs.Accepting.{set-accepted, clear_accepted}
@@ -45,7 +47,7 @@ module _ {house : ℕ} {t u : Table} (a : Alike house t u) where
 
   -- use has the same answer, and hands out the same widths
   use_told : (s : ℕ) (widths : List ℕ) →
-      (used_of (use_refusal t house s widths) (s * most_set_taps) (total (widths_in (slot_at t s))) ≡ used_of (use_refusal u house s widths) (s * most_set_taps) (total (widths_in (slot_at u s))))
+      (answer_of (use_refusal t house s widths) (s * most_set_taps ∷ total (widths_in (slot_at t s)) ∷ []) ≡ answer_of (use_refusal u house s widths) (s * most_set_taps ∷ total (widths_in (slot_at u s)) ∷ []))
       × (written (use_refusal t house s widths) (slot_at t s).widths widths ≡ written (use_refusal u house s widths) (slot_at u s).widths widths)
   unfolding use_refusal
   use_told s widths = by_test (may_use house s) (λ m. let (w, c) = parts s m in rw (w, c, a.room) (refl, refl)) (λ n. rw n (refl, refl))
@@ -56,7 +58,7 @@ module _ {house : ℕ} {t u : Table} (a : Alike house t u) where
   free-same h = ap count (build-same _ _ most_own (λ i l. let s : ℕ = first_own house + i in ap is_empty (a.slots s (own-used house s (place-own house i h l)))))
 
   -- so free has the same answer
-  free-told : counted_of (free_refusal t house) (free_of house t) ≡ counted_of (free_refusal u house) (free_of house u)
+  free-told : answer_of (free_refusal t house) (free_of house t ∷ []) ≡ answer_of (free_refusal u house) (free_of house u ∷ [])
   unfolding free_refusal
   free-told = by_test (ltb house house_count) (λ h. rw (free-same (ltb-true house house_count h), a.room)) (λ n. rw n)
 
@@ -75,8 +77,8 @@ module _ {house : ℕ} {t u : Table} (a : Alike house t u) where
   given-alike (suc k) v w n = a
 
   -- so a call that changes them has the same answer, and they stay alike
-  changes-alike : {k l : ℕ} {v w t' u' : Table} {r q : Changed} → ChangesTo k v t r t' → ChangesTo l w u q u' → k ≡ l → Alike house v w → (r ≡ q) × Alike house t' u'
-  changes-alike {l = l} {v} {w} c d e n = (c.answer ∙ ap changed_of e ∙ sym d.answer, rw (c.left, d.left, e) (given-alike l v w n))
+  changes-alike : {k l : ℕ} {v w t' u' : Table} {r q : Result (Unit {0}) Refusal} → ChangesTo k v t r t' → ChangesTo l w u q u' → k ≡ l → Alike house v w → (r ≡ q) × Alike house t' u'
+  changes-alike {l = l} {v} {w} {r = r} {q} c d e n = (refused-one r q (c.answer ∙ e ∙ sym d.answer), rw (c.left, d.left, e) (given-alike l v w n))
 
   -- and so has any call
   makes_alike : {asked : Asked} {x y : Told} {t' u' : Table} → Makes t house asked x t' → Makes u house asked y u' → (x ≡ y) × Alike house t' u'
@@ -88,8 +90,8 @@ module _ {house : ℕ} {t u : Table} (a : Alike house t u) where
       (ap changed e, n)
   makes_alike (use_made {s = s} {widths} c) (use_made d) =
       let (e, n) = use_told s widths in
-      (rw (c.answer ∙ e ∙ sym d.answer, c.output ∙ n ∙ sym d.output), a)
-  makes_alike (free_made c) (free_made d) = (ap told_count (c ∙ free-told ∙ sym d), a)
+      (rw (spanned-one _ _ (same (c.answer ∙ e ∙ sym d.answer)), c.output ∙ n ∙ sym d.output), a)
+  makes_alike (free_made c) (free_made d) = (ap told_count (counted-one _ _ (same (c ∙ free-told ∙ sym d))), a)
 
 -- the first half of the claim, of one call
 pub told_the_same : ToldTheSame Makes
@@ -102,7 +104,7 @@ abbrev Kept : ℕ → Table → Table → Type 0
 Kept house t t' = (table_refusal t' ≡ table_refusal t) × ((q : ℕ) → owns house q ≡ false → slot_at t' q ≡ slot_at t q)
 
 -- a call that changes a slot of the house's own
-put-kept : (house s : ℕ) {k : ℕ} {x : Slot} {t t' : Table} {r : Changed} → Sized x → (k ≡ 0 → owns house s ≡ true) → ChangesTo k (put_in s x t) t r t' → Kept house t t'
+put-kept : (house s : ℕ) {k : ℕ} {x : Slot} {t t' : Table} {r : Result (Unit {0}) Refusal} → Sized x → (k ≡ 0 → owns house s ≡ true) → ChangesTo k (put_in s x t) t r t' → Kept house t t'
 put-kept house s {k} {x} {t} z own c =
     let other : owns house s ≡ true → (q : ℕ) → owns house q ≡ false → q ≢ s = λ o q n p. true≢false (sym o ∙ ap (owns house) (sym p) ∙ n) in
     rw c.left

@@ -1,8 +1,7 @@
 -- Calls of houses one after the other, as their promises say, and what a house sees of a table.
-use Rattle.std.specs.Prelude.{◌≡◌, true, cond, List, [], ◌∷◌, ℕ, eqb, Float}
-use Rattle.lists.specs.declared.Changed.{Changed}
-use Rattle.lists.specs.declared.Counted.{Counted}
-use Rattle.houses.specs.declared.Used.{Used}
+use Rattle.std.specs.Prelude.{◌≡◌, Result, true, cond, List, [], ◌∷◌, ℕ, eqb, Float}
+use Rattle.lists.specs.declared.Refusal.{Refusal}
+use Rattle.lists.specs.declared.Span.{Span}
 use Rattle.houses.specs.Slots.{Table, slot_at, may_use}
 use Rattle.houses.specs.Promise.{table_refusal, SetSays, ClearSays, UseSays, FreeSays}
 
@@ -15,16 +14,16 @@ pub data Asked : Type 0 where
 
 -- all that it is told: the answer, and what it lent at exit
 pub data Told : Type 0 where
-  changed : Changed → Told
-  told_used : Used → (widths' : List ℕ) → Told
-  told_count : Counted → Told
+  changed : Result (Unit {0}) Refusal → Told
+  told_used : Result Span Refusal → (widths' : List ℕ) → Told
+  told_count : Result ℕ Refusal → Told
 
 -- a house asks, and is told what the call's promise says: the table before, and after
 pub data Makes : Table → ℕ → Asked → Told → Table → Type 0 where
-  set_made : {t t' : Table} {house s : ℕ} {widths : List ℕ} {coefficients : List Float} {r : Changed} → SetSays t house s widths coefficients r t' → Makes t house (to_set s widths coefficients) (changed r) t'
-  clear_made : {t t' : Table} {house s : ℕ} {r : Changed} → ClearSays t house s r t' → Makes t house (to_clear s) (changed r) t'
-  use_made : {t : Table} {house s : ℕ} {widths widths' : List ℕ} {r : Used} → UseSays t house s widths r widths' → Makes t house (to_use s widths) (told_used r widths') t
-  free_made : {t : Table} {house : ℕ} {r : Counted} → FreeSays t house r → Makes t house to_free (told_count r) t
+  set_made : {t t' : Table} {house s : ℕ} {widths : List ℕ} {coefficients : List Float} {r : Result (Unit {0}) Refusal} → SetSays t house s widths coefficients r t' → Makes t house (to_set s widths coefficients) (changed r) t'
+  clear_made : {t t' : Table} {house s : ℕ} {r : Result (Unit {0}) Refusal} → ClearSays t house s r t' → Makes t house (to_clear s) (changed r) t'
+  use_made : {t : Table} {house s : ℕ} {widths widths' : List ℕ} {r : Result Span Refusal} → UseSays t house s widths r widths' → Makes t house (to_use s widths) (told_used r widths') t
+  free_made : {t : Table} {house : ℕ} {r : Result ℕ Refusal} → FreeSays t house r → Makes t house to_free (told_count r) t
 
 -- one call of a house: what it asked, and what it was told
 pub record Call (Ask Tell : Type 0) : Type 0 where

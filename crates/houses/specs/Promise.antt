@@ -1,27 +1,16 @@
 -- What the calls promise.
-use Rattle.std.specs.Prelude.{◌≡◌, Bool, ◌&&◌, ◌||◌, cond, List, [], ◌∷◌, ℕ, zero, suc, ◌*◌, leb, ltb, eqb, length, Float}
-use Rattle.lists.specs.Answers.{Answer, accepting, refusing, given, written}
+use Rattle.std.specs.Prelude.{◌≡◌, Result, Bool, ◌&&◌, ◌||◌, cond, List, [], ◌∷◌, ℕ, ◌*◌, leb, ltb, eqb, length, Float}
+use Rattle.lists.specs.Answers.{answer_of, given, written}
 use Rattle.lists.specs.Build.{build}
-use Rattle.lists.specs.Ends.{changed_of, counted_of}
+use Rattle.lists.specs.Ends.{counted, spanned, refused}
 use Rattle.lists.specs.Refusals.{or_else}
 use Rattle.lists.specs.Sizes.{most_windows, most_set_taps, slot_count, most_common, house_count}
 use Rattle.lists.specs.Totals.{total}
-use Rattle.lists.specs.declared.Changed.{Changed}
-use Rattle.lists.specs.declared.Counted.{Counted}
+use Rattle.lists.specs.declared.Refusal.{Refusal}
+use Rattle.lists.specs.declared.Span.{Span}
 use Rattle.model.specs.Windows.{all_of, widths_fit, all_finite, window_refusal}
-use Rattle.houses.specs.declared.Used.{Used}
-use Rattle.houses.specs.declared.Used.TheVariants.{At, Refused}
 use Rattle.houses.specs.Slots.{Table, slot_at, trimmed, widths_in, is_empty, owns, may_use, free_of}
 use Rattle.houses.specs.Changes.{holding, cleared, put_in, row_length, row_of, started}
-
--- RULES, Forms: number and values of an answer of use, and the answer of a number, with these values where it is 0
-abbrev pub used : Used → Answer
-used (At first count) = accepting (first ∷ count ∷ [])
-used (Refused k) = refusing k
-
-abbrev pub used_of : ℕ → ℕ → ℕ → Used
-used_of zero first count = At first count
-used_of (suc k) first count = Refused (suc k)
 
 -- ---- refusals, in the order of RULES, Houses
 
@@ -68,23 +57,23 @@ start_refusal t common widths coefficients =
 -- ---- promises
 
 -- RULES, Refusals: a call that changes a table, with the number of its refusal and the table that it leaves where that is 0
-pub record ChangesTo (k : ℕ) (new t : Table) (r : Changed) (t' : Table) : Type 0 where
-  pub answer : r ≡ changed_of k
+pub record ChangesTo (k : ℕ) (new t : Table) (r : Result (Unit {0}) Refusal) (t' : Table) : Type 0 where
+  pub answer : refused r ≡ k
   pub left : t' ≡ given k new t
 
-abbrev pub StartSays : Table → ℕ → List ℕ → List Float → Changed → Table → Type 0
+abbrev pub StartSays : Table → ℕ → List ℕ → List Float → Result (Unit {0}) Refusal → Table → Type 0
 StartSays t common widths coefficients = ChangesTo (start_refusal t common widths coefficients) (started (row_length common widths) widths coefficients t) t
 
-abbrev pub SetSays : Table → ℕ → ℕ → List ℕ → List Float → Changed → Table → Type 0
+abbrev pub SetSays : Table → ℕ → ℕ → List ℕ → List Float → Result (Unit {0}) Refusal → Table → Type 0
 SetSays t house s widths coefficients = ChangesTo (set_refusal t house s widths coefficients) (put_in s (holding widths coefficients) t) t
 
-abbrev pub ClearSays : Table → ℕ → ℕ → Changed → Table → Type 0
+abbrev pub ClearSays : Table → ℕ → ℕ → Result (Unit {0}) Refusal → Table → Type 0
 ClearSays t house s = ChangesTo (clear_refusal t house s) (put_in s cleared t) t
 
 -- RULES, Houses: where the slot's coefficients stand, how many they are, and its four widths
-pub record UseSays (t : Table) (house s : ℕ) (widths : List ℕ) (r : Used) (widths' : List ℕ) : Type 0 where
-  pub answer : r ≡ used_of (use_refusal t house s widths) (s * most_set_taps) (total (widths_in (slot_at t s)))
+pub record UseSays (t : Table) (house s : ℕ) (widths : List ℕ) (r : Result Span Refusal) (widths' : List ℕ) : Type 0 where
+  pub answer : spanned r ≡ answer_of (use_refusal t house s widths) (s * most_set_taps ∷ total (widths_in (slot_at t s)) ∷ [])
   pub output : widths' ≡ written (use_refusal t house s widths) (slot_at t s).widths widths
 
-abbrev pub FreeSays : Table → ℕ → Counted → Type 0
-FreeSays t house r = r ≡ counted_of (free_refusal t house) (free_of house t)
+abbrev pub FreeSays : Table → ℕ → Result ℕ Refusal → Type 0
+FreeSays t house r = counted r ≡ answer_of (free_refusal t house) (free_of house t ∷ [])

@@ -5,7 +5,9 @@ ghost use Rattle.std.specs.Prelude.{◌≡◌};
 ghost use Rattle.houses.specs.Slots.{table};
 ghost use Rattle.houses.specs.Promise.{StartSays, SetSays, ClearSays, UseSays, FreeSays};
 
-use lists::{Changed, Counted};
+use lists::{Refusal, Span};
+use slots::Table;
+use starting::Common;
 
 mod refusing;
 mod slots;
@@ -16,13 +18,6 @@ pub const WIDTHS: usize = 48;
 
 pub const COEFFICIENTS: usize = 720;
 
-// Where a set's coefficients stand in the table and how many they are, or the number of why that is not said.
-#[derive(Clone, Copy)]
-pub enum Used {
-    At(u64, u64),
-    Refused(u8),
-}
-
 // The owner's call: the table has these common sets, and every other slot is empty, whatever stood there.
 pub fn start(
     widths: &mut [u32],
@@ -30,28 +25,22 @@ pub fn start(
     common_widths: &[u32],
     common_coefficients: &[f64],
     common: u32,
-) -> Changed
+) -> Result<(), Refusal>
     ensures { StartSays (table widths.old coefficients.old) common common_widths.now common_coefficients.now result (table widths.new coefficients.new) }
 {
-    let number = starting::start_refusal(
+    let table = Table {
         widths,
         coefficients,
-        common_widths,
-        common_coefficients,
-        common,
-    );
-    if number != 0 {
-        return Changed::Refused(number);
-    }
-    let length = starting::row_length(common_widths, common);
-    starting::put_common(
-        widths,
-        coefficients,
-        common_widths,
-        common_coefficients,
-        length,
-    );
-    Changed::Done
+    };
+    let sets = Common {
+        count: common,
+        widths: common_widths,
+        coefficients: common_coefficients,
+    };
+    starting::check_start(table, sets)?;
+    let length = starting::row_length(sets);
+    starting::put_common(widths, coefficients, sets, length);
+    Ok(())
 }
 
 // A house sets a slot of its own that is empty.
@@ -62,40 +51,40 @@ pub fn set(
     slot: u32,
     set_widths: &[u32],
     set_coefficients: &[f64],
-) -> Changed
+) -> Result<(), Refusal>
     ensures { SetSays (table widths.old coefficients.old) house slot set_widths.now set_coefficients.now result (table widths.new coefficients.new) }
 {
-    let number = refusing::set_refusal(
+    let table = Table {
         widths,
         coefficients,
-        house,
-        slot,
-        set_widths,
-        set_coefficients,
-    );
-    if number != 0 {
-        return Changed::Refused(number);
-    }
+    };
+    refusing::check_set(table, house, slot, set_widths, set_coefficients)?;
     slots::put_set(
         widths,
         coefficients,
-        lists::wide(slot),
+        slot as usize,
         set_widths,
         set_coefficients,
     );
-    Changed::Done
+    Ok(())
 }
 
 // A house clears a slot of its own.
-pub fn clear(widths: &mut [u32], coefficients: &mut [f64], house: u32, slot: u32) -> Changed
+pub fn clear(
+    widths: &mut [u32],
+    coefficients: &mut [f64],
+    house: u32,
+    slot: u32,
+) -> Result<(), Refusal>
     ensures { ClearSays (table widths.old coefficients.old) house slot result (table widths.new coefficients.new) }
 {
-    let number = refusing::clear_refusal(widths, coefficients, house, slot);
-    if number != 0 {
-        return Changed::Refused(number);
-    }
-    slots::put_zeros(widths, coefficients, lists::wide(slot));
-    Changed::Done
+    let table = Table {
+        widths,
+        coefficients,
+    };
+    refusing::check_clear(table, house, slot)?;
+    slots::put_set(widths, coefficients, slot as usize, &[], &[]);
+    Ok(())
 }
 
 // Where the coefficients of a slot's set stand in the table; its widths go into a list.
@@ -105,28 +94,30 @@ pub fn use_set(
     house: u32,
     slot: u32,
     set_widths: &mut [u32],
-) -> Used
+) -> Result<Span, Refusal>
     ensures { UseSays (table widths.now coefficients.now) house slot set_widths.old result set_widths.new }
 {
-    let number = refusing::use_refusal(widths, coefficients, house, slot, set_widths);
-    if number != 0 {
-        return Used::Refused(number);
-    }
-    let row = slots::row(widths, lists::wide(slot));
-    lists::copy_u32(row, slots::ROW, set_widths);
-    Used::At(
-        lists::long(slot) * slots::TAPS as u64,
-        lists::total_u32(slots::trimmed(row)),
-    )
+    let table = Table {
+        widths,
+        coefficients,
+    };
+    refusing::check_use(table, house, slot, set_widths)?;
+    let row = slots::row(widths, slot as usize);
+    lists::copy(row, slots::ROW, set_widths);
+    Ok(Span {
+        first: slot as u64 * slots::TAPS as u64,
+        count: lists::total_u32(slots::trimmed(row)),
+    })
 }
 
 // How many of a house's own slots are empty.
-pub fn free(widths: &[u32], coefficients: &[f64], house: u32) -> Counted
+pub fn free(widths: &[u32], coefficients: &[f64], house: u32) -> Result<u32, Refusal>
     ensures { FreeSays (table widths.now coefficients.now) house result }
 {
-    let number = refusing::free_refusal(widths, coefficients, house);
-    if number != 0 {
-        return Counted::Refused(number);
-    }
-    Counted::Number(slots::free_of(widths, coefficients, house))
+    let table = Table {
+        widths,
+        coefficients,
+    };
+    refusing::check_free(table, house)?;
+    Ok(slots::free_of(table, house))
 }

@@ -1,86 +1,82 @@
-// Why a house's call is refused: the first number that applies, 0 for none.
+// Why a house's call is refused: the first refusal that applies.
 ghost use Rattle.std.specs.Prelude.{◌≡◌};
-ghost use Rattle.houses.specs.Slots.{table};
+ghost use Rattle.lists.specs.Ends.{refused};
+ghost use Rattle.houses.specs.Inner.Lent.{lent};
 ghost use Rattle.houses.specs.Promise.{table_refusal, set_refusal, clear_refusal, use_refusal, free_refusal};
 
-use crate::{COEFFICIENTS, WIDTHS, slots};
+use crate::slots::{self, Table};
+use crate::{COEFFICIENTS, WIDTHS};
+use lists::Refusal;
+use model::voice::window;
 
-// Why a table can't be used: a list is too short.
-pub(crate) fn table_refusal(widths: &[u32], coefficients: &[f64]) -> u8
-    ensures { result ≡ table_refusal (table widths.now coefficients.now) }
+// A table can't be used where a list is too short.
+pub(crate) fn check_table(table: Table) -> Result<(), Refusal>
+    ensures { refused result ≡ table_refusal (lent table.entry) }
 {
-    if (widths.len() < WIDTHS) | (coefficients.len() < COEFFICIENTS) {
-        return 6;
+    if (table.widths.len() < WIDTHS) | (table.coefficients.len() < COEFFICIENTS) {
+        return Err(Refusal::TooLittleRoom);
     }
-    0
+    Ok(())
 }
 
-pub(crate) fn set_refusal(
-    widths: &[u32],
-    coefficients: &[f64],
+pub(crate) fn check_set(
+    table: Table,
     house: u32,
     slot: u32,
     set_widths: &[u32],
     set_coefficients: &[f64],
-) -> u8
-    ensures { result ≡ set_refusal (table widths.now coefficients.now) house slot set_widths.now set_coefficients.now }
+) -> Result<(), Refusal>
+    ensures { refused result ≡ set_refusal (lent table.entry) house slot set_widths.now set_coefficients.now }
 {
     if !slots::owns(house, slot) {
-        return 23;
+        return Err(Refusal::NotYourSlot);
     }
-    if !slots::is_empty(widths, coefficients, lists::wide(slot)) {
-        return 25;
+    if !slots::is_empty(table, slot as usize) {
+        return Err(Refusal::SlotSet);
     }
-    let number = model::voice::window::refusal(set_widths, set_coefficients);
-    if number != 0 {
-        return number;
-    }
-    table_refusal(widths, coefficients)
+    window::check(set_widths, set_coefficients)?;
+    check_table(table)
 }
 
-pub(crate) fn clear_refusal(widths: &[u32], coefficients: &[f64], house: u32, slot: u32) -> u8
-    ensures { result ≡ clear_refusal (table widths.now coefficients.now) house slot }
+pub(crate) fn check_clear(table: Table, house: u32, slot: u32) -> Result<(), Refusal>
+    ensures { refused result ≡ clear_refusal (lent table.entry) house slot }
 {
     if !slots::owns(house, slot) {
-        return 23;
+        return Err(Refusal::NotYourSlot);
     }
-    if slots::is_empty(widths, coefficients, lists::wide(slot)) {
-        return 24;
+    if slots::is_empty(table, slot as usize) {
+        return Err(Refusal::SlotEmpty);
     }
-    table_refusal(widths, coefficients)
+    check_table(table)
 }
 
-pub(crate) fn use_refusal(
-    widths: &[u32],
-    coefficients: &[f64],
+pub(crate) fn check_use(
+    table: Table,
     house: u32,
     slot: u32,
     set_widths: &[u32],
-) -> u8
-    ensures { result ≡ use_refusal (table widths.now coefficients.now) house slot set_widths.now }
+) -> Result<(), Refusal>
+    ensures { refused result ≡ use_refusal (lent table.entry) house slot set_widths.now }
 {
     if !slots::may_use(house, slot) {
-        return 23;
+        return Err(Refusal::NotYourSlot);
     }
-    let empty = slots::is_empty(widths, coefficients, lists::wide(slot));
+    let empty = slots::is_empty(table, slot as usize);
     if empty {
-        return 24;
+        return Err(Refusal::SlotEmpty);
     }
-    let short = table_refusal(widths, coefficients);
-    if short != 0 {
-        return short;
-    }
+    check_table(table)?;
     if set_widths.len() < slots::ROW {
-        return 6;
+        return Err(Refusal::TooLittleRoom);
     }
-    0
+    Ok(())
 }
 
-pub(crate) fn free_refusal(widths: &[u32], coefficients: &[f64], house: u32) -> u8
-    ensures { result ≡ free_refusal (table widths.now coefficients.now) house }
+pub(crate) fn check_free(table: Table, house: u32) -> Result<(), Refusal>
+    ensures { refused result ≡ free_refusal (lent table.entry) house }
 {
     if !slots::is_house(house) {
-        return 23;
+        return Err(Refusal::NotYourSlot);
     }
-    table_refusal(widths, coefficients)
+    check_table(table)
 }

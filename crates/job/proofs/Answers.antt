@@ -8,11 +8,13 @@ use lib.Seq.{take_at}
 use Rattle.lists.specs.Sizes.{most_frames, most_job_states}
 use Rattle.lists.specs.Totals.{total}
 use Rattle.lists.proofs.Sums.{total-whole}
-use Rattle.duration.specs.declared.Fitted.{Fitted}
-use Rattle.duration.specs.declared.Fitted.TheVariants as fit
+use Rattle.std.specs.Prelude.{Result, Ok, Err}
+use Rattle.lists.specs.declared.Refusal.{Refusal}
+use Rattle.lists.specs.Ends.{counted}
+use Rattle.lists.specs.Refusals.{number_of}
 use Rattle.duration.specs.Speed.{refusal_at}
 use Rattle.lists.specs.Answers.{Answer, accepting, refusing, written}
-use Rattle.duration.specs.Promise.{fitted, work_of, early_refusal, Says}
+use Rattle.duration.specs.Promise.{work_of, early_refusal, Says}
 use Rattle.duration.specs.Shortest.{refusal_of_shortest}
 use Rattle.duration.proofs.Shortest.{shortest-taken}
 use Rattle.lists.proofs.Answers.{refused, refused_is, accepted_is}
@@ -20,12 +22,11 @@ use Rattle.duration.proofs.Refusals.{fitting}
 use Rattle.lists.proofs.Refusals.{or_none}
 use Rattle.job.specs.declared.Damage.{Damage}
 use Rattle.job.specs.declared.Damage.TheVariants.{Mark, Version, Count, Length}
-use Rattle.job.specs.declared.finding.Found.TheVariants.{Sound, Wrong}
-use Rattle.job.specs.declared.Answered.TheVariants.{Done, Damaged, Refused}
+use Rattle.job.specs.declared.Failure.TheVariants.{Damaged, Refused}
 use Rattle.job.specs.Format.{count_of, Job, job_states, job_at, job_of}
-use Rattle.job.specs.Damage.{damage_of, damage_number}
+use Rattle.job.specs.Damage.{sound, wrong, damage_of, damage_number}
 use Rattle.job.specs.Inner.Reading.{StatesFitted}
-use Rattle.job.specs.Promise.{job_fit, job_refusal, JobSays}
+use Rattle.job.specs.Promise.{done as done_with, job_fit, job_refusal, JobSays}
 use Rattle.job.proofs.Damages.{sound-job}
 use Rattle.job.proofs.Pairs.{floats-long}
 use Rattle.job.proofs.Frames.{Bounded, speed-bounded}
@@ -71,7 +72,7 @@ damage_leaves Version new out n work = (refl, refl)
 damage_leaves Count new out n work = (refl, refl)
 damage_leaves Length new out n work = (refl, refl)
 
-pub damaged_so : (bytes out work : List ℕ) (what : Damage) (at : ℕ) → damage_of bytes ≡ Wrong what at → JobSays bytes out work (Damaged what at) out work
+pub damaged_so : (bytes out work : List ℕ) (what : Damage) (at : ℕ) → damage_of bytes ≡ wrong what at → JobSays bytes out work (Err (Damaged what at)) out work
 damaged_so bytes out work what at e =
     let j : Job = job_of bytes in
     let l = damage_leaves what (job_fit j).durations out (length j.means) work in
@@ -79,7 +80,7 @@ damaged_so bytes out work what at e =
 
 -- ---- one with which nothing is wrong, of s states
 
-module _ (bytes : List ℕ) (s : ℕ) (fine : damage_of bytes ≡ Sound) (count_is : s ≡ count_of bytes) where
+module _ (bytes : List ℕ) (s : ℕ) (fine : damage_of bytes ≡ sound) (count_is : s ≡ count_of bytes) where
   pub few-states : s ≤ most_job_states
   few-states = rw count_is (sound-job bytes fine).few
 
@@ -89,17 +90,17 @@ module _ (bytes : List ℕ) (s : ℕ) (fine : damage_of bytes ≡ Sound) (count_
   long : length j.means ≡ s
   long = floats-long bytes 15 _ s
 
-  module _ (out work : List ℕ) (r : Fitted) (out' work' : List ℕ) (f : StatesFitted j out work r out' work') where
+  module _ (out work : List ℕ) (r : Result ℕ Refusal) (out' work' : List ℕ) (f : StatesFitted j out work r out' work') where
     abbrev k : ℕ
     k = job_refusal j out work
 
-    pub job-refused : (m number : ℕ) → r ≡ fit.Refused m → number ≡ (fitted r).number → JobSays bytes out work (Refused number) out' work'
-    job-refused m number d q = rw (fine, ← count_is, q ∙ ap (λ (x : Fitted). (fitted x).number) d) (says-refused k _ (job_fit j).durations (length j.means) out work out' work' _ m (rw d at f))
+    pub job-refused : (e : Refusal) → r ≡ Err e → JobSays bytes out work (Err (Refused e)) out' work'
+    job-refused e d = rw (fine, ← count_is) (says-refused k _ (job_fit j).durations (length j.means) out work out' work' _ (number_of e) (rw d at f))
 
     -- accepted, with c changes
-    module _ (c : ℕ) (d : r ≡ fit.Done c) where
+    module _ (c : ℕ) (d : r ≡ Ok c) where
       done : (k ≡ 0) × (c ∷ [] ≡ (job_fit j).changes ∷ [])
-      done = accepted_is (fitted (fit.Done c)) k _ (sym (ap fitted d) ∙ f.answer) refl
+      done = accepted_is (counted (Ok c)) k _ (sym (ap counted d) ∙ f.answer) refl
 
       pub job-room : s ≤ length out'
       job-room = rw long at (fit-room j out work out' done.0 f.output)
@@ -117,9 +118,9 @@ module _ (bytes : List ℕ) (s : ℕ) (fine : damage_of bytes ≡ Sound) (count_
         pub job-few : frames ≤ most_frames
         job-few = rw frames_is bounded.few
 
-        pub job-done : JobSays bytes out work (Done s frames c) out' work'
+        pub job-done : JobSays bytes out work (done_with s frames c) out' work'
         job-done =
             let v = done.1 in
             let u : c ≡ (job_fit j).changes = cc in
             rw (fine, ← count_is)
-            (says-accepted k (length j.means ∷ total (job_fit j).durations ∷ (job_fit j).changes ∷ []) (job_fit j).durations (length j.means) out work out' work' _ (accepting (s ∷ frames ∷ c ∷ [])) (fitted r) done.0 (rw (long, frames_is, u)) f)
+            (says-accepted k (length j.means ∷ total (job_fit j).durations ∷ (job_fit j).changes ∷ []) (job_fit j).durations (length j.means) out work out' work' _ (accepting (s ∷ frames ∷ c ∷ [])) (counted r) done.0 (rw (long, frames_is, u)) f)

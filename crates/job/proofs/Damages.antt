@@ -15,10 +15,10 @@ use Rattle.lists.proofs.Numbers.{le_or_lt, same_or_not}
 use Rattle.lists.proofs.Fronts.{alike_is, is_alike}
 use Rattle.job.specs.declared.Damage.{Damage}
 use Rattle.job.specs.declared.Damage.TheVariants.{Mark, Version, Count, Length}
-use Rattle.job.specs.declared.finding.Found.{Found}
-use Rattle.job.specs.declared.finding.Found.TheVariants.{Sound, Wrong}
+use Rattle.std.specs.Prelude.{Ok, Err}
+use Rattle.job.specs.declared.finding.Wrong.{Wrong}
 use Rattle.job.specs.Format.{mark, version_of, is_known, count_of, state_bytes, length_of, whole_of, IsJob}
-use Rattle.job.specs.Damage.{else_found, found_to, mark_found, word_found, length_found, damage_of}
+use Rattle.job.specs.Damage.{Found, sound, wrong, found_to, mark_found, word_found, length_found, damage_of}
 use Rattle.lists.proofs.Flags.{neither}
 
 -- ---- a number that is what it may be, or is not
@@ -56,16 +56,16 @@ module _ (bytes : List ℕ) where
   abbrev len : ℕ
   len = length bytes
 
-  pub found-mark : alike mark bytes < min 3 len → damage_of bytes ≡ Wrong Mark (alike mark bytes)
+  pub found-mark : alike mark bytes < min 3 len → damage_of bytes ≡ wrong Mark (alike mark bytes)
   unfolding damage_of
   found-mark h = rw (lt-ltb (alike mark bytes) 3 (omega arith), le-ltb len (alike mark bytes + 1) (omega arith))
 
   -- the file ends in the mark, or the mark is right
   module _ (h : min 3 len ≤ alike mark bytes) where
-    marked-sound : 3 ≤ alike mark bytes → mark_found bytes ≡ Sound
+    marked-sound : 3 ≤ alike mark bytes → mark_found bytes ≡ sound
     marked-sound g = rw (le-ltb (alike mark bytes) 3 g)
 
-    pub found-short : len < 5 → damage_of bytes ≡ Wrong Length len
+    pub found-short : len < 5 → damage_of bytes ≡ wrong Length len
     unfolding damage_of
     found-short l = ⊎_elim
         (λ (g : 3 ≤ alike mark bytes). rw (marked-sound g, lt-ltb len 5 l))
@@ -73,10 +73,10 @@ module _ (bytes : List ℕ) where
         (le_or_lt 3 (alike mark bytes))
 
     module _ (five : 5 ≤ len) where
-      marked : mark_found bytes ≡ Sound
+      marked : mark_found bytes ≡ sound
       marked = marked-sound (omega arith)
 
-      pub found-version : is_known (version_of bytes) ≡ false → damage_of bytes ≡ Wrong Version 3
+      pub found-version : is_known (version_of bytes) ≡ false → damage_of bytes ≡ wrong Version 3
       unfolding damage_of
       found-version u = rw (marked, le-ltb len 5 five, known_range (version_of bytes), u)
 
@@ -84,35 +84,35 @@ module _ (bytes : List ℕ) where
         right : ltb (version_of bytes) 1 || ltb 2 (version_of bytes) ≡ false
         right = known_range (version_of bytes) ∙ ap not v
 
-        pub found-short-count : len < 7 → damage_of bytes ≡ Wrong Length len
+        pub found-short-count : len < 7 → damage_of bytes ≡ wrong Length len
         unfolding damage_of
         found-short-count l = rw (marked, le-ltb len 5 five, right, lt-ltb len 7 l)
 
         module _ (seven : 7 ≤ len) where
-          pub found-count : most_job_states < count_of bytes → damage_of bytes ≡ Wrong Count 5
+          pub found-count : most_job_states < count_of bytes → damage_of bytes ≡ wrong Count 5
           unfolding damage_of
           found-count g = rw (marked, le-ltb len 5 five, right, le-ltb len 7 seven, outside (count_of bytes) 0 most_job_states (inr g))
 
           module _ (few : count_of bytes ≤ most_job_states) where
-            pub found-length : (len ≡ whole_of bytes → ⊥) → damage_of bytes ≡ Wrong Length (min len (whole_of bytes))
+            pub found-length : (len ≡ whole_of bytes → ⊥) → damage_of bytes ≡ wrong Length (min len (whole_of bytes))
             unfolding damage_of
             found-length d = rw (marked, le-ltb len 5 five, right, le-ltb len 7 seven, inside (count_of bytes) 0 most_job_states zero-le few, ne_eqb len (whole_of bytes) d)
 
-            pub found_nothing : len ≡ whole_of bytes → damage_of bytes ≡ Sound
+            pub found_nothing : len ≡ whole_of bytes → damage_of bytes ≡ sound
             unfolding damage_of
             found_nothing e = rw (marked, le-ltb len 5 five, right, le-ltb len 7 seven, inside (count_of bytes) 0 most_job_states zero-le few, eq-eqb len (whole_of bytes) e)
 
 -- ---- every file is damaged in one of these ways, or is a job
 
 pub data Way (bytes : List ℕ) : Found → Type 0 where
-  wrong_mark : alike mark bytes < 3 → alike mark bytes < length bytes → Way bytes (Wrong Mark (alike mark bytes))
-  ends_early : length bytes < 5 → min 3 (length bytes) ≤ alike mark bytes → Way bytes (Wrong Length (length bytes))
-  wrong_version : 3 ≤ alike mark bytes → 5 ≤ length bytes → is_known (version_of bytes) ≡ false → Way bytes (Wrong Version 3)
-  ends_in_count : 3 ≤ alike mark bytes → is_known (version_of bytes) ≡ true → 5 ≤ length bytes → length bytes < 7 → Way bytes (Wrong Length (length bytes))
-  wrong_count : 3 ≤ alike mark bytes → is_known (version_of bytes) ≡ true → 7 ≤ length bytes → most_job_states < count_of bytes → Way bytes (Wrong Count 5)
+  wrong_mark : alike mark bytes < 3 → alike mark bytes < length bytes → Way bytes (wrong Mark (alike mark bytes))
+  ends_early : length bytes < 5 → min 3 (length bytes) ≤ alike mark bytes → Way bytes (wrong Length (length bytes))
+  wrong_version : 3 ≤ alike mark bytes → 5 ≤ length bytes → is_known (version_of bytes) ≡ false → Way bytes (wrong Version 3)
+  ends_in_count : 3 ≤ alike mark bytes → is_known (version_of bytes) ≡ true → 5 ≤ length bytes → length bytes < 7 → Way bytes (wrong Length (length bytes))
+  wrong_count : 3 ≤ alike mark bytes → is_known (version_of bytes) ≡ true → 7 ≤ length bytes → most_job_states < count_of bytes → Way bytes (wrong Count 5)
   wrong_length : 3 ≤ alike mark bytes → is_known (version_of bytes) ≡ true → 7 ≤ length bytes → count_of bytes ≤ most_job_states → (length bytes ≡ whole_of bytes → ⊥)
-      → Way bytes (Wrong Length (min (length bytes) (whole_of bytes)))
-  nowhere : IsJob bytes → Way bytes Sound
+      → Way bytes (wrong Length (min (length bytes) (whole_of bytes)))
+  nowhere : IsJob bytes → Way bytes sound
 
 module _ (bytes : List ℕ) where
   marked_is : 3 ≤ alike mark bytes → take 3 bytes ≡ mark
@@ -156,15 +156,15 @@ module _ (bytes : List ℕ) where
 
 -- ---- both directions
 
-pub job-sound : (bytes : List ℕ) → IsJob bytes → damage_of bytes ≡ Sound
+pub job-sound : (bytes : List ℕ) → IsJob bytes → damage_of bytes ≡ sound
 job-sound bytes j =
     let a : alike mark bytes ≡ 3 = is_alike mark bytes j.marked in
     let h : min 3 (length bytes) ≤ alike mark bytes = omega arith in
     found_nothing bytes h (omega (arith, j.whole)) j.versioned (omega (arith, j.whole)) j.few j.whole
 
 abbrev JobWhere : List ℕ → Found → Type 0
-JobWhere bytes Sound = IsJob bytes
-JobWhere bytes (Wrong what at) = Unit {0}
+JobWhere bytes (Ok none) = IsJob bytes
+JobWhere bytes (Err w) = Unit {0}
 
 way-job : (bytes : List ℕ) (f : Found) → Way bytes f → JobWhere bytes f
 way-job bytes f (wrong_mark h g) = tt
@@ -175,58 +175,55 @@ way-job bytes f (wrong_count m v l g) = tt
 way-job bytes f (wrong_length m v l g d) = tt
 way-job bytes f (nowhere j) = j
 
-pub sound-job : (bytes : List ℕ) → damage_of bytes ≡ Sound → IsJob bytes
+pub sound-job : (bytes : List ℕ) → damage_of bytes ≡ sound → IsJob bytes
 sound-job bytes e = subst (JobWhere bytes) e (way-job bytes (damage_of bytes) (way bytes))
 
--- ---- the heading, and then the length
+-- ---- one after the other: what is found is told, and nothing lets the next be looked for
 
-abbrev pub heading_found : List ℕ → Found
-heading_found bytes = else_found (else_found (mark_found bytes) (word_found 3 1 2 Version bytes)) (word_found 5 0 most_job_states Count bytes)
+module _ (bytes : List ℕ) where
+  pub mark-told : (w : Wrong) → Err w ≡ mark_found bytes → Err w ≡ damage_of bytes
+  unfolding damage_of
+  mark-told w e = rw (← e)
 
-else_else : (f g h k : Found) → else_found f (else_found g (else_found h k)) ≡ else_found (else_found (else_found f g) h) k
-else_else Sound Sound h k = refl
-else_else Sound (Wrong w p) h k = refl
-else_else (Wrong w p) g h k = refl
+  module _ (m : sound ≡ mark_found bytes) where
+    pub version-told : (w : Wrong) → Err w ≡ word_found 3 1 2 Version bytes → Err w ≡ damage_of bytes
+    unfolding damage_of
+    version-told w e = rw (← m, ← e)
 
-damage_is : (bytes : List ℕ) → damage_of bytes ≡ else_found (heading_found bytes) (length_found bytes)
-unfolding damage_of
-damage_is bytes = else_else (mark_found bytes) (word_found 3 1 2 Version bytes) (word_found 5 0 most_job_states Count bytes) (length_found bytes)
+    module _ (v : sound ≡ word_found 3 1 2 Version bytes) where
+      pub count-told : (w : Wrong) → Err w ≡ word_found 5 0 most_job_states Count bytes → Err w ≡ damage_of bytes
+      unfolding damage_of
+      count-told w e = rw (← m, ← v, ← e)
 
-pub heading_wrong : (bytes : List ℕ) (what : Damage) (at : ℕ) → heading_found bytes ≡ Wrong what at → heading_found bytes ≡ damage_of bytes
-heading_wrong bytes what at e = e ∙ sym (damage_is bytes ∙ ap (λ (f : Found). else_found f (length_found bytes)) e)
+      pub length-told : sound ≡ word_found 5 0 most_job_states Count bytes → length_found bytes ≡ damage_of bytes
+      unfolding damage_of
+      length-told c = rw (← m, ← v, ← c)
 
-pub heading-sound : (bytes : List ℕ) → heading_found bytes ≡ Sound → length_found bytes ≡ damage_of bytes
-heading-sound bytes e = sym (damage_is bytes ∙ ap (λ (f : Found). else_found f (length_found bytes)) e)
-
-else_none : (f g : Found) → else_found f g ≡ Sound → g ≡ Sound
-else_none Sound g e = e
-else_none (Wrong w p) g e = absurd (let z : ◌≡◌ {A = ℕ} 0 1 = cc in omega arith)
-
-none_wrong : (a b : Bool) (f : Found) (what : Damage) (at : ℕ) → cond a f (cond b (Wrong what at) Sound) ≡ Sound → (f ≡ Sound) ⊎ (b ≡ false)
+none_wrong : (a b : Bool) (f : Found) (what : Damage) (at : ℕ) → cond a f (cond b (wrong what at) sound) ≡ sound → (f ≡ sound) ⊎ (b ≡ false)
 none_wrong true b f what at e = inl e
 none_wrong false true f what at e = absurd (let z : ◌≡◌ {A = ℕ} 0 1 = cc in omega arith)
 none_wrong false false f what at e = inr refl
 
-pub heading-few : (bytes : List ℕ) → heading_found bytes ≡ Sound → count_of bytes ≤ most_job_states
-heading-few bytes e = ⊎_elim
-    (λ (f : Wrong Length (length bytes) ≡ Sound). absurd (let z : ◌≡◌ {A = ℕ} 0 1 = cc in omega arith))
+pub counted-few : (bytes : List ℕ) → sound ≡ word_found 5 0 most_job_states Count bytes → count_of bytes ≤ most_job_states
+counted-few bytes e = ⊎_elim
+    (λ (f : wrong Length (length bytes) ≡ sound). absurd (let z : ◌≡◌ {A = ℕ} 0 1 = cc in omega arith))
     (λ (f : ltb (count_of bytes) 0 || ltb most_job_states (count_of bytes) ≡ false). ltb-false most_job_states (count_of bytes) (neither (ltb (count_of bytes) 0) (ltb most_job_states (count_of bytes)) f).1)
-    (none_wrong (ltb (length bytes) 7) (ltb (count_of bytes) 0 || ltb most_job_states (count_of bytes)) (Wrong Length (length bytes)) Count 5 (else_none (else_found (mark_found bytes) (word_found 3 1 2 Version bytes)) _ e))
+    (none_wrong (ltb (length bytes) 7) (ltb (count_of bytes) 0 || ltb most_job_states (count_of bytes)) (wrong Length (length bytes)) Count 5 (sym e))
 
 -- ---- what the readers of the parts answer
 
 module _ (bytes : List ℕ) where
-  pub mark_wrong : (n : ℕ) (r : Found) → n ≡ alike mark bytes → n < 3 → r ≡ found_to (n + 1) bytes (Wrong Mark n) → r ≡ mark_found bytes
+  pub mark_wrong : (n : ℕ) (r : Found) → n ≡ alike mark bytes → n < 3 → r ≡ found_to (n + 1) bytes (wrong Mark n) → r ≡ mark_found bytes
   mark_wrong n r e h q = q ∙ rw (e, lt-ltb (alike mark bytes) 3 (omega arith))
 
-  pub mark-sound : (n : ℕ) → n ≡ alike mark bytes → 3 ≤ n → Sound ≡ mark_found bytes
+  pub mark-sound : (n : ℕ) → n ≡ alike mark bytes → 3 ≤ n → sound ≡ mark_found bytes
   mark-sound n e h = rw (le-ltb (alike mark bytes) 3 (omega arith))
 
   module _ (at least most : ℕ) (what : Damage) (w : ℕ) (r : Found) (e : w ≡ word_at bytes at) where
-    pub word_wrong : ltb w least || ltb most w ≡ true → r ≡ found_to (at + 2) bytes (Wrong what at) → r ≡ word_found at least most what bytes
+    pub word_wrong : ltb w least || ltb most w ≡ true → r ≡ found_to (at + 2) bytes (wrong what at) → r ≡ word_found at least most what bytes
     word_wrong t q = q ∙ rw (rw e at t)
 
-    pub word_sound : ltb w least || ltb most w ≡ false → r ≡ found_to (at + 2) bytes Sound → r ≡ word_found at least most what bytes
+    pub word_sound : ltb w least || ltb most w ≡ false → r ≡ found_to (at + 2) bytes sound → r ≡ word_found at least most what bytes
     word_sound t q = q ∙ rw (rw e at t)
 
   -- of the version and the number of states that are read, and the bytes of a state
@@ -234,11 +231,8 @@ module _ (bytes : List ℕ) where
     whole_is : 15 + w * n ≡ whole_of bytes
     whole_is = rw (b, a, e)
 
-    pub length-right : length bytes ≡ 15 + w * n → Sound ≡ length_found bytes
+    pub length-right : length bytes ≡ 15 + w * n → sound ≡ length_found bytes
     length-right h = rw (eq-eqb (length bytes) (whole_of bytes) (h ∙ whole_is))
 
-    pub length_wrong : (length bytes ≡ 15 + w * n → ⊥) → (r : ℕ) → r ≡ min (length bytes) (15 + w * n) → Wrong Length r ≡ length_found bytes
+    pub length_wrong : (length bytes ≡ 15 + w * n → ⊥) → (r : ℕ) → r ≡ min (length bytes) (15 + w * n) → wrong Length r ≡ length_found bytes
     length_wrong d r q = rw (ne_eqb (length bytes) (whole_of bytes) (λ h. d (h ∙ sym whole_is)), q, whole_is)
-
-  pub heading_is : (m v c f h : Found) → m ≡ mark_found bytes → v ≡ word_found 3 1 2 Version bytes → c ≡ word_found 5 0 most_job_states Count bytes → f ≡ else_found m v → h ≡ else_found f c → h ≡ heading_found bytes
-  heading_is m v c f h a b d e g = g ∙ rw (e, a, b, d)

@@ -16,14 +16,15 @@ use Rattle.lists.proofs.Bytes.{bytes-length}
 use Rattle.duration.specs.Promise.{work_of}
 use Rattle.job.specs.declared.Damage.{Damage}
 use Rattle.job.specs.declared.Damage.TheVariants.{Mark, Length}
-use Rattle.job.specs.declared.finding.Found.{Found}
-use Rattle.job.specs.declared.finding.Found.TheVariants.{Sound, Wrong}
-use Rattle.job.specs.declared.Answered.{Answered}
-use Rattle.job.specs.declared.Answered.TheVariants.{Damaged as Answered-as-Damaged, Refused as Answered-as-Refused}
-use Rattle.job.specs.declared.link.Linked.{Linked}
-use Rattle.job.specs.declared.link.Linked.TheVariants.{Taken, Refused}
+use Rattle.std.specs.Prelude.{Result, Ok, Err}
+use Rattle.lists.specs.declared.Refusal.{Refusal}
+use Rattle.lists.specs.declared.Refusal.TheVariants.{JobEnded}
+use Rattle.lists.proofs.Ends.{refused-one, accepted_ok}
+use Rattle.job.specs.declared.Done.{Done}
+use Rattle.job.specs.declared.Failure.{Failure}
+use Rattle.job.specs.declared.Failure.TheVariants.{Damaged, Refused}
 use Rattle.job.specs.Format.{mark, version_of, is_known, count_of, whole_of}
-use Rattle.job.specs.Damage.{damage_of}
+use Rattle.job.specs.Damage.{Found, sound, wrong, damage_of}
 use Rattle.job.specs.Places.{PlaceRight}
 use Rattle.job.specs.Promise.{JobSays}
 use Rattle.job.specs.Link.{head_bytes, link_room, link_bytes, idle, under_way, has_ended, came_in, link_refusal}
@@ -66,7 +67,7 @@ module _ (bytes : List ℕ) (h : link_room ≤ length bytes) where
   kept_whole = rw (kept_word 3 (omega arith), kept_word 5 (omega arith))
 
   way-kept : (f : Found) → Way bytes f → damage_of kept ≡ f
-  way-kept f (wrong_mark m g) = found-mark kept (omega (arith, full, kept-alike)) ∙ ap (Wrong Mark) kept-alike
+  way-kept f (wrong_mark m g) = found-mark kept (omega (arith, full, kept-alike)) ∙ ap (wrong Mark) kept-alike
   way-kept f (ends_early l m) = absurd (omega arith)
   way-kept f (wrong_version m l d) = found-version kept (omega (arith, kept-alike)) (omega (arith, full)) (kept-known ∙ d)
   way-kept f (ends_in_count m v l g) = absurd (omega arith)
@@ -75,39 +76,39 @@ module _ (bytes : List ℕ) (h : link_room ≤ length bytes) where
       let c : count_of kept ≡ count_of bytes = kept_word 5 (omega arith) in
       let b : whole_of bytes < link_room = whole_below g in
       let p : min (length kept) (whole_of kept) ≡ min (length bytes) (whole_of bytes) = omega (arith, full, kept_whole) in
-      found-length kept (omega (arith, kept-alike)) (omega (arith, full)) (kept-known ∙ v) (omega (arith, full)) (rw c g) (λ e. omega (arith, full, kept_whole)) ∙ ap (Wrong Length) p
+      found-length kept (omega (arith, kept-alike)) (omega (arith, full)) (kept-known ∙ v) (omega (arith, full)) (rw c g) (λ e. omega (arith, full, kept_whole)) ∙ ap (wrong Length) p
   way-kept f (nowhere j) = absurd (omega (arith, j.whole, whole_below j.few))
 
   pub room-found : damage_of kept ≡ damage_of bytes
   room-found = way-kept (damage_of bytes) (way bytes)
 
-  no_job : damage_of bytes ≡ Sound → ⊥
+  no_job : damage_of bytes ≡ sound → ⊥
   no_job e = let j = sound-job bytes e in omega (arith, j.whole, whole_below j.few)
 
   -- so both have one outcome
-  module _ (out work : List ℕ) (r : Answered) (out' work' : List ℕ) where
+  module _ (out work : List ℕ) (r : Result Done Failure) (out' work' : List ℕ) where
     full-says : JobSays kept out work r out' work' → JobSays bytes out work r out' work'
     full-says s =
         (elim (damage_of bytes) as (λ f. damage_of bytes ≡ f → JobSays bytes out work r out' work') [
-          | Sound ↦ λ e. absurd (no_job e)
-          | Wrong what at ↦ λ e.
-              let d = job-found kept out work r out' work' s what at (room-found ∙ e) in
-              rw (d.0, d.1, d.2) (damaged_so bytes out work what at e)
+          | Ok u ↦ λ e. absurd (no_job e)
+          | Err w ↦ λ e.
+              let d = job-found kept out work r out' work' s w.damage w.place (room-found ∙ e) in
+              rw (d.0, d.1, d.2) (damaged_so bytes out work w.damage w.place e)
         ])
         refl
 
     says-full : JobSays bytes out work r out' work' → JobSays kept out work r out' work'
     says-full s =
         (elim (damage_of bytes) as (λ f. damage_of bytes ≡ f → JobSays kept out work r out' work') [
-          | Sound ↦ λ e. absurd (no_job e)
-          | Wrong what at ↦ λ e.
-              let d = job-found bytes out work r out' work' s what at e in
-              rw (d.0, d.1, d.2) (damaged_so kept out work what at (room-found ∙ e))
+          | Ok u ↦ λ e. absurd (no_job e)
+          | Err w ↦ λ e.
+              let d = job-found bytes out work r out' work' s w.damage w.place e in
+              rw (d.0, d.1, d.2) (damaged_so kept out work w.damage w.place (room-found ∙ e))
         ])
         refl
 
 -- a job's outcome is that of its first 20,496 bytes
-module _ (bytes out work : List ℕ) (r : Answered) (out' work' : List ℕ) where
+module _ (bytes out work : List ℕ) (r : Result Done Failure) (out' work' : List ℕ) where
   pub room_says : JobSays (take link_room bytes) out work r out' work' → JobSays bytes out work r out' work'
   room_says s = ⊎_elim
       (λ (h : link_room ≤ length bytes). full-says bytes h out work r out' work' s)
@@ -133,19 +134,19 @@ record Coming (bytes link : List ℕ) : Type 0 where
   taking : link_refusal link ≡ 0
   came : came_in link ≡ take link_room bytes
 
-module _ (link : List ℕ) (h : link_bytes ≤ length link) (r : Linked) (link' : List ℕ) where
-  begin-comes : LinkBeginSays link r link' → (r ≡ Taken) × Coming [] link'
+module _ (link : List ℕ) (h : link_bytes ≤ length link) (r : Result (Unit {0}) Refusal) (link' : List ℕ) where
+  begin-comes : LinkBeginSays link r link' → (r ≡ Ok tt) × Coming [] link'
   begin-comes p =
       let z = is_long link h in
       let m : link' ≡ under_way [] ++ drop (length (under_way [])) link = rw z at p.memory in
-      (rw z at p.answer, record { taking = rw m (held_open [] link (omega arith) h); came = rw m (held-came [] link (omega arith) h) })
+      (accepted_ok r (p.answer ∙ z), record { taking = rw m (held_open [] link (omega arith) h); came = rw m (held-came [] link (omega arith) h) })
 
   -- a clean start, whatever the memory held: a job is under way, and no bytes have come
-  pub begin-clean : LinkBeginSays link r link' → (r ≡ Taken) × (has_ended link' ≡ false) × (came_in link' ≡ [])
+  pub begin-clean : LinkBeginSays link r link' → (r ≡ Ok tt) × (has_ended link' ≡ false) × (came_in link' ≡ [])
   begin-clean p = let s = begin-comes p in (s.0, is_open link' s.1.taking, s.1.came)
 
-module _ (link bytes so_far : List ℕ) (r : Linked) (link' : List ℕ) (c : Coming so_far link) where
-  part-comes : LinkPartSays link bytes r link' → (r ≡ Taken) × Coming (so_far ++ bytes) link'
+module _ (link bytes so_far : List ℕ) (r : Result (Unit {0}) Refusal) (link' : List ℕ) (c : Coming so_far link) where
+  part-comes : LinkPartSays link bytes r link' → (r ≡ Ok tt) × Coming (so_far ++ bytes) link'
   part-comes p =
       let z = c.taking in
       let b : List ℕ = take link_room (came_in link ++ bytes) in
@@ -153,7 +154,7 @@ module _ (link bytes so_far : List ℕ) (r : Linked) (link' : List ℕ) (c : Com
       let h = open_long link z in
       let m : link' ≡ under_way b ++ drop (length (under_way b)) link = rw z at p.memory in
       let n : b ≡ take link_room (so_far ++ bytes) = ap (λ (l : List ℕ). take link_room (l ++ bytes)) c.came ∙ kept_more link_room so_far bytes in
-      (rw z at p.answer, record { taking = rw m (held_open b link few h); came = rw m (held-came b link few h) ∙ n })
+      (accepted_ok r (p.answer ∙ z), record { taking = rw m (held_open b link few h); came = rw m (held-came b link few h) ∙ n })
 
 parts_come : (parts : List (List ℕ)) (link so_far : List ℕ) (outcomes : List CallOutcome) (link' : List ℕ) → Coming so_far link → Calls link (map part_of parts) outcomes link'
     → (outcomes ≡ map taken parts) × Coming (so_far ++ flatten parts) link'
@@ -166,7 +167,7 @@ parts_come (bytes ∷ parts) link so_far outcomes link' c (part_then p cs) =
 
 -- ---- a job in parts
 
-module _ (link : List ℕ) (h : link_bytes ≤ length link) (parts : List (List ℕ)) (out work : List ℕ) (r : Answered) (link' out' work' : List ℕ) (j : JobInParts link parts out work r link' out' work') where
+module _ (link : List ℕ) (h : link_bytes ≤ length link) (parts : List (List ℕ)) (out work : List ℕ) (r : Result Done Failure) (link' out' work' : List ℕ) (j : JobInParts link parts out work r link' out' work') where
   pub link_whole : AsWhole j
   link_whole =
       let b = begin-comes link h j.begun j.clean j.begins in
@@ -176,12 +177,12 @@ module _ (link : List ℕ) (h : link_bytes ≤ length link) (parts : List (List 
       record { starts = b.0; takes = p.0; answers = room_says (flatten parts) out work r out' work' s }
 
   -- a place counts from the job's first byte, however it was cut
-  pub link_told : (what : Damage) (at : ℕ) → r ≡ Answered-as-Damaged what at → (damage_of (flatten parts) ≡ Wrong what at) × PlaceRight (flatten parts) what at
+  pub link_told : (what : Damage) (at : ℕ) → r ≡ Err (Damaged what at) → (damage_of (flatten parts) ≡ wrong what at) × PlaceRight (flatten parts) what at
   link_told = job-told (flatten parts) out work r out' work' link_whole.answers
 
 -- two cuttings of the same bytes, over any two memories
 pub cuttings_agree : (link₁ link₂ : List ℕ) → link_bytes ≤ length link₁ → link_bytes ≤ length link₂ → (parts₁ parts₂ : List (List ℕ)) → flatten parts₁ ≡ flatten parts₂
-    → (out work : List ℕ) (r s : Answered) (l₁ o₁ w₁ l₂ o₂ w₂ : List ℕ) → JobInParts link₁ parts₁ out work r l₁ o₁ w₁ → JobInParts link₂ parts₂ out work s l₂ o₂ w₂ → (r ≡ s) × (o₁ ≡ o₂) × (w₁ ≡ w₂)
+    → (out work : List ℕ) (r s : Result Done Failure) (l₁ o₁ w₁ l₂ o₂ w₂ : List ℕ) → JobInParts link₁ parts₁ out work r l₁ o₁ w₁ → JobInParts link₂ parts₂ out work s l₂ o₂ w₂ → (r ≡ s) × (o₁ ≡ o₂) × (w₁ ≡ w₂)
 cuttings_agree link₁ link₂ h₁ h₂ parts₁ parts₂ e out work r s l₁ o₁ w₁ l₂ o₂ w₂ j k =
     let p = (link_whole link₁ h₁ parts₁ out work r l₁ o₁ w₁ j).answers in
     let q = (link_whole link₂ h₂ parts₂ out work s l₂ o₂ w₂ k).answers in
@@ -190,15 +191,15 @@ cuttings_agree link₁ link₂ h₁ h₂ parts₁ parts₂ e out work r s l₁ o
 -- ---- after the end
 
 module _ (link : List ℕ) (e : has_ended link ≡ true) where
-  part_11 : (bytes : List ℕ) (r : Linked) (link' : List ℕ) → LinkPartSays link bytes r link' → (r ≡ Refused 11) × (link' ≡ link)
-  part_11 bytes r link' p = let k = ended_11 link e in (rw k at p.answer, rw k at p.memory)
+  part_11 : (bytes : List ℕ) (r : Result (Unit {0}) Refusal) (link' : List ℕ) → LinkPartSays link bytes r link' → (r ≡ Err JobEnded) × (link' ≡ link)
+  part_11 bytes r link' p = let k = ended_11 link e in (refused-one r (Err JobEnded) (p.answer ∙ k), rw k at p.memory)
 
-  end_11 : (out work : List ℕ) (r : Answered) (link' out' work' : List ℕ) → LinkEndSays link out work r link' out' work' → (r ≡ Answered-as-Refused 11) × (link' ≡ link) × (out' ≡ out) × (work' ≡ work)
+  end_11 : (out work : List ℕ) (r : Result Done Failure) (link' out' work' : List ℕ) → LinkEndSays link out work r link' out' work' → (r ≡ Err (Refused JobEnded)) × (link' ≡ link) × (out' ≡ out) × (work' ≡ work)
   unfolding work_of
   end_11 out work r link' out' work' p =
       let k = ended_11 link e in
       let s = rw k at p.job in
-      (answered-one r (Answered-as-Refused 11) (same s.answer), rw k at p.memory, s.output, s.workspace)
+      (answered-one r (Err (Refused JobEnded)) (same s.answer), rw k at p.memory, s.output, s.workspace)
 
 all-refused : (calls : List Call) (link : List ℕ) (outcomes : List CallOutcome) (link' : List ℕ) → has_ended link ≡ true → Calls link calls outcomes link' → (outcomes ≡ map refused11 calls) × (link' ≡ link)
 all-refused [] link outcomes link' e none = (refl, refl)
@@ -212,7 +213,7 @@ all-refused (end_with out work ∷ calls) link outcomes link' e (end_then p cs) 
     (rw (s.0, s.2, s.3, t.0), t.1 ∙ s.1)
 
 -- an end, accepted or refused, over a memory that is long enough, whatever it holds
-module _ (link : List ℕ) (h : link_bytes ≤ length link) (out work : List ℕ) (r : Answered) (link' out' work' : List ℕ) (f : LinkEndSays link out work r link' out' work') where
+module _ (link : List ℕ) (h : link_bytes ≤ length link) (out work : List ℕ) (r : Result Done Failure) (link' out' work' : List ℕ) (f : LinkEndSays link out work r link' out' work') where
   pub end-ends : has_ended link' ≡ true
   end-ends =
       (elim (has_ended link) as (λ s. has_ended link ≡ s → has_ended link' ≡ true) [
@@ -231,5 +232,5 @@ module _ (link : List ℕ) (h : link_bytes ≤ length link) (out work : List ℕ
     link_after = all-refused calls link' outcomes link₂ end-ends cs
 
     -- and the next job is answered as the file of its own bytes is: nothing is seen of what came before
-    pub link_again : (parts : List (List ℕ)) (o w : List ℕ) (s : Answered) (link₃ o' w' : List ℕ) (j : JobInParts link₂ parts o w s link₃ o' w') → AsWhole j
+    pub link_again : (parts : List (List ℕ)) (o w : List ℕ) (s : Result Done Failure) (link₃ o' w' : List ℕ) (j : JobInParts link₂ parts o w s link₃ o' w') → AsWhole j
     link_again parts o w s link₃ o' w' j = link_whole link₂ (rw link_after.1 end-long) parts o w s link₃ o' w' j

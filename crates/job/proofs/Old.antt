@@ -17,11 +17,11 @@ use Rattle.lists.proofs.Fronts.{starts_is, is_starts}
 use Rattle.duration.specs.Promise.{work_of, Answers, Says}
 use Rattle.job.specs.declared.Damage.{Damage}
 use Rattle.job.specs.declared.Damage.TheVariants.{Mark, Version, Count, Length}
-use Rattle.job.specs.declared.finding.Found.{Found}
-use Rattle.job.specs.declared.finding.Found.TheVariants.{Sound, Wrong}
-use Rattle.job.specs.declared.Answered.{Answered}
+use Rattle.std.specs.Prelude.{Result, Ok, Err}
+use Rattle.job.specs.declared.Done.{Done}
+use Rattle.job.specs.declared.Failure.{Failure}
 use Rattle.job.specs.Format.{mark, version_of, is_known, count_of, whole_of, IsJob, Job, job_of}
-use Rattle.job.specs.Damage.{damage_of, damage_number, is_damage, old_number}
+use Rattle.job.specs.Damage.{Found, sound, damage_of, damage_number, is_damage, old_number}
 use Rattle.job.specs.Promise.{answered, job_fit, job_refusal, unless_found, behind, JobSaysAfter}
 use Rattle.job.specs.Old.{format_refusal, found_number, OldSaysAfter, old_answer}
 use Rattle.job.proofs.Damages.{job-sound, sound-job}
@@ -95,8 +95,8 @@ pub old_verdict : (bytes : List ℕ) → format_refusal bytes ≡ old_number (fo
 unfolding old_number
 old_verdict bytes =
     (elim (damage_of bytes) as (λ f. damage_of bytes ≡ f → format_refusal bytes ≡ old_number (found_number f)) [
-      | Sound ↦ λ e. job-accepted bytes (sound-job bytes e)
-      | Wrong what at ↦ λ e. no_job_9 bytes (λ j. let z : ◌≡◌ {A = Found} Sound (Wrong what at) = sym (job-sound bytes j) ∙ e in let n : ◌≡◌ {A = ℕ} 0 1 = cc in omega arith) ∙ sym (old_damage what)
+      | Ok none ↦ λ e. job-accepted bytes (sound-job bytes e)
+      | Err w ↦ λ e. no_job_9 bytes (λ j. let z : ◌≡◌ {A = Found} sound (Err w) = sym (job-sound bytes j) ∙ e in let n : ◌≡◌ {A = ℕ} 0 1 = cc in omega arith) ∙ sym (old_damage w.damage)
     ])
     refl
 
@@ -127,12 +127,12 @@ module _ (values new : List ℕ) (n : ℕ) (out work : List ℕ) (a : Answer) (o
   old_found : (k : ℕ) (f : Found) (q : ℕ) → is_damage k ≡ false → is_damage q ≡ false → Answers (behind k (unless_found f (answer_of q values))) new n out work a out' work'
       → Says (or_else k (or_else (old_number (found_number f)) q)) values new n out work (old_answer a) out' work'
   unfolding old_number
-  old_found zero Sound q e h s = old_refused q h s
-  old_found zero (Wrong what at) q e h s = rw (old_damage what) (old_damaged what at s)
+  old_found zero (Ok none) q e h s = old_refused q h s
+  old_found zero (Err w) q e h s = rw (old_damage w.damage) (old_damaged w.damage w.place s)
   old_found (suc k) f q e h s = old_refused (suc k) e s
 
 -- what a program sees that knows 9 alone is what it saw: states, durations and all refusals behind the format are as they were
-pub old_says : (k : ℕ) → is_damage k ≡ false → (bytes out work : List ℕ) (r : Answered) (out' work' : List ℕ) → JobSaysAfter k bytes out work r out' work' → OldSaysAfter k bytes out work (old_answer (answered r)) out' work'
+pub old_says : (k : ℕ) → is_damage k ≡ false → (bytes out work : List ℕ) (r : Result Done Failure) (out' work' : List ℕ) → JobSaysAfter k bytes out work r out' work' → OldSaysAfter k bytes out work (old_answer (answered r)) out' work'
 old_says k e bytes out work r out' work' s =
     let j : Job = job_of bytes in
     let values : List ℕ = length j.means ∷ total (job_fit j).durations ∷ (job_fit j).changes ∷ [] in

@@ -8,11 +8,11 @@ use native.Mathlib.Omega.{arith}
 use borrow.Author.Tests.{eq-eqb, ne_eqb}
 use lib.Dec.{eqb}
 use lib.ListN.{length, take, drop, replicate, length-append, length-replicate}
-use lib.Seq.{sets, length-take-le, take_at}
+use lib.Seq.{length-take-le, take_at}
 use lib.Ieee.{Float}
-use Rattle.lists.proofs.Fills.{build-length, fill_done}
-use Rattle.lists.proofs.Stores.{filled}
-use Rattle.duration.specs.declared.Fitted.{Fitted}
+use Rattle.lists.proofs.Fills.{build-length}
+use Rattle.std.specs.Prelude.{Result}
+use Rattle.lists.specs.declared.Refusal.{Refusal}
 use Rattle.steps.specs.Steps.{states}
 use Rattle.duration.specs.Promise.{SpeedSays}
 use Rattle.job.specs.Format.{float_at, number_at, floats_at, numbers_behind, shortest_at}
@@ -37,8 +37,8 @@ step_fits step i h l = omega (arith, mul-le-mul_right i h)
 -- ---- the shortest of a list's length
 
 module _ (version : ℕ) (bytes into w : List ℕ) where
-  pub ones-read : version ≡ 1 → w ≡ sets into 0 (replicate (length into) 1) → w ≡ shortest_at version bytes (length into)
-  ones-read v e = rw (eq-eqb version 1 v) (e ∙ filled (length into) 1 into (omega arith) ∙ fill_done (replicate (length into) 1) into (length into) (omega arith))
+  pub ones-read : version ≡ 1 → w ≡ replicate (length into) 1 → w ≡ shortest_at version bytes (length into)
+  ones-read v e = rw (eq-eqb version 1 v) e
 
   pub numbers-read : (version ≡ 1 → ⊥) → w ≡ numbers_behind bytes (length into) → w ≡ shortest_at version bytes (length into)
   numbers-read v e = rw (ne_eqb version 1 v) e
@@ -66,6 +66,6 @@ module _ {A : Type 0} where
     read-front rule r = take_at w (drop n start) n read-long ∙ r ∙ ap rule (length-take-le n start room)
 
 -- the call with what was read
-pub create_is : (ms ns vs us : List Float) (ls ks : List ℕ) (x y : Float) (out work : List ℕ) (r : Fitted) (out' work' : List ℕ) → ms ≡ ns → vs ≡ us → ls ≡ ks → x ≡ y
+pub create_is : (ms ns vs us : List Float) (ls ks : List ℕ) (x y : Float) (out work : List ℕ) (r : Result ℕ Refusal) (out' work' : List ℕ) → ms ≡ ns → vs ≡ us → ls ≡ ks → x ≡ y
     → SpeedSays (states ms vs ls) x out work r out' work' → SpeedSays (states ns us ks) y out work r out' work'
 create_is ms ns vs us ls ks x y out work r out' work' e f s g h = rw (← e, ← f, ← s, ← g) h

@@ -15,10 +15,9 @@ use Rattle.lists.specs.Bytes.{little, alike, Bytes, word_at}
 use Rattle.lists.proofs.Numbers.{by_place}
 use Rattle.lists.proofs.Fronts.{alike_is, is_alike, alike-still, part_same}
 use Rattle.job.specs.declared.Damage.{Damage}
-use Rattle.job.specs.declared.finding.Found.{Found}
-use Rattle.job.specs.declared.finding.Found.TheVariants.{Sound, Wrong}
+use Rattle.std.specs.Prelude.{Ok, Err}
 use Rattle.job.specs.Format.{mark, version_of, is_known, count_of, whole_of, IsJob}
-use Rattle.job.specs.Damage.{damage_of}
+use Rattle.job.specs.Damage.{Found, wrong, damage_of}
 use Rattle.job.specs.Places.{Begins, looked_to, PlaceRight}
 use Rattle.lists.proofs.Spelled.{bytes-append}
 use Rattle.job.proofs.Written.{bytes-mark}
@@ -125,8 +124,8 @@ looked-all : (n : ℕ) → n ≢ 4 → n ≢ 6 → looked_to n ≡ n
 looked-all n a b = rw (ne_eqb n 4 a, ne_eqb n 6 b)
 
 abbrev Right : List ℕ → Found → Type 0
-Right bytes Sound = Unit {0}
-Right bytes (Wrong what place) = PlaceRight bytes what place
+Right bytes (Ok none) = Unit {0}
+Right bytes (Err w) = PlaceRight bytes w.damage w.place
 
 module _ (bytes : List ℕ) where
   early-begins : (n : ℕ) → n ≡ length bytes → n < 5 → min 3 n ≤ alike mark bytes → Begins (take (looked_to n) bytes)
@@ -204,5 +203,5 @@ module _ (bytes : List ℕ) where
   way-right f (nowhere j) = tt
 
 -- of every file that is damaged
-pub place-right : (bytes : List ℕ) (what : Damage) (place : ℕ) → damage_of bytes ≡ Wrong what place → PlaceRight bytes what place
+pub place-right : (bytes : List ℕ) (what : Damage) (place : ℕ) → damage_of bytes ≡ wrong what place → PlaceRight bytes what place
 place-right bytes what place e = subst (Right bytes) e (way-right bytes (damage_of bytes) (way bytes))

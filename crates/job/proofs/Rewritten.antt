@@ -21,9 +21,8 @@ use Rattle.lists.proofs.Fills.{build-length}
 use Rattle.lists.proofs.Numbers.{le_or_lt}
 use Rattle.lists.proofs.Spelled.{part-spelled, part-below, some_below}
 use Rattle.floats.proofs.Patterns.{bits_back, bits_only}
-use Rattle.job.specs.declared.finding.Found.TheVariants.{Sound}
 use Rattle.job.specs.Format.{float_at, number_at, floats_at, mark, version_of, count_of, state_bytes, IsJob, numbers_behind, shortest_at, job_of}
-use Rattle.job.specs.Damage.{damage_of}
+use Rattle.job.specs.Damage.{sound, damage_of}
 use Rattle.job.specs.Written.{bytes_of_float, bytes_of_state, bytes_of_states, bytes_of_heading, bytes_of_job, Writable, OneNan, Plain}
 use Rattle.job.proofs.Damages.{sound-job}
 use Rattle.job.proofs.Pairs.{floats-long, shortest-long}
@@ -147,7 +146,7 @@ module _ (bytes : List ℕ) (j : IsJob bytes) (p : Plain bytes) where
       ∙ heading-before
 
 -- a file that is accepted, and has no NaN but the one that is written, is written again as it was
-pub rewritten : (bytes : List ℕ) → damage_of bytes ≡ Sound → Plain bytes → bytes_of_job (version_of bytes) (job_of bytes) ≡ bytes
+pub rewritten : (bytes : List ℕ) → damage_of bytes ≡ sound → Plain bytes → bytes_of_job (version_of bytes) (job_of bytes) ≡ bytes
 rewritten bytes e p = job-rewritten bytes (sound-job bytes e) p
 
 -- ---- and only such a file
@@ -216,5 +215,5 @@ module _ (bytes : List ℕ) (b : Bytes bytes) (j : IsJob bytes) where
     only_plain : Plain bytes
     only_plain = record { each = b; speed = nan_at 7 (speed-part (version_of bytes) (job_of bytes) read-writable); means = mean-nan; varis = vari-nan }
 
-pub rewritten_only : (bytes : List ℕ) → damage_of bytes ≡ Sound → bytes_of_job (version_of bytes) (job_of bytes) ≡ bytes → Plain bytes
+pub rewritten_only : (bytes : List ℕ) → damage_of bytes ≡ sound → bytes_of_job (version_of bytes) (job_of bytes) ≡ bytes → Plain bytes
 rewritten_only bytes e r = let b : Bytes bytes = rw r at (written-bytes (version_of bytes) (job_of bytes)) in only_plain bytes b (sound-job bytes e) r

@@ -9,7 +9,7 @@ use lib.ListN.{length, get_or}
 use lib.Ieee.{Float, eq}
 use Rattle.lists.specs.Sizes.{most_states, most_frames}
 use Rattle.lists.specs.Answers.{refusing, answer_of}
-use Rattle.lists.specs.Refusals.{or_else}
+use Rattle.lists.specs.Refusals.{number_of, or_else}
 use Rattle.lists.specs.Totals.{total}
 use Rattle.lists.proofs.Answers.{same}
 use Rattle.floats.specs.Numbers.{one}
@@ -21,12 +21,12 @@ use Rattle.duration.specs.Shortest.{unfit, refusal_of_shortest}
 use Rattle.steps.specs.Steps.{States, size, least}
 use Rattle.job.specs.declared.Damage.{Damage}
 use Rattle.job.specs.declared.Damage.TheVariants.{Mark, Version, Count, Length}
-use Rattle.job.specs.declared.finding.Found.{Found}
-use Rattle.job.specs.declared.finding.Found.TheVariants.{Sound, Wrong}
-use Rattle.job.specs.declared.Answered.{Answered}
-use Rattle.job.specs.declared.Answered.TheVariants.{Done, Damaged, Refused}
+use Rattle.std.specs.Prelude.{Result, Ok, Err}
+use Rattle.job.specs.declared.Done.{Done}
+use Rattle.job.specs.declared.Failure.{Failure}
+use Rattle.job.specs.declared.Failure.TheVariants.{Damaged, Refused}
 use Rattle.job.specs.Format.{Job, job_states, job_of}
-use Rattle.job.specs.Damage.{damage_of, damage_number, is_damage}
+use Rattle.job.specs.Damage.{Found, damage_of, damage_number, is_damage}
 use Rattle.job.specs.Places.{PlaceTold}
 use Rattle.job.specs.Promise.{answered, job_refusal, unless_found, behind, JobSaysAfter}
 use Rattle.job.specs.Link.{link_bytes, has_ended, begin_refusal, link_refusal}
@@ -92,8 +92,8 @@ unfolding link_refusal begin_refusal
 link_none link = link_number (has_ended link) (ltb (length link) link_bytes)
 
 refused_none : (k : ℕ) (f : Found) (q : ℕ) (values : List ℕ) (n : ℕ) → is_damage k ≡ false → is_damage q ≡ false → refusing n ≡ behind k (unless_found f (answer_of q values)) → is_damage n ≡ false
-refused_none zero Sound q values n z h e = ap is_damage (same e).0 ∙ h
-refused_none zero (Wrong w p) q values n z h e = absurd (let u = (same e).2 in let y : ◌≡◌ {A = ℕ} 0 1 = cc in omega arith)
+refused_none zero (Ok none) q values n z h e = ap is_damage (same e).0 ∙ h
+refused_none zero (Err w) q values n z h e = absurd (let u = (same e).2 in let y : ◌≡◌ {A = ℕ} 0 1 = cc in omega arith)
 refused_none (suc k) f q values n z h e = ap is_damage (same e).0 ∙ z
 
 -- ---- so a place is told of a damage and of nothing else
@@ -102,16 +102,16 @@ neither_so : {A : Type 0} (b : Bool) → b ≡ true → b ≡ false → A
 neither_so b e f = absurd (let z : ◌≡◌ {A = ℕ} 0 1 = cc in omega arith)
 
 -- of every outcome behind a number that is no damage's; `old` is what stood where the place goes
-pub job_tells : (k : ℕ) → is_damage k ≡ false → (bytes out work : List ℕ) (r : Answered) (out' work' : List ℕ) → JobSaysAfter k bytes out work r out' work'
+pub job_tells : (k : ℕ) → is_damage k ≡ false → (bytes out work : List ℕ) (r : Result Done Failure) (out' work' : List ℕ) → JobSaysAfter k bytes out work r out' work'
     → (old : ℕ) → PlaceTold bytes (answered r).number old (get_or (answered r).place 0 old)
-job_tells k z bytes out work (Done s frames c) out' work' f old = record { kept = λ e. refl; told = λ e. neither_so false e refl }
-job_tells k z bytes out work (Damaged what at) out' work' f old =
+job_tells k z bytes out work (Ok d) out' work' f old = record { kept = λ e. refl; told = λ e. neither_so false e refl }
+job_tells k z bytes out work (Err (Damaged what at)) out' work' f old =
     record {
       kept = λ e. neither_so (is_damage (damage_number what)) (damage_is what) e;
       told = λ e. let d = told-found k (damage_of bytes) _ _ what at f.answer in record { what = what; is = refl; found = d; right = place-right bytes what at d };
     }
-job_tells k z bytes out work (Refused n) out' work' f old =
+job_tells k z bytes out work (Err (Refused n)) out' work' f old =
     record {
       kept = λ e. refl;
-      told = λ e. neither_so (is_damage n) e (refused_none k (damage_of bytes) (job_refusal (job_of bytes) out work) _ n z (job-none (job_of bytes) out work) f.answer);
+      told = λ e. neither_so (is_damage (number_of n)) e (refused_none k (damage_of bytes) (job_refusal (job_of bytes) out work) _ (number_of n) z (job-none (job_of bytes) out work) f.answer);
     }

@@ -15,9 +15,8 @@ use Rattle.lists.proofs.Bytes.{bytes-length, little-bytes}
 use Rattle.lists.proofs.Spelled.{bytes-append, bytes_of_lem}
 use Rattle.lists.proofs.Builds.{build_is}
 use Rattle.floats.proofs.Fields.{bytes_back}
-use Rattle.job.specs.declared.finding.Found.TheVariants.{Sound}
 use Rattle.job.specs.Format.{float_at, number_at, floats_at, mark, version_of, is_known, count_of, state_bytes, IsJob, Job, numbers_behind, shortest_at, job_of}
-use Rattle.job.specs.Damage.{damage_of}
+use Rattle.job.specs.Damage.{sound, damage_of}
 use Rattle.job.specs.Written.{bytes_of_float, bytes_of_state, bytes_of_states, bytes_of_heading, bytes_of_job, Writable}
 use Rattle.job.proofs.Damages.{job-sound}
 
@@ -191,7 +190,7 @@ module _ (version : ℕ) (j : Job) (w : Writable version j) where
   written-job = (record { marked = marked; versioned = rw version-back w.known; few = rw count-back w.few; whole = rw (version-back, count-back) written-long }, version-back)
 
   -- and is not refused for its bytes
-  pub written-accepted : damage_of file ≡ Sound
+  pub written-accepted : damage_of file ≡ sound
   written-accepted = job-sound file written-job.0
 
 -- ---- each number that is written is a byte

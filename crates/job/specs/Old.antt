@@ -1,15 +1,13 @@
 -- The promise of a job as it was while 9 was the number of every damage, and had no place.
-use Rattle.std.specs.Prelude.{not, cond, List, [], ◌∷◌, ℕ, ltb, eqb, length}
+use Rattle.std.specs.Prelude.{Ok, Err, not, cond, List, [], ◌∷◌, ℕ, ltb, eqb, length}
 use Rattle.lists.specs.Sizes.{most_job_states}
 use Rattle.lists.specs.Bytes.{starts_with}
 use Rattle.lists.specs.Totals.{total}
 use Rattle.lists.specs.Refusals.{or_else}
 use Rattle.lists.specs.Answers.{Answer}
 use Rattle.duration.specs.Promise.{Says}
-use Rattle.job.specs.declared.finding.Found.{Found}
-use Rattle.job.specs.declared.finding.Found.TheVariants.{Sound, Wrong}
 use Rattle.job.specs.Format.{mark, version_of, is_known, count_of, whole_of, job_of}
-use Rattle.job.specs.Damage.{damage_number, old_number}
+use Rattle.job.specs.Damage.{Found, damage_number, old_number}
 use Rattle.job.specs.Promise.{job_fit, job_refusal}
 
 -- every departure from the format was 9 (`starts_with` is said by `alike` since, and `lists/Fronts.starts_is` and `is_starts` say what it is)
@@ -22,8 +20,8 @@ format_refusal bytes =
 
 -- the number of what is found, 0 for nothing
 abbrev pub found_number : Found → ℕ
-found_number Sound = 0
-found_number (Wrong what at) = damage_number what
+found_number (Ok none) = 0
+found_number (Err w) = damage_number w.damage
 
 -- 9 before all others; here behind a number k that comes before it, 0 for none
 abbrev pub OldSaysAfter : ℕ → List ℕ → List ℕ → List ℕ → Answer → List ℕ → List ℕ → Type 0

@@ -3,9 +3,8 @@ use Rattle.std.specs.Prelude.{◌≡◌, true, false, cond, List, ◌++◌, ℕ,
 use Rattle.lists.specs.Bytes.{Bytes}
 use Rattle.job.specs.declared.Damage.{Damage}
 use Rattle.job.specs.declared.Damage.TheVariants.{Mark, Version, Count, Length}
-use Rattle.job.specs.declared.finding.Found.TheVariants.{Wrong}
 use Rattle.job.specs.Format.{IsJob}
-use Rattle.job.specs.Damage.{damage_of, damage_number, is_damage}
+use Rattle.job.specs.Damage.{wrong, damage_of, damage_number, is_damage}
 
 -- some job begins with these bytes
 pub record Begins (bytes : List ℕ) : Type 0 where
@@ -36,7 +35,7 @@ pub record PlaceRight (bytes : List ℕ) (what : Damage) (place : ℕ) : Type 0 
 pub record Tells (bytes : List ℕ) (number place : ℕ) : Type 0 where
   pub what : Damage
   pub is : number ≡ damage_number what
-  pub found : damage_of bytes ≡ Wrong what place
+  pub found : damage_of bytes ≡ wrong what place
   pub right : PlaceRight bytes what place
 
 -- RULES, Refusals: a damage alone has a place: of any other answer the place is left as it was

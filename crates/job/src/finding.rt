@@ -2,61 +2,59 @@
 ghost use Rattle.std.specs.Prelude.{◌≡◌, ◌≤◌};
 ghost use Rattle.lists.specs.Sizes.{most_job_states};
 ghost use Rattle.job.specs.Format.{count_of, state_bytes};
-ghost use Rattle.job.specs.Damage.{else_found, found_to, mark_found, word_found, length_found, damage_of};
+ghost use Rattle.job.specs.Damage.{wrong, found_to, mark_found, word_found, length_found, damage_of};
 
 use crate::Damage;
 
 // What is found wrong with a file, and the place of a byte.
-#[derive(Clone, Copy)]
-pub enum Found {
-    Sound,
-    Wrong(Damage, u64),
+#[derive(Clone, Copy, Debug, PartialEq, Eq)]
+pub struct Wrong {
+    pub damage: Damage,
+    pub place: u64,
 }
 
-impl Found {
-    // This, or where nothing is found here the next.
-    fn or(self, next: Found) -> Found
-        ensures { result ≡ else_found self next }
-    {
-        match self {
-            Found::Sound => next,
-            Found::Wrong(_, _) => self,
-        }
-    }
+// A damage at the place of a byte.
+fn damaged(damage: Damage, place: usize) -> Result<(), Wrong>
+    ensures { result ≡ wrong damage place }
+{
+    Err(Wrong {
+        damage,
+        place: place as u64,
+    })
 }
 
 // What is found of a field, unless the file ends before the field does.
-fn found_to(end: usize, bytes: &[u8], field: Found) -> Found
+fn found_to(end: usize, bytes: &[u8], field: Result<(), Wrong>) -> Result<(), Wrong>
     ensures { result ≡ found_to end bytes.now field }
 {
     let len = bytes.len();
     if len < end {
-        return Found::Wrong(Damage::Length, len as u64);
+        return damaged(Damage::Length, len);
     }
     field
 }
 
 // Of the mark: the first letter that isn't right is the one behind those that are.
-fn mark_found(bytes: &[u8]) -> Found
+fn mark_found(bytes: &[u8]) -> Result<(), Wrong>
     ensures { result ≡ mark_found bytes.now }
 {
     let alike = lists::alike(bytes, b"SPJ");
     if alike < 3 {
-        return found_to(alike + 1, bytes, Found::Wrong(Damage::Mark, alike as u64));
+        return found_to(alike + 1, bytes, damaged(Damage::Mark, alike));
     }
-    Found::Sound
+    Ok(())
 }
 
 // Of the 16 bits at a place.
-fn word_found(at: usize, least: u64, most: u64, damage: Damage, bytes: &[u8]) -> Found
+fn word_found(at: usize, least: u64, most: u64, damage: Damage, bytes: &[u8]) -> Result<(), Wrong>
     requires { at ≤ 5 }
     ensures { result ≡ word_found at least most damage bytes.now }
 {
     let word = lists::little_endian(bytes, at, 2);
     if (word < least) | (most < word) {
-        return found_to(at + 2, bytes, Found::Wrong(damage, at as u64));
+        return found_to(at + 2, bytes, damaged(damage, at));
     }
-    found_to(at + 2, bytes, Found::Sound)
+    found_to(at + 2, bytes, Ok(()))
 }
 
 // Bytes of a state. Behind the pair stands its shortest, but for version 1.
@@ -70,7 +68,7 @@ pub fn state_bytes(version: u64) -> usize
 }
 
 // Of the length that the version and the number of states ask for.
-fn length_found(bytes: &[u8]) -> Found
+fn length_found(bytes: &[u8]) -> Result<(), Wrong>
     requires { count_of bytes.now ≤ most_job_states }
     ensures { result ≡ length_found bytes.now }
 {
@@ -79,21 +77,17 @@ fn length_found(bytes: &[u8]) -> Found
     let count = lists::little_endian(bytes, 5, 2) as usize;
     let whole = 15 + state_bytes(version) * count;
     if len == whole {
-        return Found::Sound;
+        return Ok(());
     }
-    Found::Wrong(Damage::Length, lists::least(len, whole) as u64)
+    damaged(Damage::Length, len.min(whole))
 }
 
-// What is wrong with a file, by place.
-pub fn damage_of(bytes: &[u8]) -> Found
+// What is wrong with a file, the first by place.
+pub fn check(bytes: &[u8]) -> Result<(), Wrong>
     ensures { result ≡ damage_of bytes.now }
 {
-    let mark = mark_found(bytes);
-    let version = word_found(3, 1, 2, Damage::Version, bytes);
-    let count = word_found(5, 0, 1024, Damage::Count, bytes);
-    let heading = mark.or(version).or(count);
-    let Found::Sound = heading else {
-        return heading;
-    };
+    mark_found(bytes)?;
+    word_found(3, 1, 2, Damage::Version, bytes)?;
+    word_found(5, 0, 1024, Damage::Count, bytes)?;
     length_found(bytes)
 }

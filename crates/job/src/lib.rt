@@ -4,13 +4,13 @@
 ghost use Rattle.std.specs.Prelude.{◌≡◌, ◌≤◌, length};
 ghost use Rattle.lists.specs.Sizes.{most_job_states};
 ghost use Rattle.job.specs.Format.{floats_at, numbers_behind, shortest_at, job_at};
-ghost use Rattle.job.specs.declared.finding.Found.TheVariants.{Sound};
-ghost use Rattle.job.specs.Damage.{damage_of, damage_number, old_number};
+ghost use Rattle.job.specs.declared.Failure.TheVariants.{Damaged, Refused};
+ghost use Rattle.job.specs.Damage.{sound, damage_of, damage_number, old_number};
 ghost use Rattle.job.specs.Inner.Reading.{StatesFitted};
 ghost use Rattle.job.specs.Promise.{JobSays};
 
-use duration::Fitted;
-use finding::Found;
+use finding::Wrong;
+use lists::Refusal;
 
 mod finding;
 pub mod link;
@@ -18,7 +18,7 @@ pub mod link;
 pub const MOST_STATES: usize = 1024;
 
 // What is wrong with a job file.
-#[derive(Clone, Copy)]
+#[derive(Clone, Copy, Debug, PartialEq, Eq)]
 pub enum Damage {
     Mark,
     Version,
@@ -40,16 +40,35 @@ impl Damage {
     }
 }
 
-// A damaged job has the place of a byte.
-#[derive(Clone, Copy)]
-pub enum Answered {
-    Done {
-        states: u32,
-        frames: u32,
-        changes: u32,
-    },
+// How many states a job has, their frames, and the unit changes of their fit.
+#[derive(Clone, Copy, Debug, PartialEq, Eq)]
+pub struct Done {
+    pub states: u32,
+    pub frames: u32,
+    pub changes: u32,
+}
+
+// Why a job has no durations. A damaged one has the place of a byte.
+#[derive(Clone, Copy, Debug, PartialEq, Eq)]
+pub enum Failure {
     Damaged(Damage, u64),
-    Refused(u8),
+    Refused(Refusal),
+}
+
+impl From<Wrong> for Failure {
+    ghost from_gives = { λ w f. f ≡ Damaged w.damage w.place };
+
+    fn from(wrong: Wrong) -> Failure {
+        Failure::Damaged(wrong.damage, wrong.place)
+    }
+}
+
+impl From<Refusal> for Failure {
+    ghost from_gives = { λ r f. f ≡ Refused r };
+
+    fn from(refusal: Refusal) -> Failure {
+        Failure::Refused(refusal)
+    }
 }
 
 // The old number of a refusal, for programs that know 9 alone.
@@ -67,10 +86,8 @@ fn read_floats(bytes: &[u8], from: usize, step: usize, into: &mut [f64])
     requires { (from ≤ 23) × (step ≤ 20) × (length into.old ≤ most_job_states) }
     ensures { into.new ≡ floats_at bytes.now from step (length into.old) }
 {
-    let mut i = 0;
-    while i < into.len() {
-        into[i] = floats::of_bytes(bytes, from + step * i);
-        i += 1;
+    for (i, float) in into.iter_mut().enumerate() {
+        *float = floats::of_bytes(bytes, from + step * i);
     }
 }
 
@@ -79,10 +96,8 @@ fn read_numbers(bytes: &[u8], into: &mut [u32])
     requires { length into.old ≤ most_job_states }
     ensures { into.new ≡ numbers_behind bytes.now (length into.old) }
 {
-    let mut i = 0;
-    while i < into.len() {
-        into[i] = lists::little_u32(bytes, 31 + 20 * i);
-        i += 1;
+    for (i, number) in into.iter_mut().enumerate() {
+        *number = lists::little_u32(bytes, 31 + 20 * i);
     }
 }
 
@@ -92,15 +107,14 @@ fn read_shortest(bytes: &[u8], version: u64, into: &mut [u32])
     ensures { into.new ≡ shortest_at version bytes.now (length into.old) }
 {
     if version == 1 {
-        let n = into.len();
-        lists::fill_u32(into, n, 1);
+        into.fill(1);
         return;
     }
     read_numbers(bytes, into);
 }
 
 // Fits n states, which stand in the bytes, to the speed that stands before them.
-fn fit_states(bytes: &[u8], n: usize, out: &mut [u32], work: &mut [u32]) -> Fitted
+fn fit_states(bytes: &[u8], n: usize, out: &mut [u32], work: &mut [u32]) -> Result<u32, Refusal>
     requires { n ≤ most_job_states }
     ensures { StatesFitted (job_at bytes.now n) out.old work.old result out.new work.new }
 {
@@ -123,30 +137,28 @@ fn fit_states(bytes: &[u8], n: usize, out: &mut [u32], work: &mut [u32]) -> Fitt
 }
 
 // Answers a file with which nothing is wrong.
-fn answer_sound(bytes: &[u8], out: &mut [u32], work: &mut [u32]) -> Answered
-    requires { damage_of bytes.now ≡ Sound }
+fn answer_sound(bytes: &[u8], out: &mut [u32], work: &mut [u32]) -> Result<Done, Failure>
+    requires { damage_of bytes.now ≡ sound }
     ensures { JobSays bytes.now out.old work.old result out.new work.new }
 {
     let states = lists::little_endian(bytes, 5, 2) as u32;
     let n = states as usize;
-    let fit = fit_states(bytes, n, out, work);
-    let Fitted::Done(changes) = fit else {
-        return Answered::Refused(fit.number());
+    let answer = fit_states(bytes, n, out, work);
+    let Ok(changes) = answer else {
+        return Err(Failure::Refused(answer.unwrap_err()));
     };
-    let frames = lists::total_u32(&out[..n]);
-    Answered::Done {
-        states: states,
-        frames: frames as u32,
-        changes: changes,
-    }
+    let frames = lists::total_u32(&out[..n]) as u32;
+    Ok(Done {
+        states,
+        frames,
+        changes,
+    })
 }
 
 // The durations of a job's states, at its speed.
-pub fn answer(bytes: &[u8], out: &mut [u32], work: &mut [u32]) -> Answered
+pub fn answer(bytes: &[u8], out: &mut [u32], work: &mut [u32]) -> Result<Done, Failure>
     ensures { JobSays bytes.now out.old work.old result out.new work.new }
 {
-    match finding::damage_of(bytes) {
-        Found::Wrong(damage, place) => Answered::Damaged(damage, place),
-        Found::Sound => answer_sound(bytes, out, work),
-    }
+    finding::check(bytes)?;
+    answer_sound(bytes, out, work)
 }

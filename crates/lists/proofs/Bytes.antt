@@ -7,11 +7,10 @@ use native.Mathlib.Nat.{lt_of_lt_of_le}
 use native.Mathlib.Numerals.{add-one}
 use native.Mathlib.Omega.{arith}
 use lib.Pow.{pow-add, pow_mono}
-use lib.ListN.{length, take, drop, get_or, set, drop_of_length-le, length-take, length-drop}
-use lib.Seq.{sets, drop-cons, get_or-take, get_or-drop, length-take-le, take-nil, take_at, drop_at}
+use lib.ListN.{length, take, drop, get_or, set, drop_of_length-le}
+use lib.Seq.{sets, drop-cons, drop-length, take-nil, take_at, drop_at}
 use Rattle.lists.specs.Bytes.{little, bytes_of}
 use Rattle.lists.proofs.Numbers.{le_or_lt}
-use Rattle.lists.proofs.Parts.{take_min}
 use Rattle.lists.proofs.Stores.{sets-past}
 
 pub bytes-length : (k n : ℕ) → length (bytes_of k n) ≡ k
@@ -70,70 +69,50 @@ little-past bytes at w h = rw (drop_of_length-le bytes h, take-nil)
 
 -- ---- a number read from its last byte to its first: those from i on are read
 
-pub record Reading (bytes : List ℕ) (at end i number : ℕ) : Type 0 where
-  pub begun : at ≤ i
-  pub within : i ≤ end
-  pub said : number ≡ little (drop (i - at) (take (end - at) (drop at bytes)))
-  pub small : number < 2 ^ (8 * (end - i))
+pub record Reading (bytes : List ℕ) (i number : ℕ) : Type 0 where
+  pub said : number ≡ little (drop i bytes)
+  pub small : number < 2 ^ (8 * (length bytes - i))
 
-module _ (bytes : List ℕ) (at end : ℕ) (h : at ≤ end) where
-  pub reading : end ≤ length bytes → Reading bytes at end end 0
+pub reading : (bytes : List ℕ) → Reading bytes (length bytes) 0
+unfolding little
+reading bytes = let z : length bytes - length bytes ≡ 0 = omega arith in record { said = rw (drop-length bytes); small = rw z (omega arith) }
+
+module _ {bytes : List ℕ} {i number : ℕ} (k : Reading bytes i number) (h : 0 < i) (g : i ≤ length bytes) where
+  pub reading-next : (b : ℕ) → b < 256 → b ≡ get_or bytes (i - 1) 0 → Reading bytes (i - 1) (number * 256 + b)
   unfolding little
-  reading g =
-      let l : length (take (end - at) (drop at bytes)) ≤ end - at = rw (length-take, length-drop) (omega arith) in
-      let z : end - end ≡ 0 = omega arith in
-      record { begun = h; within = omega arith; said = rw (drop_of_length-le (take (end - at) (drop at bytes)) l); small = rw z (omega arith) }
+  reading-next b s e =
+      let n : suc (i - 1) ≡ i = omega arith in
+      let q : length bytes - (i - 1) ≡ length bytes - i + 1 = omega arith in
+      let d : drop (i - 1) bytes ≡ b ∷ drop i bytes = drop-cons bytes (i - 1) 0 (omega arith) ∙ rw (n, e) in
+      let w : little (drop (i - 1) bytes) ≡ b + 256 * little (drop i bytes) = ap little d in
+      record { said = omega (arith, k.said); small = rw q (more number b (length bytes - i) s k.small) }
 
-  module _ (i number : ℕ) (k : Reading bytes at end i number) (g : end ≤ length bytes) (t : at < i) where
-    pub reading-next : (b : ℕ) → b < 256 → b ≡ get_or bytes (i - 1) 0 → Reading bytes at end (i - 1) (number * 256 + b)
-    unfolding little
-    reading-next b s e =
-        let xs : List ℕ = take (end - at) (drop at bytes) in
-        let l : length xs ≡ end - at = length-take-le (end - at) (drop at bytes) (rw length-drop (omega (arith, k.within))) in
-        let j : i - 1 - at < length xs = omega (arith, k.within) in
-        let n : suc (i - 1 - at) ≡ i - at = omega arith in
-        let p : at + (i - 1 - at) ≡ i - 1 = omega arith in
-        let v : get_or xs (i - 1 - at) 0 ≡ b = get_or-take (end - at) (drop at bytes) (i - 1 - at) 0 (omega (arith, k.within)) ∙ get_or-drop at bytes (i - 1 - at) 0 ∙ rw p (sym e) in
-        let q : end - (i - 1) ≡ end - i + 1 = omega (arith, k.within) in
-        let d : drop (i - 1 - at) xs ≡ b ∷ drop (i - at) xs = drop-cons xs (i - 1 - at) 0 j ∙ rw (n, v) in
-        let w : little (drop (i - 1 - at) xs) ≡ b + 256 * little (drop (i - at) xs) = ap little d in
-        record {
-          begun = omega arith;
-          within = omega (arith, k.within);
-          said = omega (arith, k.said);
-          small = rw q (more number b (end - i) s k.small);
-        }
-
-    -- and it fits
-    pub reading-fits : end ≤ at + 8 → (number * 256 + 255 < 2 ^ 64) × (number * 256 < 2 ^ 64)
-    reading-fits m =
-        let q : 8 * (end - i + 1) ≤ 64 = omega (arith, k.within) in
-        let l : number * 256 + 255 < 2 ^ 64 = lt_of_lt_of_le (more number 255 (end - i) (omega arith) k.small) (pow_mono q) in
-        (l, omega arith)
-
-pub reading-done : (bytes : List ℕ) (at end i number w : ℕ) → end ≡ at + min w (length bytes - at) → i ≤ at → Reading bytes at end i number → number ≡ little (take w (drop at bytes))
-reading-done bytes at end i number w e h k =
-    let z : i - at ≡ 0 = omega arith in
-    let m : end - at ≡ min w (length (drop at bytes)) = rw length-drop (omega arith) in
-    k.said ∙ rw (z, m, take_min)
+  -- and it fits
+  pub reading-fits : length bytes ≤ 8 → (number * 256 + 255 < 2 ^ 64) × (number * 256 < 2 ^ 64)
+  reading-fits m =
+      let q : 8 * (length bytes - i + 1) ≤ 64 = omega arith in
+      let l : number * 256 + 255 < 2 ^ 64 = lt_of_lt_of_le (more number 255 (length bytes - i) (omega arith) k.small) (pow_mono q) in
+      (l, omega arith)
 
 -- ---- a number written from its first byte to its last: what is stored, with the rest, is the whole
 
-pub record Writing (whole s : List ℕ) (at width end i rest : ℕ) : Type 0 where
-  pub begun : at ≤ i
-  pub within : i ≤ end
-  pub left : sets s i (bytes_of (at + width - i) rest) ≡ whole
+pub record Writing (whole s : List ℕ) (at width i rest : ℕ) : Type 0 where
+  pub left : sets s (at + i) (bytes_of (width - i) rest) ≡ whole
 
-module _ (whole s : List ℕ) (at width end i rest : ℕ) (k : Writing whole s at width end i rest) where
-  pub writing-next : i < end → end ≤ at + width → Writing whole (set s i (rest % 256)) at width end (i + 1) (rest / 256)
-  unfolding bytes_of
-  writing-next h m =
-      let q : at + width - i ≡ suc (at + width - suc i) = omega arith in
-      record { begun = omega (arith, k.begun); within = omega arith; left = rw (add-one i) (rw q at k.left) }
+pub writing : (s : List ℕ) (at width number : ℕ) → Writing (sets s at (bytes_of width number)) s at width 0 number
+writing s at width number = let z : width - 0 ≡ width = omega arith in let o : at + 0 ≡ at = omega arith in record { left = rw (z, o) }
 
-  pub writing-done : end ≡ at + min width (length s - at) → at ≤ length s → end ≤ i → s ≡ whole
+module _ {whole s : List ℕ} {at width i rest : ℕ} (k : Writing whole s at width i rest) where
+  pub writing-next : i < width → Writing whole (set s (at + i) (rest % 256)) at width (i + 1) (rest / 256)
   unfolding bytes_of
-  writing-done e h l = ⊎_elim
-      (λ (g : length s ≤ i). sym (sets-past (bytes_of (at + width - i) rest) s i g) ∙ k.left)
-      (λ (g : i < length s). let z : at + width - i ≡ 0 = omega arith in rw z at k.left)
-      (le_or_lt (length s) i)
+  writing-next h =
+      let q : width - i ≡ suc (width - (i + 1)) = omega arith in
+      let o : at + (i + 1) ≡ suc (at + i) = omega arith in
+      record { left = rw o (rw q at k.left) }
+
+  pub writing-done : min width (length s - at) ≤ i → s ≡ whole
+  unfolding bytes_of
+  writing-done h = ⊎_elim
+      (λ (g : length s ≤ at + i). sym (sets-past (bytes_of (width - i) rest) s (at + i) g) ∙ k.left)
+      (λ (g : at + i < length s). let z : width - i ≡ 0 = omega arith in rw z at k.left)
+      (le_or_lt (length s) (at + i))

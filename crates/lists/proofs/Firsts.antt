@@ -4,48 +4,18 @@ use mathlib.Core.Bool.{true, false, cond}
 use mathlib.Core.Logic.{⊎_elim, ◌≢◌}
 use mathlib.Core.List.{List, [], ◌∷◌, ◌++◌}
 use Prim.Native.Nat.{ℕ, zero, suc, ◌+◌, ◌≤◌, ◌<◌, zero-le}
-use native.Mathlib.Numerals.{add-one}
 use native.Mathlib.Omega.{arith}
-use lib.Dec.{eqb}
-use lib.ListN.{length, drop, get_or, set, length-map, length-set, drop_of_length-le}
-use lib.Seq.{drop-cons}
+use lib.Dec.{eqb, ltb}
+use lib.ListN.{length, drop, get_or, set, length-map, length-set}
+use Rattle.std.specs.List.{position_or_len}
+use Rattle.std.specs.Option.{unwrap_or}
+use Rattle.std.proofs.Common.{◌==◌, not, Option, Some, None}
 use Rattle.lists.specs.Build.{build}
-use borrow.Author.Tests.{eq-eqb, ne_eqb, eqb-true}
+use borrow.Author.Tests.{eq-eqb, eqb-true, ltb-false}
 use Rattle.lists.specs.Firsts.{first_at, instead, replaced}
 use Rattle.lists.proofs.Numbers.{le_or_lt}
 use Rattle.lists.proofs.Fills.{build-read, build-next, build-done}
 use Rattle.lists.proofs.Builds.{build_is}
-
--- ---- a loop that looks for it has not found it among the first i
-
-pub record Searching (v : ℕ) (xs : List ℕ) (i : ℕ) : Type 0 where
-  pub within : i ≤ length xs
-  pub rest : first_at v xs ≡ i + first_at v (drop i xs)
-
-pub searching : (v : ℕ) (xs : List ℕ) → Searching v xs 0
-searching v xs = record { within = zero-le; rest = omega arith }
-
-module _ {v : ℕ} {xs : List ℕ} {i : ℕ} (k : Searching v xs i) where
-  pub searched : length xs ≤ i → length xs ≡ first_at v xs
-  unfolding first_at
-  searched h =
-      let z : first_at v (drop i xs) ≡ 0 = ap (first_at v) (drop_of_length-le xs h) in
-      omega (arith, k.rest, k.within)
-
-  module _ (h : i < length xs) where
-    next : first_at v (drop i xs) ≡ cond (eqb (get_or xs i 0) v) 0 (suc (first_at v (drop (i + 1) xs)))
-    unfolding first_at
-    next = rw (add-one, drop-cons xs i 0 h)
-
-    pub search_ends : get_or xs i 0 ≡ v → i ≡ first_at v xs
-    search_ends e =
-        let z : first_at v (drop i xs) ≡ 0 = next ∙ rw (eq-eqb (get_or xs i 0) v e) in
-        omega (arith, k.rest)
-
-    pub search_next : (get_or xs i 0 ≡ v → ⊥) → Searching v xs (i + 1)
-    search_next d =
-        let s : first_at v (drop i xs) ≡ suc (first_at v (drop (i + 1) xs)) = next ∙ rw (ne_eqb (get_or xs i 0) v d) in
-        record { within = omega arith; rest = omega (arith, k.rest) }
 
 -- ---- what the place says
 
@@ -65,6 +35,23 @@ first_is v (x ∷ xs) z h =
     ])
     refl
     h
+
+-- it is where a search ends that finds it, or the length
+pub first_long : (v : ℕ) (xs : List ℕ) → position_or_len (λ x. x == v) xs ≡ first_at v xs
+unfolding first_at
+first_long v [] = refl
+first_long v (x ∷ xs) = (elim (eqb x v) as (λ t. cond (not t) (1 + position_or_len (λ y. y == v) xs) 0 ≡ cond t 0 (suc (first_at v xs))) [ true ↦ refl | false ↦ let e = first_long v xs in omega (arith, e) ])
+
+pub found_or : (v : ℕ) (xs : List ℕ) (r : Option ℕ) → r ≡ cond (ltb (position_or_len (λ x. x == v) xs) (length xs)) (Some (position_or_len (λ x. x == v) xs)) None → unwrap_or r (length xs) ≡ first_at v xs
+found_or v xs r e =
+    let n : ℕ = position_or_len (λ x. x == v) xs in
+    let q : n ≡ first_at v xs = first_long v xs in
+    rw e
+    ((elim (ltb n (length xs)) as (λ t. ltb n (length xs) ≡ t → unwrap_or (cond t (Some n) None) (length xs) ≡ first_at v xs) [
+      | true ↦ λ g. q
+      | false ↦ λ g. let h : length xs ≤ n = ltb-false n (length xs) g in let w = first-within v xs in omega (arith, q)
+    ])
+    refl)
 
 -- and not before
 pub first-before : (v : ℕ) (xs : List ℕ) (i z : ℕ) → i < first_at v xs → get_or xs i z ≢ v

@@ -1,6 +1,7 @@
 -- Laws of parts.
 use mathlib.Core.Path.{◌≡◌, refl, sym, ap, ◌∙◌}
 use mathlib.Core.List.{List, [], ◌∷◌, map}
+use mathlib.Core.Logic.{⊎_elim}
 use Prim.Native.Nat.{ℕ, zero, suc, ◌+◌, ◌-◌, ◌*◌, ◌<◌, ◌≤◌, min}
 use native.Mathlib.Nat.{zero-min, min-zero, suc-min-suc, add-sub_cancel_left, add_comm}
 use native.Mathlib.Numerals.{add-one}
@@ -9,6 +10,7 @@ use denote.Ref.{Bor}
 use lib.ListN.{length, take, drop, get_or, length-drop, drop_of_length-le}
 use lib.Seq.{take_all, take-nil, drop-nil, drop-length, drop-drop, get_or-take, get_or-drop, ext_get_or}
 use Rattle.lists.specs.Parts.{part, PartSays}
+use Rattle.lists.proofs.Numbers.{le_or_lt}
 use Rattle.lists.proofs.Regions.{cut-length}
 
 module _ {A : Type 0} where
@@ -45,6 +47,20 @@ module _ {A : Type 0} where
 
     pub part-within : take (from + count - from) (drop from l) ≡ take count (drop from l)
     part-within = rw (add-sub_cancel_left from count)
+
+    -- place and count cut down to what there is
+    pub part_min : {start n : ℕ} → start ≡ min from (length l) → n ≡ min count (length l - start) → take (start + n - start) (drop start l) ≡ take count (drop from l)
+    part_min {start} {n} e f =
+        let o : start + n - start ≡ n = omega arith in
+        rw o (⊎_elim
+        (λ (h : length l ≤ from). let s : start ≡ length l = omega arith in let z : n ≡ length l - length l = omega arith in rw (s, z) (part-past h))
+        (λ (h : from < length l).
+        let s : start ≡ from = omega arith in
+        ⊎_elim
+        (λ (g : length l - from ≤ count). let z : n ≡ length l - from = omega arith in rw (s, z) (part-tail g))
+        (λ (g : count < length l - from). let z : n ≡ from + count - from = omega arith in rw (s, z) part-within)
+        (le_or_lt (length l - from) count))
+        (le_or_lt (length l) from))
 
   -- a part by its items
   pub part_is : (o n : ℕ) (z : A) (xs ys : List A) → o + n ≤ length xs → length ys ≡ n → ((u : ℕ) → u < n → get_or xs (o + u) z ≡ get_or ys u z) → part o n xs ≡ ys

@@ -1,37 +1,24 @@
--- How a call ends that fills lists, an item or a row a frame, that changes what it is lent, or that counts.
-use Rattle.std.specs.Prelude.{[], ◌∷◌, ℕ, zero, suc}
+-- How a call ends: with its values, or refused.
+use Rattle.std.specs.Prelude.{Result, Ok, Err, List, [], ◌∷◌, ℕ}
 use Rattle.lists.specs.Answers.{Answer, accepting, refusing}
-use Rattle.lists.specs.declared.Filled.{Filled}
-use Rattle.lists.specs.declared.Filled.TheVariants.{Done as Filled-as-Done, Refused as Filled-as-Refused}
-use Rattle.lists.specs.declared.Changed.{Changed}
-use Rattle.lists.specs.declared.Changed.TheVariants.{Done as Changed-as-Done, Refused as Changed-as-Refused}
-use Rattle.lists.specs.declared.Counted.{Counted}
-use Rattle.lists.specs.declared.Counted.TheVariants.{Number, Refused as Counted-as-Refused}
+use Rattle.lists.specs.Refusals.{number_of}
+use Rattle.lists.specs.declared.Refusal.{Refusal}
+use Rattle.lists.specs.declared.Span.{Span}
 
--- RULES, Forms: number and values of each answer: 0 and the frame count, or a refusal's number alone
-abbrev pub filled : Filled → Answer
-filled (Filled-as-Done n) = accepting (n ∷ [])
-filled (Filled-as-Refused k) = refusing k
+-- RULES, Forms: number and values of an answer, which has these values where nothing is refused
+abbrev pub answered : {A : Type 0} → (A → List ℕ) → Result A Refusal → Answer
+answered values (Ok a) = accepting (values a)
+answered values (Err e) = refusing (number_of e)
 
--- the answer of a number, with n frames where nothing is refused
-abbrev pub filled_of : ℕ → ℕ → Filled
-filled_of zero n = Filled-as-Done n
-filled_of (suc k) n = Filled-as-Refused (suc k)
+-- of one that has a count
+abbrev pub counted : Result ℕ Refusal → Answer
+counted = answered (λ n. n ∷ [])
 
--- RULES, Forms: the number of an answer that has no value, and the answer of a number
-abbrev pub changed_number : Changed → ℕ
-changed_number Changed-as-Done = 0
-changed_number (Changed-as-Refused k) = k
+-- of one that has a span
+abbrev pub spanned : Result Span Refusal → Answer
+spanned = answered (λ s. s.first ∷ s.count ∷ [])
 
-abbrev pub changed_of : ℕ → Changed
-changed_of zero = Changed-as-Done
-changed_of (suc k) = Changed-as-Refused (suc k)
-
--- RULES, Forms: number and values of an answer that has a count, and the answer of a number, with this count where it is 0
-abbrev pub counted : Counted → Answer
-counted (Number n) = accepting (n ∷ [])
-counted (Counted-as-Refused k) = refusing k
-
-abbrev pub counted_of : ℕ → ℕ → Counted
-counted_of zero n = Number n
-counted_of (suc k) n = Counted-as-Refused (suc k)
+-- and the number alone of one that has no value
+abbrev pub refused : Result (Unit {0}) Refusal → ℕ
+refused (Ok done) = 0
+refused (Err e) = number_of e

@@ -5,157 +5,91 @@ ghost use Rattle.std.specs.Prelude.{◌≡◌, [], ◌∷◌, ◌*◌, ◌^◌, 
 ghost use Rattle.std.proofs.lemmas.List.Edits.{sets};
 ghost use Rattle.lists.specs.Totals.{total};
 ghost use Rattle.lists.specs.Parts.{PartSays};
-ghost use Rattle.lists.specs.Ends.{filled, changed_number};
+ghost use prog.Memory.{size};
+ghost use denote.Param.{layout};
+ghost use Rattle.lists.specs.Refusals.{number_of};
 ghost use Rattle.lists.specs.Bytes.{little, bytes_of, alike, starts_with};
 ghost use Rattle.lists.specs.Firsts.{first_at, instead, replaced};
 
-// How many frames lists were filled for, or the number of why none was.
-#[derive(Clone, Copy)]
-pub enum Filled {
-    Done(u32),
-    Refused(u8),
+// Why a call is refused; of a damaged job the crate `job` says why.
+#[derive(Clone, Copy, Debug, PartialEq, Eq)]
+pub enum Refusal {
+    BadWindows,
+    BadCoefficient,
+    BadSize,
+    ListsDisagree,
+    TooManyFrames,
+    TooLittleRoom,
+    TargetTooLong,
+    EstimateTooLong,
+    NoSuchPlace,
+    JobEnded,
+    BadShortest,
+    SettingsVersion,
+    StoreFull,
+    SettingsMalformed,
+    VoiceNotHeld,
+    RunWithGv,
+    NoSuchRun,
+    RunFirstWindow,
+    NotYourSlot,
+    SlotEmpty,
+    SlotSet,
 }
 
-impl Filled {
-    // The refusal's number, 0 for none.
+impl Refusal {
+    // Its number, by which C and the programs know it.
     pub fn number(self) -> u8
-        ensures { result ≡ (filled self).number }
+        ensures { result ≡ number_of self }
     {
         match self {
-            Filled::Done(_) => 0,
-            Filled::Refused(number) => number,
+            Refusal::BadWindows => 1,
+            Refusal::BadCoefficient => 2,
+            Refusal::BadSize => 3,
+            Refusal::ListsDisagree => 4,
+            Refusal::TooManyFrames => 5,
+            Refusal::TooLittleRoom => 6,
+            Refusal::TargetTooLong => 7,
+            Refusal::EstimateTooLong => 8,
+            Refusal::NoSuchPlace => 10,
+            Refusal::JobEnded => 11,
+            Refusal::BadShortest => 15,
+            Refusal::SettingsVersion => 16,
+            Refusal::StoreFull => 17,
+            Refusal::SettingsMalformed => 18,
+            Refusal::VoiceNotHeld => 19,
+            Refusal::RunWithGv => 20,
+            Refusal::NoSuchRun => 21,
+            Refusal::RunFirstWindow => 22,
+            Refusal::NotYourSlot => 23,
+            Refusal::SlotEmpty => 24,
+            Refusal::SlotSet => 25,
         }
     }
 }
 
-// Whether a call has changed what it is lent, or the number of why not.
-#[derive(Clone, Copy)]
-pub enum Changed {
-    Done,
-    Refused(u8),
+// Where numbers stand in a list: the place of the first, and how many.
+#[derive(Clone, Copy, Debug, PartialEq, Eq)]
+pub struct Span {
+    pub first: u64,
+    pub count: u64,
 }
 
-impl Changed {
-    // The refusal's number, 0 for none.
-    pub fn number(self) -> u8
-        ensures { result ≡ changed_number self }
-    {
-        match self {
-            Changed::Done => 0,
-            Changed::Refused(number) => number,
-        }
-    }
-}
-
-// How many there are, or the number of why that is not said.
-#[derive(Clone, Copy)]
-pub enum Counted {
-    Number(u32),
-    Refused(u8),
-}
-
-// The first n numbers become v.
-pub fn fill_u32(s: &mut [u32], n: usize, v: u32)
+// The first n items become v.
+pub fn fill<T: Copy>(s: &mut [T], n: usize, v: T)
     ensures { s.new ≡ sets s.old 0 (replicate n v) }
 {
-    let end = least(n, s.len());
-    let mut i = 0;
-    while i < end {
+    for i in 0..n.min(s.len()) {
         s[i] = v;
-        i += 1;
     }
 }
 
-// The first n floats become v.
-pub fn fill_f64(s: &mut [f64], n: usize, v: f64)
-    ensures { s.new ≡ sets s.old 0 (replicate n v) }
-{
-    let end = least(n, s.len());
-    let mut i = 0;
-    while i < end {
-        s[i] = v;
-        i += 1;
-    }
-}
-
-// The first n patterns of 64 bits become v.
-pub fn fill_u64(s: &mut [u64], n: usize, v: u64)
-    ensures { s.new ≡ sets s.old 0 (replicate n v) }
-{
-    let end = least(n, s.len());
-    let mut i = 0;
-    while i < end {
-        s[i] = v;
-        i += 1;
-    }
-}
-
-// The first n numbers of src, over those of dst.
-pub fn copy_u32(src: &[u32], n: usize, dst: &mut [u32])
+// The first n items of src, over those of dst.
+pub fn copy<T: Copy>(src: &[T], n: usize, dst: &mut [T])
     ensures { dst.new ≡ sets dst.old 0 (take n src.now) }
 {
-    let end = least(least(n, src.len()), dst.len());
-    let mut i = 0;
-    while i < end {
-        dst[i] = src[i];
-        i += 1;
-    }
-}
-
-// The first n bytes of src, over those of dst.
-pub fn copy_u8(src: &[u8], n: usize, dst: &mut [u8])
-    ensures { dst.new ≡ sets dst.old 0 (take n src.now) }
-{
-    let end = least(least(n, src.len()), dst.len());
-    let mut i = 0;
-    while i < end {
-        dst[i] = src[i];
-        i += 1;
-    }
-}
-
-// The first n patterns of src, over those of dst.
-pub fn copy_u64(src: &[u64], n: usize, dst: &mut [u64])
-    ensures { dst.new ≡ sets dst.old 0 (take n src.now) }
-{
-    let end = least(least(n, src.len()), dst.len());
-    let mut i = 0;
-    while i < end {
-        dst[i] = src[i];
-        i += 1;
-    }
-}
-
-// The first n floats of src, over those of dst.
-pub fn copy_f64(src: &[f64], n: usize, dst: &mut [f64])
-    ensures { dst.new ≡ sets dst.old 0 (take n src.now) }
-{
-    let end = least(least(n, src.len()), dst.len());
-    let mut i = 0;
-    while i < end {
-        dst[i] = src[i];
-        i += 1;
-    }
-}
-
-// The smaller of two numbers.
-pub fn least(a: usize, b: usize) -> usize
-    ensures { result ≡ min a b }
-{
-    if a < b {
-        return a;
-    }
-    b
-}
-
-// The larger of two numbers.
-pub fn larger(a: usize, b: usize) -> usize
-    ensures { result ≡ max a b }
-{
-    if a < b {
-        return b;
-    }
-    a
+    let end = n.min(src.len()).min(dst.len());
+    dst[..end].copy_from_slice(&src[..end]);
 }
 
 // Whether so many items of a size fit into a length.
@@ -172,62 +106,30 @@ pub fn has_room(count: usize, size: usize, length: usize) -> bool
 pub fn total_u32(s: &[u32]) -> u64
     ensures { result ≡ total (take (2 ^ 32) s.now) }
 {
-    let end = least(0x1_0000_0000, s.len());
-    let mut sum: u64 = 0;
-    let mut i = 0;
-    while i < end {
-        sum += s[i] as u64;
-        i += 1;
+    let mut sum = 0;
+    for x in &s[..s.len().min(0x1_0000_0000)] {
+        sum += u64::from(*x);
     }
     sum
 }
 
-// As many as count floats from a place on, as far as there are any: a part of the lent list itself.
-pub fn part_f64<'a>(s: &'a [f64], from: usize, count: usize) -> &'a [f64]
-    ensures { PartSays 8 s.entry from count result }
+// As many as count items from a place on, as far as there are any: a part of the lent list itself.
+pub fn part<'a, T>(s: &'a [T], from: usize, count: usize) -> &'a [T]
+    ensures { PartSays (size (layout T.row)) s.entry from count result }
 {
-    let n = s.len();
-    if n <= from {
-        return &s[n..];
-    }
-    let left = n - from;
-    if left <= count {
-        return &s[from..];
-    }
-    let to = from + count;
-    &s[from..to]
-}
-
-// The same of whole numbers.
-pub fn part_u32<'a>(s: &'a [u32], from: usize, count: usize) -> &'a [u32]
-    ensures { PartSays 4 s.entry from count result }
-{
-    let n = s.len();
-    if n <= from {
-        return &s[n..];
-    }
-    let left = n - from;
-    if left <= count {
-        return &s[from..];
-    }
-    let end = from + count;
-    &s[from..end]
+    let start = from.min(s.len());
+    let end = start + count.min(s.len() - start);
+    &s[start..end]
 }
 
 // The number that the bytes from a place on say, the least byte first: width bytes, eight at most, as far as there are any.
 pub fn little_endian(bytes: &[u8], at: usize, width: usize) -> u64
     ensures { result ≡ little (take (min width 8) (drop at bytes.now)) }
 {
-    let n = bytes.len();
-    if n <= at {
-        return 0;
-    }
-    let end = at + least(least(width, 8), n - at);
-    let mut i = end;
-    let mut number: u64 = 0;
-    while i > at {
-        i -= 1;
-        number = number * 256 + wide_u8(bytes[i]);
+    let said = part(bytes, at, width.min(8));
+    let mut number = 0;
+    for i in (0..said.len()).rev() {
+        number = number * 256 + u64::from(said[i]);
     }
     number
 }
@@ -252,46 +154,15 @@ fn of_four(a: u8, b: u8, c: u8, d: u8) -> u32
     a as u32 + 256 * (b as u32) + 65_536 * (c as u32) + 16_777_216 * (d as u32)
 }
 
-// A number as an index, in 64 bits, and a byte as each: a read that is widened by a call asks for its index alone.
-pub fn wide(x: u32) -> usize
-    ensures { result ≡ x }
-{
-    x as usize
-}
-
-pub fn long(x: u32) -> u64
-    ensures { result ≡ x }
-{
-    x as u64
-}
-
-pub fn small(b: u8) -> usize
-    ensures { result ≡ b }
-{
-    b as usize
-}
-
-fn wide_u8(b: u8) -> u64
-    ensures { result ≡ b }
-{
-    b as u64
-}
-
 // A number as width bytes from a place on, eight at most, the least byte first, as far as there is room.
 pub fn put_little_endian(bytes: &mut [u8], at: usize, width: usize, number: u64)
     ensures { bytes.new ≡ sets bytes.old at (bytes_of (min width 8) number) }
 {
-    let n = bytes.len();
-    if n <= at {
-        return;
-    }
-    let end = at + least(least(width, 8), n - at);
+    let count = width.min(8).min(bytes.len().saturating_sub(at));
     let mut rest = number;
-    let mut i = at;
-    while i < end {
-        bytes[i] = (rest % 256) as u8;
-        rest = rest / 256;
-        i += 1;
+    for i in 0..count {
+        bytes[at + i] = (rest % 256) as u8;
+        rest /= 256;
     }
 }
 
@@ -301,11 +172,11 @@ pub fn put_u32(bytes: &mut [u8], at: usize, number: u32)
 {
     let n = bytes.len();
     if n < 4 {
-        put_little_endian(bytes, at, 4, long(number));
+        put_little_endian(bytes, at, 4, u64::from(number));
         return;
     }
     if n - 4 < at {
-        put_little_endian(bytes, at, 4, long(number));
+        put_little_endian(bytes, at, 4, u64::from(number));
         return;
     }
     bytes[at] = (number % 256) as u8;
@@ -318,25 +189,15 @@ pub fn put_u32(bytes: &mut [u8], at: usize, number: u32)
 pub fn first_u32(s: &[u32], v: u32) -> usize
     ensures { result ≡ first_at v s.now }
 {
-    let n = s.len();
-    let mut i = 0;
-    while i < n {
-        if s[i] == v {
-            return i;
-        }
-        i += 1;
-    }
-    n
+    s.iter().position(|x| *x == v).unwrap_or(s.len())
 }
 
 // Each of these numbers that is old becomes new.
 pub fn replace_u32(s: &mut [u32], old: u32, new: u32)
     ensures { s.new ≡ replaced old new s.old }
 {
-    let mut i = 0;
-    while i < s.len() {
-        s[i] = instead(s[i], old, new);
-        i += 1;
+    for number in s {
+        *number = instead(*number, old, new);
     }
 }
 
@@ -354,13 +215,11 @@ fn instead(number: u32, old: u32, new: u32) -> u32
 pub fn alike(bytes: &[u8], front: &[u8]) -> usize
     ensures { result ≡ alike front.now bytes.now }
 {
-    let n = least(bytes.len(), front.len());
-    let mut i = 0;
-    while i < n {
+    let n = bytes.len().min(front.len());
+    for i in 0..n {
         if bytes[i] != front[i] {
             return i;
         }
-        i += 1;
     }
     n
 }

@@ -3,7 +3,7 @@ use mathlib.Core.Path.{◌≡◌, refl, sym, ap, ◌∙◌}
 use mathlib.Core.Bool.{true, false}
 use mathlib.Core.List.{List}
 use Prim.Native.Nat.{ℕ, ◌+◌, ◌-◌, ◌*◌, ◌/◌, ◌<◌, ◌≤◌}
-use native.Mathlib.Nat.{add-sub_cancel_left, mul_comm, mul_assoc, mul-le-mul, mul-le-mul_right, le-div_iff_mul-le, div-mul-le_self}
+use native.Mathlib.Nat.{add-sub_cancel_left, mul_comm, mul_assoc, mul-le-mul, mul-le-mul_right, div-mul-le_self}
 use native.Mathlib.Omega.{arith}
 use lib.ListN.{length, take, drop}
 use lib.Ieee.{Float}
@@ -26,8 +26,7 @@ use Rattle.solve.specs.Promise.{solved_in, SolveSays}
 use Rattle.gv.specs.Promise.{VarySays}
 use Rattle.mlpg_adjust.specs.Trajectory.{state_size, gv_on, with_gv}
 use Rattle.mlpg_adjust.specs.Inner.Groups.{voiced_in, layout_of, Ready, Varying, target_in, column_of, Columned}
-use Rattle.mlpg_adjust.specs.declared.GlobalVariance.{GlobalVariance}
-use Rattle.mlpg_adjust.specs.declared.GlobalVariance.TheVariants.{Off, On}
+use Rattle.std.proofs.Common.{Option, None, Some, is_some}
 use Rattle.mlpg_adjust.specs.declared.Stream.{Stream}
 use Rattle.mlpg_adjust.specs.declared.group.Plan.{Plan}
 use Rattle.mlpg_adjust.proofs.Doors.{opened, band-opens, solve_opens, closing-opens, filling-opens, gv_opens}
@@ -36,17 +35,21 @@ use Rattle.mlpg_adjust.proofs.Columns.{columned_next}
 
 -- ---- the global variance is off or on
 
-pub gv_off : {A : Type 0} (s : GlobalVariance) (f : Float → A) (x : A) → s ≡ Off → x ≡ with_gv s f x
+pub on_is : (s : Option Float) → gv_on s ≡ is_some s
+on_is None = refl
+on_is (Some weight) = refl
+
+pub gv_off : {A : Type 0} (s : Option Float) (f : Float → A) (x : A) → s ≡ None → x ≡ with_gv s f x
 gv_off s f x e = rw e
 
-pub without_gv : {A : Type 0} (s : GlobalVariance) (f : Float → A) (x : A) → gv_on s ≡ false → with_gv s f x ≡ x
-without_gv Off f x e = refl
-without_gv (On weight) f x e = absurd (let z : ◌≡◌ {A = ℕ} 0 1 = cc in omega arith)
+pub without_gv : {A : Type 0} (s : Option Float) (f : Float → A) (x : A) → gv_on s ≡ false → with_gv s f x ≡ x
+without_gv None f x e = refl
+without_gv (Some weight) f x e = absurd (let z : ◌≡◌ {A = ℕ} 0 1 = cc in omega arith)
 
-pub gv_on_lem : {A : Type 0} (s : GlobalVariance) (weight : Float) (f : Float → A) (x : A) → s ≡ On weight → f weight ≡ with_gv s f x
+pub gv_on_lem : {A : Type 0} (s : Option Float) (weight : Float) (f : Float → A) (x : A) → s ≡ Some weight → f weight ≡ with_gv s f x
 gv_on_lem s weight f x e = rw e
 
-pub on-said : (s : GlobalVariance) (weight : Float) → s ≡ On weight → gv_on s ≡ true
+pub on-said : (s : Option Float) (weight : Float) → s ≡ Some weight → gv_on s ≡ true
 on-said s weight e = rw e
 
 -- ---- a group's equations, solved
@@ -72,9 +75,6 @@ module _ (p : Plan) (widths : List ℕ) (coefs records : List Float) (ds marks :
     small : (0 < k) × (k ≤ 48)
     small = let z : k ≡ region.floats_of g = k_is ∙ ap (λ (q : Layout). region.floats_of q) layout_is in
         (omega (arith, z), omega (arith, z, r.shaped.most-windows, r.shaped.most_width))
-
-    pub lanes_some : 0 < 48 / k
-    lanes_some = (le-div_iff_mul-le {k = k} {x = 1} {y = 48} small.0).1 (omega (arith, small.1))
 
     pub lanes_room : (lanes work : ℕ) → lanes ≤ 48 / k → work ≡ total ds * 48 → lanes * region.size_of p.layout ≤ work
     lanes_room lanes work h o =
@@ -119,15 +119,14 @@ module _ (p : Plan) (widths : List ℕ) (coefs records : List Float) (ds marks :
 -- ---- the global variance of a group
 
 module _ (p : Plan) (c : Group) (marks : List ℕ) (targets work work' : List Float) (k : Varying p c (length marks) (length work)) (both : length targets ≡ c.v + c.v) (weight : Float) where
-  pub group-varied : (n : ℕ) → n ≡ p.layout.n
-      → VarySays p.layout (take (p.frames + n - p.frames) (drop p.frames marks)) (take (c.first + c.lanes - c.first) (drop c.first targets))
+  pub group-varied : VarySays p.layout (take (p.frames + p.layout.n - p.frames) (drop p.frames marks)) (take (c.first + c.lanes - c.first) (drop c.first targets))
       (take (c.v + c.first + c.lanes - (c.v + c.first)) (drop (c.v + c.first) targets)) weight work work'
       → work' ≡ each_region p.layout c.lanes (target_in p c marks targets weight) work
-  group-varied n e says =
+  group-varied says =
       let m-long : length (part c.first c.lanes targets) ≡ c.lanes = cut-length c.first c.lanes targets (omega (arith, both, k.components)) in
       let v-long : length (part (c.v + c.first) c.lanes targets) ≡ c.lanes = cut-length (c.v + c.first) c.lanes targets (omega (arith, both, k.components)) in
       let o-long : length (part p.frames p.layout.n marks) ≡ p.layout.n = cut-length p.frames p.layout.n marks k.switches in
-      let q = rw (e, add-sub_cancel_left p.frames p.layout.n, add-sub_cancel_left c.first c.lanes, add-sub_cancel_left (c.v + c.first) c.lanes) at says.space in
+      let q = rw (add-sub_cancel_left p.frames p.layout.n, add-sub_cancel_left c.first c.lanes, add-sub_cancel_left (c.v + c.first) c.lanes) at says.space in
       let room : length (part c.first c.lanes targets) * region.size_of p.layout ≤ length work = rw m-long k.room in
       opened _ _ _ _ (gv_opens p.layout (length (part p.frames p.layout.n marks)) (length (part c.first c.lanes targets)) (length (part (c.v + c.first) c.lanes targets)) (length work)
       k.some k.few_windows k.few o-long (v-long ∙ sym m-long) room) q

@@ -27,8 +27,7 @@ use Rattle.voicing.specs.Space.{filled_at}
 use Rattle.gv.specs.Parmgen.{parmgen}
 use Rattle.mlpg_adjust.specs.Trajectory.{state_size, gv_on, with_gv, matrix, side, solved, varied, trajectory, numbers_of}
 use Rattle.mlpg_adjust.specs.Inner.Groups.{voiced_in, column_of, Columned}
-use Rattle.mlpg_adjust.specs.declared.GlobalVariance.{GlobalVariance}
-use Rattle.mlpg_adjust.specs.declared.GlobalVariance.TheVariants.{Off, On}
+use Rattle.std.proofs.Common.{Option, None, Some}
 use Rattle.mlpg_adjust.specs.declared.Stream.{Stream}
 
 -- ---- a group's columns
@@ -64,9 +63,9 @@ columned_none f v out = record { stands = λ p b h. absurd (omega arith) }
 columned_all : (f : ℕ → List Float) (v n : ℕ) (out : List Float) → length out ≡ n * v → 0 < v → Columned f v v out → out ≡ build (λ p. elem (f (p % v)) (p / v)) (n * v)
 columned_all f v n out long b k = build_is (λ p. elem (f (p % v)) (p / v)) (n * v) out nan long (λ j h. k.stands j (omega arith) (mod-lt j b))
 
-with_same : {A : Type 0} (switch : GlobalVariance) (f h : Float → A) (x : A) → (gv_on switch ≡ true → (weight : Float) → f weight ≡ h weight) → with_gv switch f x ≡ with_gv switch h x
-with_same Off f h x e = refl
-with_same (On weight) f h x e = e refl weight
+with_same : {A : Type 0} (switch : Option Float) (f h : Float → A) (x : A) → (gv_on switch ≡ true → (weight : Float) → f weight ≡ h weight) → with_gv switch f x ≡ with_gv switch h x
+with_same None f h x e = refl
+with_same (Some weight) f h x e = e refl weight
 
 module _ (s : Stream) (widths : List ℕ) (coefs records : List Float) (ds : List ℕ) (gv : List Float) (switches marks : List ℕ)
     (on-is : gv_on s.gv ≡ true → part (total ds) (count (voiced_in s widths records ds)) marks ≡ select (voiced_in s widths records ds) (expand ds switches)) where

@@ -21,8 +21,7 @@ use Rattle.gv.specs.Promise.{varied_in}
 use Rattle.gv.specs.Parmgen.{parmgen}
 use Rattle.mlpg_adjust.specs.Trajectory.{state_size, with_gv, voiced_ivars, voiced_means, matrix, side, solved}
 use Rattle.mlpg_adjust.specs.Inner.Groups.{voiced_in, layout_of, component_values}
-use Rattle.mlpg_adjust.specs.declared.GlobalVariance.{GlobalVariance}
-use Rattle.mlpg_adjust.specs.declared.GlobalVariance.TheVariants.{Off, On}
+use Rattle.std.proofs.Common.{Option, None, Some}
 use Rattle.mlpg_adjust.specs.declared.Stream.{Stream}
 
 -- ---- steps over the regions of several components, one after the other
@@ -76,13 +75,13 @@ module _ (s : Stream) (widths : List ℕ) (coefs records : List Float) (ds : Lis
 
     module _ (keeps : (weight : Float) → Keeps g lanes (target weight)) (work : List Float) (fit : lanes * region.size_of g ≤ length work) (l : ℕ) (h : l < lanes) (r : Region)
         (at : region_at g lanes l work ≡ solved_region (first + l) r) where
-      lane_values : (switch : GlobalVariance) → (region_at g lanes l (with_gv switch (λ weight. each_region g lanes (target weight) work) work)).values
+      lane_values : (switch : Option Float) → (region_at g lanes l (with_gv switch (λ weight. each_region g lanes (target weight) work) work)).values
           ≡ with_gv switch
           (λ weight. parmgen (band_width widths) (matrix (state_size s widths) records s.threshold ds s.v widths coefs (first + l)) (side (state_size s widths) records s.threshold ds s.v widths coefs (first + l))
           (map is_on on) (length widths) (mul binary64 (elem gv (first + l)) weight) (elem gv (s.v + (first + l))) (solved (state_size s widths) records s.threshold ds s.v widths coefs (first + l)))
           (solved (state_size s widths) records s.threshold ds s.v widths coefs (first + l))
-      lane_values Off = ap (λ (q : Region). q.values) at ∙ solved_is (first + l) r
-      lane_values (On weight) =
+      lane_values None = ap (λ (q : Region). q.values) at ∙ solved_is (first + l) r
+      lane_values (Some weight) =
           let mean-is : elem (part first lanes gv) l ≡ elem gv (first + l) = sym (part_elem first lanes l gv h) in
           let o : s.v + first + l ≡ s.v + (first + l) = omega arith in
           let vari-is : elem (part (s.v + first) lanes gv) l ≡ elem gv (s.v + (first + l)) = sym (part_elem (s.v + first) lanes l gv h) ∙ ap (elem gv) o in

@@ -24,8 +24,7 @@ use Rattle.voicing.proofs.Theory.{stream-length}
 use Rattle.voicing.proofs.Masks.{mask-voiced, stream-flagged}
 use Rattle.mlpg_adjust.specs.Trajectory.{state_size, gv_on, with_gv, numbers_of}
 use Rattle.mlpg_adjust.specs.Inner.Groups.{Shaped, Marked, Ready, voiced_in, plan_of, column_of, Columned}
-use Rattle.mlpg_adjust.specs.declared.GlobalVariance.{GlobalVariance}
-use Rattle.mlpg_adjust.specs.declared.GlobalVariance.TheVariants.{Off, On}
+use Rattle.std.proofs.Common.{Option, None, Some}
 use Rattle.mlpg_adjust.specs.declared.Stream.{Stream}
 use Rattle.mlpg_adjust.specs.declared.group.Plan.{Plan}
 use Rattle.mlpg_adjust.proofs.Doors.{opened, frames-flagged}
@@ -90,17 +89,17 @@ module _ (s : Stream) (widths : List ℕ) (coefs records : List Float) (ds : Lis
         ap (mask_in ds) (sym (take-append-drop (total ds) m) ∙ ap (λ (l : List ℕ). l ++ drop (total ds) m) front) ∙ flags-said (drop (total ds) m)
 
     -- whether the switches are there or not
-    marked_by : (switch : GlobalVariance) → Marked s widths records ds (with_gv switch (λ weight. sets marks₁ (total ds) (select (mask_in ds marks₁) (expand ds on))) marks₁)
-    marked_by Off = record { flags = flags-said (drop (total ds) flags); most = voiced-most; room = omega (arith, voiced-most, long₁) }
-    marked_by (On weight) = record { flags = front_kept (select (mask_in ds marks₁) (expand ds on)); most = voiced-most; room = rw (length-sets marks₁ (total ds) (select (mask_in ds marks₁) (expand ds on))) (omega (arith, voiced-most, long₁)) }
+    marked_by : (switch : Option Float) → Marked s widths records ds (with_gv switch (λ weight. sets marks₁ (total ds) (select (mask_in ds marks₁) (expand ds on))) marks₁)
+    marked_by None = record { flags = flags-said (drop (total ds) flags); most = voiced-most; room = omega (arith, voiced-most, long₁) }
+    marked_by (Some weight) = record { flags = front_kept (select (mask_in ds marks₁) (expand ds on)); most = voiced-most; room = rw (length-sets marks₁ (total ds) (select (mask_in ds marks₁) (expand ds on))) (omega (arith, voiced-most, long₁)) }
 
     pub marked : Marked s widths records ds marks₂
     marked = marked_by s.gv
 
-    switches_by : (switch : GlobalVariance) → (gv_on switch ≡ true → length on ≡ length ds)
+    switches_by : (switch : Option Float) → (gv_on switch ≡ true → length on ≡ length ds)
         → gv_on switch ≡ true → part (total ds) (count mask) (with_gv switch (λ weight. sets marks₁ (total ds) (select (mask_in ds marks₁) (expand ds on))) marks₁) ≡ select mask (expand ds on)
-    switches_by Off h e = let z : ◌≡◌ {A = ℕ} 0 1 = cc in absurd (omega arith)
-    switches_by (On weight) h e =
+    switches_by None h e = let z : ◌≡◌ {A = ℕ} 0 1 = cc in absurd (omega arith)
+    switches_by (Some weight) h e =
         let so : select (mask_in ds marks₁) (expand ds on) ≡ select mask (expand ds on) = rw (flags-said (drop (total ds) flags)) in
         let x-long : length (select mask (expand ds on)) ≡ count mask = select-length mask (expand ds on) (expand-length ds on (h e) ∙ sym (mask-long s widths records ds)) in
         rw so (stored-whole (select mask (expand ds on)) marks₁ (total ds) (count mask) x-long (omega (arith, voiced-most, long₁)))

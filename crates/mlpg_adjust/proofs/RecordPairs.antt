@@ -9,7 +9,7 @@ use lib.ListN.{length}
 use lib.Ieee.{Float}
 use Rattle.lists.proofs.Regions.{cut-length}
 use Rattle.lists.proofs.Rows.{row_in, row_fits}
-use Rattle.model.specs.declared.voice.model.Found.TheVariants.{At}
+use Rattle.std.proofs.Common.{Some}
 use Rattle.model.specs.Pair.{pair}
 use Rattle.model.specs.Record.{from_linear, pair_at, pair_number}
 use Rattle.model.proofs.Records.{pair_found}
@@ -22,7 +22,7 @@ use Rattle.voicing.proofs.Records.{column-at}
 
 -- the s-th record of so many numbers, k of them means: its pair n
 module _ (size : ℕ) (records : List Float) (s n k : ℕ) (half : size / 2 ≡ k) (room : s * size + size ≤ length records) (h : n < k) where
-  pub record_pair : pair_at (from_linear (part (s * size) size records)).parameters n ≡ At (pair (elem records (s * size + n)) (elem records (s * size + (k + n))))
+  pub record_pair : pair_at (from_linear (part (s * size) size records)).parameters n ≡ Some (pair (elem records (s * size + n)) (elem records (s * size + (k + n))))
   record_pair =
       let long : length (part (s * size) size records) ≡ size = cut-length (s * size) size records room in
       pair_found (part (s * size) size records) n (rw (long, half) h)
@@ -36,7 +36,7 @@ means-half v windows false = omega (arith, mul_comm v windows)
 -- the columns of means and of variances of a component and window: state s has that pair of its record
 module _ (v windows : ℕ) (masked : Bool) (records : List Float) (states s i component : ℕ) (all : length records ≡ states * record_size v windows masked) (t : s < states) (h : i < windows) (c : component < v) where
   pub column-pair : pair_at (from_linear (part (s * record_size v windows masked) (record_size v windows masked) records)).parameters (pair_number v i component)
-      ≡ At (pair (elem (column (record_size v windows masked) records (pair_number v i component) states) s) (elem (column (record_size v windows masked) records (v * windows + pair_number v i component) states) s))
+      ≡ Some (pair (elem (column (record_size v windows masked) records (pair_number v i component) states) s) (elem (column (record_size v windows masked) records (v * windows + pair_number v i component) states) s))
   column-pair =
       let size = record_size v windows masked in
       let n = pair_number v i component in

@@ -2,7 +2,7 @@
 use mathlib.Core.Path.{◌≡◌, refl, sym, ◌∙◌}
 use mathlib.Core.Bool.{Bool, true, false, cond, not, ◌||◌, ◌&&◌}
 use mathlib.Core.List.{List, ◌++◌}
-use Prim.Native.Nat.{ℕ, zero, suc, ◌+◌, ◌*◌, ◌^◌, ◌<◌, ◌≤◌}
+use Prim.Native.Nat.{ℕ, ◌+◌, ◌*◌, ◌^◌, ◌<◌, ◌≤◌}
 use native.Mathlib.Nat.{mul-le-mul_left, mul-le-mul_right}
 use native.Mathlib.Omega.{arith}
 use borrow.Author.Tests.{lt-ltb, le-ltb, ltb-false, eq-eqb, ne_eqb, eqb-true, not-true, not-false}
@@ -12,7 +12,11 @@ use lib.Seq.{sets, drop_at}
 use lib.Ieee.{Float}
 use Rattle.lists.specs.Sizes.{outside}
 use Rattle.lists.specs.Totals.{total}
-use Rattle.lists.specs.Refusals.{or_else}
+use Rattle.std.proofs.Common.{Ok, Err}
+use Rattle.lists.specs.Refusals.{number_of, or_else}
+use Rattle.lists.specs.declared.Refusal.{Refusal}
+use Rattle.lists.proofs.Answers.{untouched}
+use Rattle.lists.proofs.Ends.{refuses, not_none}
 use Rattle.lists.proofs.Flags.{neither}
 use Rattle.lists.proofs.Refusals.{or_first, or_none}
 use Rattle.lists.proofs.Sums.{total-whole}
@@ -27,8 +31,7 @@ use Rattle.mlpg_adjust.specs.Promise.{lengths_of, out_of_range, gv_disagrees, di
 use Rattle.mlpg_adjust.specs.Inner.Groups.{Shaped, GvFits, Room}
 use Rattle.mlpg_adjust.specs.declared.Stream.{Stream}
 use Rattle.mlpg_adjust.specs.declared.refusing.Lengths.{Lengths}
-use Rattle.mlpg_adjust.specs.declared.Created.{Created}
-use Rattle.mlpg_adjust.specs.declared.Created.TheVariants.{Done, Refused}
+use Rattle.mlpg_adjust.specs.declared.Clamped.{Clamped}
 use Rattle.band.proofs.Ways.{band-narrow}
 
 -- ---- how many numbers a record has
@@ -196,18 +199,22 @@ module _ (s : Stream) (ws : List ℕ) (cs : List Float) (ds : List ℕ) (n : Len
   passed_gv = agreed.varied
 
 -- 6 comes after them
-module _ (s : Stream) (ws : List ℕ) (cs : List Float) (ds : List ℕ) (lengths : Lengths) (k : ℕ) (e : k ≡ stream_refusal s ws cs ds lengths) where
-  pub refused-before : (k ≡ 0 → ⊥) → k ≡ create_refusal s ws cs ds lengths
-  unfolding create_refusal
-  refused-before h = rw (← e) (sym (or_first k (cond (short s.v (total ds) lengths) 6 0) h))
+module _ (s : Stream) (ws : List ℕ) (cs : List Float) (ds : List ℕ) (lengths : Lengths) where
+  module _ (k : ℕ) (e : k ≡ stream_refusal s ws cs ds lengths) where
+    pub refused-before : (k ≡ 0 → ⊥) → k ≡ create_refusal s ws cs ds lengths
+    unfolding create_refusal
+    refused-before h = rw (← e) (sym (or_first k (cond (short s.v (total ds) lengths) 6 0) h))
 
-  module _ (z : k ≡ 0) where
+  pub refused_first : (e : Refusal) → number_of e ≡ stream_refusal s ws cs ds lengths → number_of e ≡ create_refusal s ws cs ds lengths
+  refused_first e q = refused-before (number_of e) q (not_none e (number_of e) refl)
+
+  module _ (z : 0 ≡ stream_refusal s ws cs ds lengths) where
     pub range_passed : InRange s.v (length ds) × (total ds ≤ 65536)
-    range_passed = let p = passed s ws cs ds lengths (sym e ∙ z) in (in_range s.v (length ds) p.2, ltb-false 65536 (total ds) p.4)
+    range_passed = let p = passed s ws cs ds lengths (sym z) in (in_range s.v (length ds) p.2, ltb-false 65536 (total ds) p.4)
 
     pub refused_6 : (n : ℕ) → n ≡ total ds → (x : Bool) → x ≡ short s.v n lengths → ◌≡◌ {A = ℕ} (cond x 6 0) (create_refusal s ws cs ds lengths)
     unfolding create_refusal
-    refused_6 n c x ex = rw (← e, z, ← c, ← ex)
+    refused_6 n c x ex = rw (← z, ← c, ← ex)
 
 -- what createRefusal ≡ 0 leaves: that, and room for what is written
 module _ (s : Stream) (ws : List ℕ) (cs rs : List Float) (ds : List ℕ) (gv : List Float) (switches : List ℕ) (out work : List Float) (marks : List ℕ)
@@ -245,12 +252,12 @@ zeroed n m v front old l q e h o =
 -- ---- the ways out of the call
 
 module _ (s : Stream) (ws : List ℕ) (cs rs : List Float) (ds : List ℕ) (gv : List Float) (switches : List ℕ) (out work : List Float) (marks : List ℕ) where
-  pub create_refused : (k : ℕ) → k ≡ create_refusal s ws cs ds (lengths_of rs gv switches out work marks) → (k ≡ 0 → ⊥)
-      → CreateSays s ws cs rs ds gv switches out work marks (Refused k) out work marks
-  create_refused zero e h = absurd (h refl)
-  create_refused (suc k) e h = record { number = e; answer = refl; numbers = refl; space = refl; counts = refl }
+  pub create_refused : (e : Refusal) → number_of e ≡ create_refusal s ws cs ds (lengths_of rs gv switches out work marks) → CreateSays s ws cs rs ds gv switches out work marks (Err e) out work marks
+  create_refused e q =
+      let n : number_of e ≡ 0 → ⊥ = not_none e (number_of e) refl in
+      record { number = q; answer = refuses e (number_of e) _ refl; numbers = untouched (number_of e) _ out n; space = untouched (number_of e) _ work n; counts = untouched (number_of e) _ marks n }
 
   pub create_done : (out' work' : List Float) (marks' : List ℕ) → create_refusal s ws cs ds (lengths_of rs gv switches out work marks) ≡ 0
       → out' ≡ written 0 (numbers_of s ws cs rs ds gv switches) out → work' ≡ written 0 (zero_floats (total ds)) work → marks' ≡ written 0 (zero_marks (total ds)) marks
-      → (r : Created) → r ≡ Done (clamped_high s ws rs ds) (clamped_low s ws rs ds) → CreateSays s ws cs rs ds gv switches out work marks r out' work' marks'
-  create_done out' work' marks' z a b m r e = rw e (record { number = sym z; answer = refl; numbers = a; space = b; counts = m })
+      → (r : Clamped) → (r.high ≡ clamped_high s ws rs ds) × (r.low ≡ clamped_low s ws rs ds) → CreateSays s ws cs rs ds gv switches out work marks (Ok r) out' work' marks'
+  create_done out' work' marks' z a b m r e = record { number = sym z; answer = rw (e.0, e.1); numbers = a; space = b; counts = m }

@@ -1,6 +1,6 @@
 -- RULES, Cases: case 10 from the records: windows (1) and (-0.5, 0, 0.5), three states of one frame each, first means 1, 2, 3, all other means and all variances 1.
 -- And clamped pairs. Computed from the definitions.
-use Rattle.std.specs.Prelude.{◌≡◌, refl, true, false, List, [], ◌∷◌, ◌++◌, map, ℕ, Float}
+use Rattle.std.specs.Prelude.{◌≡◌, refl, Ok, Err, None, true, false, List, [], ◌∷◌, ◌++◌, map, ℕ, Float}
 use Rattle.std.specs.Float.{nan, binary64}
 use Rattle.std.specs.Float.Ieee.{of_bits, to_bits, lt, eq, add, mul, div}
 use Rattle.floats.specs.Numbers.{one}
@@ -13,9 +13,10 @@ use Rattle.lists.specs.Frames.{count}
 use Rattle.voicing.specs.Mask.{mask_of, weights_of}
 use Rattle.mlpg_adjust.specs.Trajectory.{record_size, matrix, side}
 use Rattle.mlpg_adjust.specs.Clamps.{clamped_over, clamped_high, clamped_low}
-use Rattle.mlpg_adjust.specs.Promise.{created, created_of}
+use Rattle.lists.specs.Answers.{answer_of}
+use Rattle.lists.specs.declared.Refusal.TheVariants.{TooLittleRoom}
+use Rattle.mlpg_adjust.specs.Promise.{created}
 use Rattle.mlpg_adjust.specs.declared.Stream.{Stream}
-use Rattle.mlpg_adjust.specs.declared.GlobalVariance.TheVariants.{Off}
 
 -- 1, 2, 3, -0.5, 0.5 and 0
 abbrev f : ℕ → Float
@@ -41,7 +42,7 @@ case_10_right = refl
 -- RULES, Clamps: a stream of v 2 in windows of one and three, of states of 2, 3, 1 and no frames, of which the second is unvoiced. The runs are so short that the second window is
 -- zeroed in all of their frames
 abbrev clamped_stream : Stream
-clamped_stream = record { v = 2; masked = true; threshold = f 0; fill = f 0; gv = Off }
+clamped_stream = record { v = 2; masked = true; threshold = f 0; fill = f 0; gv = None }
 
 -- 1e20 and 1e-20
 abbrev large : Float
@@ -74,9 +75,9 @@ unfolding clamped_over clamped_in clamp_of count mask_of weights_of lt of_bits f
 clamped_low_lem = refl
 
 -- so a call that is accepted answers, high before low, and one that is refused has no counts
-pub clamped_answer : (created (created_of 0 high low)).values ≡ 2 ∷ 4 ∷ []
+pub clamped_answer : created (Ok (record { high = 2; low = 4 })) ≡ answer_of 0 (high ∷ low ∷ [])
 unfolding clamped_over clamped_in clamp_of count mask_of weights_of lt of_bits from_linear abs_of
 clamped_answer = refl
 
-pub refused_answer : (created (created_of 6 high low)).values ≡ []
+pub refused_answer : created (Err TooLittleRoom) ≡ answer_of 6 (high ∷ low ∷ [])
 refused_answer = refl

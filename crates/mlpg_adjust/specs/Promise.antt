@@ -1,30 +1,25 @@
 -- What the call for a trajectory promises.
-use Rattle.std.specs.Prelude.{◌≡◌, Bool, cond, not, ◌||◌, ◌&&◌, List, [], ◌∷◌, ℕ, zero, suc, ◌*◌, length, replicate, ltb, eqb, Float}
+use Rattle.std.specs.Prelude.{◌≡◌, Result, Bool, cond, not, ◌||◌, ◌&&◌, List, [], ◌∷◌, ℕ, ◌*◌, length, replicate, ltb, eqb, Float}
 use Rattle.lists.specs.Sizes.{most_states, most_frames, outside}
 use Rattle.lists.specs.Totals.{total}
 use Rattle.lists.specs.Refusals.{or_else}
-use Rattle.lists.specs.Answers.{Answer, accepting, refusing, written}
+use Rattle.lists.specs.Answers.{Answer, answer_of, written}
+use Rattle.lists.specs.Ends.{answered}
+use Rattle.lists.specs.declared.Refusal.{Refusal}
 use Rattle.floats.specs.Numbers.{nought}
 use Rattle.model.specs.Windows.{widths_fit, all_finite}
 use Rattle.mlpg_adjust.specs.Trajectory.{gv_on, state_size, numbers_of}
 use Rattle.mlpg_adjust.specs.Clamps.{clamped_high, clamped_low}
 use Rattle.mlpg_adjust.specs.declared.Stream.{Stream}
 use Rattle.mlpg_adjust.specs.declared.refusing.Lengths.{Lengths}
-use Rattle.mlpg_adjust.specs.declared.Created.{Created}
-use Rattle.mlpg_adjust.specs.declared.Created.TheVariants.{Done, Refused}
+use Rattle.mlpg_adjust.specs.declared.Clamped.{Clamped}
 
 -- RULES, Forms: the number of each answer, 0 for none; and how many pairs are clamped high, and how many low
-abbrev pub created : Created → Answer
-created (Done high low) = accepting (high ∷ low ∷ [])
-created (Refused k) = refusing k
+abbrev pub created : Result Clamped Refusal → Answer
+created = answered (λ c. c.high ∷ c.low ∷ [])
 
-abbrev pub created_number : Created → ℕ
+abbrev pub created_number : Result Clamped Refusal → ℕ
 created_number r = (created r).number
-
--- the answer of each number, with so many pairs clamped: a refusal's is not 0, and has no counts
-abbrev pub created_of : ℕ → ℕ → ℕ → Created
-created_of zero high low = Done high low
-created_of (suc k) high low = Refused (suc k)
 
 -- RULES, Sizes: a trajectory's work space is 48 floats and 4 whole numbers a frame
 abbrev pub floats_a_frame : ℕ
@@ -79,9 +74,9 @@ create_refusal s widths coefs ds n = or_else (stream_refusal s widths coefs ds n
 
 -- `create`: the number, how many pairs are clamped, the trajectory, and the work space zeroed, its floats (`space`) and its whole numbers (`counts`)
 pub record CreateSays (s : Stream) (widths : List ℕ) (coefs records : List Float) (ds : List ℕ) (gv : List Float) (switches : List ℕ) (out work : List Float) (marks : List ℕ)
-    (r : Created) (out' work' : List Float) (marks' : List ℕ) : Type 0 where
+    (r : Result Clamped Refusal) (out' work' : List Float) (marks' : List ℕ) : Type 0 where
   pub number : created_number r ≡ create_refusal s widths coefs ds (lengths_of records gv switches out work marks)
-  pub answer : r ≡ created_of (created_number r) (clamped_high s widths records ds) (clamped_low s widths records ds)
+  pub answer : created r ≡ answer_of (created_number r) (clamped_high s widths records ds ∷ clamped_low s widths records ds ∷ [])
   pub numbers : out' ≡ written (created_number r) (numbers_of s widths coefs records ds gv switches) out
   pub space : work' ≡ written (created_number r) (zero_floats (total ds)) work
   pub counts : marks' ≡ written (created_number r) (zero_marks (total ds)) marks

@@ -1,5 +1,5 @@
 -- The trajectory of one stream, from its records: mask, boundaries, closing up, normal equations, global variance, filling back.
-use Rattle.std.specs.Prelude.{Bool, true, false, List, map, ℕ, ◌+◌, ◌*◌, ◌/◌, ◌%◌, length, Float}
+use Rattle.std.specs.Prelude.{Option, None, Some, Bool, true, false, List, map, ℕ, ◌+◌, ◌*◌, ◌/◌, ◌%◌, length, Float}
 use Rattle.std.specs.Float.Ieee.{binary64, mul}
 use Rattle.lists.specs.Totals.{total}
 use Rattle.lists.specs.Build.{build}
@@ -13,8 +13,6 @@ use Rattle.gv.specs.Parmgen.{parmgen}
 use Rattle.lists.specs.Flags.{flag, is_on}
 use Rattle.voicing.specs.Mask.{stream_mask}
 use Rattle.voicing.specs.Windows.{means_in, ivars_in}
-use Rattle.mlpg_adjust.specs.declared.GlobalVariance.{GlobalVariance}
-use Rattle.mlpg_adjust.specs.declared.GlobalVariance.TheVariants.{Off, On}
 use Rattle.mlpg_adjust.specs.declared.Stream.{Stream}
 
 -- RULES, Pairs: how many numbers a record has: windows * v pairs and, in a masked stream, a weight
@@ -66,13 +64,13 @@ module _ (size : ℕ) (records : List Float) (threshold : Float) (ds : List ℕ)
   trajectory v none values = build (λ p. elem (fill none mask (values (p % v))) (p / v)) (total ds * v)
 
 -- RULES, Global variance: what f makes of the weight where GV is on, and x where it is off
-abbrev pub with_gv : {A : Type 0} → GlobalVariance → (Float → A) → A → A
-with_gv Off f x = x
-with_gv (On weight) f x = f weight
+abbrev pub with_gv : {A : Type 0} → Option Float → (Float → A) → A → A
+with_gv None f x = x
+with_gv (Some weight) f x = f weight
 
-abbrev pub gv_on : GlobalVariance → Bool
-gv_on Off = false
-gv_on (On weight) = true
+abbrev pub gv_on : Option Float → Bool
+gv_on None = false
+gv_on (Some weight) = true
 
 -- how many numbers a state of the stream has
 abbrev pub state_size : Stream → List ℕ → ℕ

@@ -2,11 +2,10 @@
 ghost use Rattle.std.specs.Prelude.{◌≡◌, ◌*◌, ◌≤◌, length};
 ghost use Rattle.lists.specs.Totals.{total};
 ghost use Rattle.model.specs.Record.{from_linear};
-ghost use Rattle.mlpg_adjust.specs.declared.Created.TheVariants.{Done};
 ghost use Rattle.mlpg_adjust.specs.Clamps.{clamped_high, clamped_low};
 ghost use Rattle.mlpg_adjust.specs.Inner.Clamps.{state_clamps, clamps_by_states, Recorded};
 
-use super::{Created, Stream};
+use super::{Clamped, Inputs, Stream, record_size};
 use model::voice::model::{Clamps, clamped, msd};
 use voicing::Voicing;
 
@@ -32,33 +31,28 @@ fn of_states(records: &[f64], u: Voicing, durations: &[u32]) -> Clamps
     ensures { result ≡ clamps_by_states u.size records.now u.threshold durations.now }
 {
     let size = u.size;
-    let mut s = 0;
-    let mut from = 0;
     let mut high = 0;
     let mut low = 0;
-    while s < durations.len() {
-        let to = from + size;
-        let frames = lists::wide(durations[s]);
-        let state = of_state(&records[from..to], u.threshold, frames);
+    for (s, frames) in durations.iter().enumerate() {
+        let from = s * size;
+        let state = of_state(&records[from..from + size], u.threshold, *frames as usize);
         high += state.high;
         low += state.low;
-        from = to;
-        s += 1;
     }
     Clamps { high, low }
 }
 
 // What an accepted call answers.
-pub(crate) fn report(stream: Stream, widths: &[u32], records: &[f64], durations: &[u32]) -> Created
-    requires { Recorded stream widths.now records.now durations.now }
-    ensures { result ≡ Done (clamped_high stream widths.now records.now durations.now) (clamped_low stream widths.now records.now durations.now) }
+pub(crate) fn report(stream: Stream, inputs: Inputs) -> Clamped
+    requires { Recorded stream inputs.widths.now inputs.records.now inputs.durations.now }
+    ensures { (result.high ≡ clamped_high stream inputs.entry.widths.now inputs.entry.records.now inputs.entry.durations.now) × (result.low ≡ clamped_low stream inputs.entry.widths.now inputs.entry.records.now inputs.entry.durations.now) }
 {
     let u = Voicing {
-        size: stream.record_size(widths.len()),
+        size: record_size(stream.v, inputs.widths.len() as u8, stream.masked),
         threshold: stream.threshold,
     };
-    let clamps = of_states(records, u, durations);
-    Created::Done {
+    let clamps = of_states(inputs.records, u, inputs.durations);
+    Clamped {
         high: clamps.high as u32,
         low: clamps.low as u32,
     }

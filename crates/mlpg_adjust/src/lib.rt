@@ -1,11 +1,12 @@
 // Maximum likelihood parameter generation: the records of a stream become its trajectory.
 #![tactic(auto)]
 
-ghost use Rattle.std.specs.Prelude.{◌≡◌, [], ◌≤◌, length};
+ghost use Rattle.std.specs.Prelude.{◌≡◌, [], length};
 ghost use Rattle.lists.specs.Totals.{total};
 ghost use Rattle.lists.specs.Answers.{written};
+ghost use Rattle.lists.specs.Ends.{refused};
 ghost use Rattle.mlpg_adjust.specs.Trajectory.{record_size, numbers_of};
-ghost use Rattle.mlpg_adjust.specs.Promise.{created_number, lengths_of, stream_refusal, zero_floats, zero_marks, CreateSays};
+ghost use Rattle.mlpg_adjust.specs.Promise.{lengths_of, stream_refusal, zero_floats, zero_marks, CreateSays};
 ghost use Rattle.mlpg_adjust.specs.Inner.Groups.{Shaped, GvFits, Room};
 
 mod counting;
@@ -13,60 +14,50 @@ mod group;
 mod refusing;
 mod render;
 
+use lists::Refusal;
 use refusing::Lengths;
 
-// Global variance: off, or on with the weight of its means.
-#[derive(Clone, Copy)]
-pub enum GlobalVariance {
-    Off,
-    On(f64),
-}
-
-// A stream: how many components it has, how its frames are voiced, and what the unvoiced ones get.
-#[derive(Clone, Copy)]
+// A stream: how many components it has, how its frames are voiced, what the unvoiced ones get, and the weight of the global variance's means where it is on.
+#[derive(Clone, Copy, Debug, PartialEq)]
 pub struct Stream {
     pub v: u32,
     pub masked: bool,
     pub threshold: f64,
     pub fill: f64,
-    pub gv: GlobalVariance,
+    pub gv: Option<f64>,
 }
 
-impl Stream {
-    // How many numbers a state's record has: its pairs and, if masked, one weight.
-    pub(crate) fn record_size(self, windows: usize) -> usize
-        requires { (self.v ≤ 64) × (windows ≤ 4) }
-        ensures { result ≡ record_size self.v windows self.masked }
-    {
-        let pairs = windows * (self.v as usize);
-        if self.masked {
-            return pairs + pairs + 1;
-        }
-        pairs + pairs
-    }
-}
-
-// Whether the trajectory is written, and how many pairs of its voiced frames were clamped high and low, or the number of why not.
+// What a trajectory is made from, of which the last two are no input with GV off.
 #[derive(Clone, Copy)]
-pub enum Created {
-    Done { high: u32, low: u32 },
-    Refused(u8),
+pub struct Inputs<'a> {
+    pub widths: &'a [u32],
+    pub coefficients: &'a [f64],
+    pub records: &'a [f64],
+    pub durations: &'a [u32],
+    pub gv: &'a [f64],
+    pub switches: &'a [u8],
 }
 
-impl Created {
-    // The refusal's number, 0 for none.
-    pub fn number(self) -> u8
-        ensures { result ≡ created_number self }
-    {
-        match self {
-            Created::Done { high: _, low: _ } => 0,
-            Created::Refused(number) => number,
-        }
+// How many numbers a state's record has: its pairs and, if masked, one weight.
+pub fn record_size(v: u32, windows: u8, masked: bool) -> usize
+    ensures { result ≡ record_size v windows masked }
+{
+    let pairs = windows as usize * v as usize;
+    if masked {
+        return pairs + pairs + 1;
     }
+    pairs + pairs
 }
 
-// Why a stream's inputs are refused, whatever output and work space are lent: the smallest of 1 to 5 that applies, 0 for none.
-pub fn refusal_of_stream(
+// How many pairs of a trajectory's voiced frames were clamped high and low.
+#[derive(Clone, Copy, Debug, PartialEq, Eq)]
+pub struct Clamped {
+    pub high: u32,
+    pub low: u32,
+}
+
+// Why a stream's inputs are refused, whatever output and work space are lent: the smallest of 1 to 5 that applies.
+pub fn check_stream(
     stream: Stream,
     widths: &[u32],
     coefficients: &[f64],
@@ -74,8 +65,8 @@ pub fn refusal_of_stream(
     durations: &[u32],
     gv: &[f64],
     switches: &[u8],
-) -> u8
-    ensures { result ≡ stream_refusal stream widths.now coefficients.now durations.now (lengths_of records.now gv.now switches.now [] [] []) }
+) -> Result<(), Refusal>
+    ensures { refused result ≡ stream_refusal stream widths.now coefficients.now durations.now (lengths_of records.now gv.now switches.now [] [] []) }
 {
     let n = Lengths {
         records: records.len(),
@@ -85,7 +76,7 @@ pub fn refusal_of_stream(
         work: 0,
         marks: 0,
     };
-    refusing::stream_refusal(stream, widths, coefficients, durations, n)
+    refusing::check_stream(stream, widths, coefficients, durations, n)
 }
 
 // `MlpgAdjust::create`: the trajectory of a stream, and how many pairs are clamped. With GV off its two lists are no input.
@@ -100,7 +91,7 @@ pub fn create(
     out: &mut [f64],
     work: &mut [f64],
     marks: &mut [u32],
-) -> Created
+) -> Result<Clamped, Refusal>
     ensures { CreateSays stream widths.now coefficients.now records.now durations.now gv.now switches.now
         out.old work.old marks.old result out.new work.new marks.new }
 {
@@ -112,62 +103,40 @@ pub fn create(
         work: work.len(),
         marks: marks.len(),
     };
-    let refused = refusing::refusal(stream, widths, coefficients, durations, n);
-    if refused != 0 {
-        return Created::Refused(refused);
-    }
-    // Before the trajectory, whose closing up then finds the records in the cache.
-    let answer = counting::report(stream, widths, records, durations);
-    write(
-        stream,
+    refusing::check_create(stream, widths, coefficients, durations, n)?;
+    let inputs = Inputs {
         widths,
         coefficients,
         records,
         durations,
         gv,
         switches,
-        out,
-        work,
-        marks,
-    );
-    answer
+    };
+    // Before the trajectory, whose closing up then finds the records in the cache.
+    let clamped = counting::report(stream, inputs);
+    write(stream, inputs, out, work, marks);
+    Ok(clamped)
 }
 
 // The trajectory in front of the output, and the work space zeroed, where nothing is refused.
-fn write(
-    stream: Stream,
-    widths: &[u32],
-    coefficients: &[f64],
-    records: &[f64],
-    durations: &[u32],
-    gv: &[f64],
-    switches: &[u8],
-    out: &mut [f64],
-    work: &mut [f64],
-    marks: &mut [u32],
-)
-    requires { Shaped stream widths.now coefficients.now records.now durations.now × GvFits stream (length durations.now) (length gv.now) (length switches.now)
-        × Room stream.v (total durations.now) (lengths_of records.now gv.now switches.now out.old work.old marks.old) }
-    ensures { (out.new ≡ written 0 (numbers_of stream widths.now coefficients.now records.now durations.now gv.now switches.now) out.old)
-        × (work.new ≡ written 0 (zero_floats (total durations.now)) work.old)
-        × (marks.new ≡ written 0 (zero_marks (total durations.now)) marks.old) }
+fn write(stream: Stream, inputs: Inputs, out: &mut [f64], work: &mut [f64], marks: &mut [u32])
+    requires { Shaped stream inputs.widths.now inputs.coefficients.now inputs.records.now inputs.durations.now × GvFits stream (length inputs.durations.now) (length inputs.gv.now) (length inputs.switches.now)
+        × Room stream.v (total inputs.durations.now) (lengths_of inputs.records.now inputs.gv.now inputs.switches.now out.old work.old marks.old) }
+    ensures { (out.new ≡ written 0 (numbers_of stream inputs.entry.widths.now inputs.entry.coefficients.now inputs.entry.records.now inputs.entry.durations.now inputs.entry.gv.now inputs.entry.switches.now) out.old)
+        × (work.new ≡ written 0 (zero_floats (total inputs.entry.durations.now)) work.old)
+        × (marks.new ≡ written 0 (zero_marks (total inputs.entry.durations.now)) marks.old) }
 {
-    let frames = lists::total_u32(durations) as usize;
+    let frames = lists::total_u32(inputs.durations) as usize;
     let numbers = frames * (stream.v as usize);
     let floats = frames * 48;
     let counts = frames * 4;
     render::render(
         stream,
-        widths,
-        coefficients,
-        records,
-        durations,
-        gv,
-        switches,
+        inputs,
         &mut out[..numbers],
         &mut work[..floats],
         &mut marks[..counts],
     );
-    lists::fill_f64(work, floats, 0.0);
-    lists::fill_u32(marks, counts, 0);
+    lists::fill(work, floats, 0.0);
+    lists::fill(marks, counts, 0);
 }

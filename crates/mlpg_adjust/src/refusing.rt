@@ -1,8 +1,10 @@
 // Why a trajectory is refused.
 ghost use Rattle.std.specs.Prelude.{◌≡◌, ◌≤◌, length};
+ghost use Rattle.lists.specs.Ends.{refused};
 ghost use Rattle.mlpg_adjust.specs.Promise.{out_of_range, gv_disagrees, disagree, short, stream_refusal, create_refusal};
 
-use super::{GlobalVariance, Stream};
+use super::{Stream, record_size};
+use lists::Refusal;
 
 // The lengths of lists that are not looked into.
 #[derive(Clone, Copy)]
@@ -19,13 +21,7 @@ pub(crate) struct Lengths {
 fn is_out_of_range(v: u32, states: usize) -> bool
     ensures { result ≡ out_of_range v states }
 {
-    if 4096 < states {
-        return true;
-    }
-    if v < 1 {
-        return true;
-    }
-    64 < v
+    (4096 < states) | ((v < 1) | (64 < v))
 }
 
 // Whether GV's lists don't agree. With GV off they are no input.
@@ -33,14 +29,10 @@ fn gv_disagrees(stream: Stream, states: usize, n: Lengths) -> bool
     requires { stream.v ≤ 64 }
     ensures { result ≡ gv_disagrees stream states n }
 {
-    let variance = stream.gv;
-    let GlobalVariance::On(_) = variance else {
+    if stream.gv.is_none() {
         return false;
-    };
-    if n.gv != 2 * lists::wide(stream.v) {
-        return true;
     }
-    n.switches != states
+    (n.gv != 2 * stream.v as usize) | (n.switches != states)
 }
 
 // Whether the lists' lengths don't agree, with so many coefficients and states.
@@ -57,7 +49,7 @@ fn lists_disagree(
     if coefficients as u64 != lists::total_u32(widths) {
         return true;
     }
-    if n.records != states * stream.record_size(widths.len()) {
+    if n.records != states * record_size(stream.v, widths.len() as u8, stream.masked) {
         return true;
     }
     gv_disagrees(stream, states, n)
@@ -68,61 +60,52 @@ fn is_short(v: u32, frames: usize, n: Lengths) -> bool
     requires { (v ≤ 64) × (frames ≤ 65536) }
     ensures { result ≡ short v frames n }
 {
-    if n.out < frames * lists::wide(v) {
-        return true;
-    }
-    if n.work < frames * 48 {
-        return true;
-    }
-    n.marks < frames * 4
+    (n.out < frames * v as usize) | (n.work < frames * 48) | (n.marks < frames * 4)
 }
 
-// The smallest of 1 to 5 that applies, 0 for none.
-pub(crate) fn stream_refusal(
+// The smallest of 1 to 5 that applies.
+pub(crate) fn check_stream(
     stream: Stream,
     widths: &[u32],
     coefficients: &[f64],
     durations: &[u32],
     n: Lengths,
-) -> u8
-    ensures { result ≡ stream_refusal stream widths.now coefficients.now durations.now n }
+) -> Result<(), Refusal>
+    ensures { refused result ≡ stream_refusal stream widths.now coefficients.now durations.now n }
 {
     if !model::voice::window::widths_fit(widths) {
-        return 1;
+        return Err(Refusal::BadWindows);
     }
     if !model::voice::window::all_finite(coefficients) {
-        return 2;
+        return Err(Refusal::BadCoefficient);
     }
     let states = durations.len();
     if is_out_of_range(stream.v, states) {
-        return 3;
+        return Err(Refusal::BadSize);
     }
     if lists_disagree(stream, widths, coefficients.len(), states, n) {
-        return 4;
+        return Err(Refusal::ListsDisagree);
     }
     if lists::total_u32(durations) <= 65_536 {
-        return 0;
+        return Ok(());
     }
-    5
+    Err(Refusal::TooManyFrames)
 }
 
 // And then 6.
-pub(crate) fn refusal(
+pub(crate) fn check_create(
     stream: Stream,
     widths: &[u32],
     coefficients: &[f64],
     durations: &[u32],
     n: Lengths,
-) -> u8
-    ensures { result ≡ create_refusal stream widths.now coefficients.now durations.now n }
+) -> Result<(), Refusal>
+    ensures { refused result ≡ create_refusal stream widths.now coefficients.now durations.now n }
 {
-    let refused = stream_refusal(stream, widths, coefficients, durations, n);
-    if refused != 0 {
-        return refused;
-    }
+    check_stream(stream, widths, coefficients, durations, n)?;
     let frames = lists::total_u32(durations) as usize;
     if is_short(stream.v, frames, n) {
-        return 6;
+        return Err(Refusal::TooLittleRoom);
     }
-    0
+    Ok(())
 }

@@ -9,26 +9,25 @@ ghost use Rattle.mlpg_adjust.specs.Trajectory.{numbers_of, gv_on, with_gv};
 ghost use Rattle.mlpg_adjust.specs.Inner.Groups.{Shaped, GvFits, voiced_in, plan_of};
 
 use super::group::{Plan, render_groups};
-use super::{GlobalVariance, Stream};
+use super::{Inputs, Stream, record_size};
 use model::voice::window::band_width;
 use region::Layout;
 use voicing::Voicing;
 
 // The voiced frames are marked, and what is the same for every component follows from them.
-fn plan_of(
-    stream: Stream,
-    widths: &[u32],
-    coefficients: &[f64],
-    records: &[f64],
-    durations: &[u32],
-    marks: &mut [u32],
-) -> Plan
-    requires { Shaped stream widths.now coefficients.now records.now durations.now × (total durations.now ≤ length marks.old) }
-    ensures { (result ≡ plan_of stream widths.now records.now durations.now)
-        × (marks.new ≡ map flag (voiced_in stream widths.now records.now durations.now) ++ drop (total durations.now) marks.old) }
+fn plan_of(stream: Stream, inputs: Inputs, marks: &mut [u32]) -> Plan
+    requires { Shaped stream inputs.widths.now inputs.coefficients.now inputs.records.now inputs.durations.now × (total inputs.durations.now ≤ length marks.old) }
+    ensures { (result ≡ plan_of stream inputs.entry.widths.now inputs.entry.records.now inputs.entry.durations.now)
+        × (marks.new ≡ map flag (voiced_in stream inputs.entry.widths.now inputs.entry.records.now inputs.entry.durations.now) ++ drop (total inputs.entry.durations.now) marks.old) }
 {
-    let windows = widths.len();
-    let size = stream.record_size(windows);
+    let Inputs {
+        widths,
+        records,
+        durations,
+        ..
+    } = inputs;
+    let windows = widths.len() as u8;
+    let size = record_size(stream.v, windows, stream.masked);
     let u = Voicing {
         size,
         threshold: stream.threshold,
@@ -36,7 +35,7 @@ fn plan_of(
     let n = voicing::mark(records, u, durations, marks);
     let w = band_width(widths);
     let layout = Layout {
-        windows: windows as u8,
+        windows,
         n: n as u32,
         w: w as u8,
     };
@@ -50,12 +49,12 @@ fn plan_of(
 }
 
 // The switches of the voiced frames behind the marks, where the global variance is on.
-fn mark_switches(switch: GlobalVariance, durations: &[u32], switches: &[u8], marks: &mut [u32])
+fn mark_switches(switch: Option<f64>, durations: &[u32], switches: &[u8], marks: &mut [u32])
     requires { (length durations.now ≤ 4096) × (total durations.now ≤ 65536) × (gv_on switch ≡ true → length switches.now ≡ length durations.now)
         × (total durations.now + count (mask_in durations.now marks.old) ≤ length marks.old) }
     ensures { marks.new ≡ with_gv switch (λ weight. sets marks.old (total durations.now) (select (mask_in durations.now marks.old) (expand durations.now switches.now))) marks.old }
 {
-    let GlobalVariance::On(_) = switch else {
+    let Some(_weight) = switch else {
         return;
     };
     voicing::mark_switches(durations, switches, marks);
@@ -64,32 +63,17 @@ fn mark_switches(switch: GlobalVariance, durations: &[u32], switches: &[u8], mar
 // Mask and switches of all frames, then the components, as many side by side as the work space holds.
 pub(crate) fn render(
     stream: Stream,
-    widths: &[u32],
-    coefficients: &[f64],
-    records: &[f64],
-    durations: &[u32],
-    gv: &[f64],
-    switches: &[u8],
+    inputs: Inputs,
     out: &mut [f64],
     work: &mut [f64],
     marks: &mut [u32],
 )
-    requires { Shaped stream widths.now coefficients.now records.now durations.now × GvFits stream (length durations.now) (length gv.now) (length switches.now)
-        × (length out.old ≡ total durations.now * stream.v) × (length work.old ≡ total durations.now * 48) × (length marks.old ≡ total durations.now * 4) }
-    ensures { out.new ≡ numbers_of stream widths.now coefficients.now records.now durations.now gv.now switches.now }
+    requires { Shaped stream inputs.widths.now inputs.coefficients.now inputs.records.now inputs.durations.now × GvFits stream (length inputs.durations.now) (length inputs.gv.now) (length inputs.switches.now)
+        × (length out.old ≡ total inputs.durations.now * stream.v) × (length work.old ≡ total inputs.durations.now * 48) × (length marks.old ≡ total inputs.durations.now * 4) }
+    ensures { out.new ≡ numbers_of stream inputs.entry.widths.now inputs.entry.coefficients.now inputs.entry.records.now inputs.entry.durations.now inputs.entry.gv.now inputs.entry.switches.now }
 {
-    let plan = plan_of(stream, widths, coefficients, records, durations, marks);
+    let plan = plan_of(stream, inputs, marks);
     let switch = stream.gv;
-    mark_switches(switch, durations, switches, marks);
-    render_groups(
-        plan,
-        widths,
-        coefficients,
-        records,
-        durations,
-        marks,
-        gv,
-        work,
-        out,
-    );
+    mark_switches(switch, inputs.durations, inputs.switches, marks);
+    render_groups(plan, inputs, marks, work, out);
 }

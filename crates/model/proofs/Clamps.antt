@@ -21,17 +21,9 @@ use Rattle.model.specs.Record.{means_of, varis_of, from_linear}
 use Rattle.model.specs.Clamps.{is_high, is_low, variances_of, clamped_in}
 use Rattle.model.proofs.Records.{halves, pairs-varis}
 
--- ---- the three cases of a clamp
+-- ---- neither above nor below
 
 module _ (v size : Float) (e : size ≡ abs_of v) where
-  pub clamp-high : lt high_bound size ≡ true → High ≡ clamp_of v
-  unfolding clamp_of
-  clamp-high h = rw (← e, h)
-
-  pub clamp-low : lt high_bound size ≡ false → lt size low_bound ≡ true → Low ≡ clamp_of v
-  unfolding clamp_of
-  clamp-low h l = rw (← e, h, l)
-
   pub clamp_no : lt high_bound size ≡ false → lt size low_bound ≡ false → No ≡ clamp_of v
   unfolding clamp_of
   clamp_no h l = rw (← e, h, l)

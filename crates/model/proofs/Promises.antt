@@ -1,16 +1,17 @@
 -- The promises of the calls that write a record: how each is kept, and that any two outcomes it allows are equal.
-use mathlib.Core.Path.{◌≡◌, refl, sym, ap, ◌∙◌}
+use mathlib.Core.Path.{◌≡◌, sym, ap, ◌∙◌}
 use mathlib.Core.List.{List, ◌++◌, map}
-use Prim.Native.Nat.{ℕ, ◌+◌, ◌-◌, ◌*◌, ◌/◌, ◌<◌, ◌≤◌}
+use Prim.Native.Nat.{ℕ, ◌+◌, ◌-◌, ◌*◌, ◌/◌, ◌≤◌}
 use native.Mathlib.Omega.{arith}
-use borrow.Author.Tests.{lt-ltb, le-ltb}
+use borrow.Author.Tests.{le-ltb}
 use lib.ListN.{length, take, drop, length-map, length-drop}
 use lib.Seq.{sets, sets-eq, take_all, drop_at}
 use borrow.Rule.Slice.PartMut.{put_mid}
 use lib.Ieee.{Float}
-use Rattle.model.specs.declared.voice.model.Mixed.{Mixed}
-use Rattle.model.specs.declared.voice.model.Mixed.TheVariants.{Done, TooShort}
-use Rattle.model.specs.Promise.{mixed_number, MulSays, MulAddSays}
+use Rattle.std.proofs.Common.{Result, Ok}
+use Rattle.lists.specs.declared.Refusal.{Refusal}
+use Rattle.lists.proofs.Ends.{refused-one}
+use Rattle.model.specs.Promise.{MulSays, MulAddSays}
 use Rattle.model.specs.Record.{means_of, varis_of, rest_of}
 use Rattle.model.specs.Mixing.{more_by}
 use Rattle.model.proofs.Records.{means-length, varis-length}
@@ -21,24 +22,14 @@ use Rattle.model.proofs.Adding.{more, added-flat, shorter_length, xy_over, third
 pub answer-one : {A : Type 0} {v r s : A} → r ≡ v → s ≡ v → r ≡ s
 answer-one e d = e ∙ sym d
 
--- each answer has a number of its own
-number-one : (r s : Mixed) → mixed_number r ≡ mixed_number s → r ≡ s
-number-one Done Done e = refl
-number-one Done TooShort e = absurd (omega arith)
-number-one TooShort Done e = absurd (omega arith)
-number-one TooShort TooShort e = refl
-
-pub mul-one : {lin out : List Float} {w : Float} {r s : Mixed} {out' out'' : List Float} → MulSays lin w out r out' → MulSays lin w out s out'' → (r ≡ s) × (out' ≡ out'')
-mul-one {r = r} {s = s} a b = (number-one r s (answer-one a.answer b.answer), answer-one a.output b.output)
+pub mul-one : {lin out : List Float} {w : Float} {r s : Result (Unit {0}) Refusal} {out' out'' : List Float} → MulSays lin w out r out' → MulSays lin w out s out'' → (r ≡ s) × (out' ≡ out'')
+mul-one {r = r} {s = s} a b = (refused-one r s (answer-one a.answer b.answer), answer-one a.output b.output)
 
 pub mul-add-one : {lhs rhs : List Float} {w : Float} {out out' : List Float} → MulAddSays lhs w rhs out → MulAddSays lhs w rhs out' → out ≡ out'
 mul-add-one a b = answer-one a.output b.output
 
 module _ (lin : List Float) (w : Float) (out : List Float) where
-  pub mul-refused : length out < length lin → MulSays lin w out TooShort out
-  mul-refused h = record { answer = rw (lt-ltb (length out) (length lin) h); output = rw (lt-ltb (length out) (length lin) h) }
-
-  pub mul-done : (out' : List Float) → length lin ≤ length out → out' ≡ sets out 0 (map (times w) lin) → MulSays lin w out Done out'
+  pub mul-done : (out' : List Float) → length lin ≤ length out → out' ≡ sets out 0 (map (times w) lin) → MulSays lin w out (Ok tt) out'
   mul-done out' h e =
       let n : length (map (times w) lin) ≡ length lin = length-map lin (times w) in
       let z : 0 + length (map (times w) lin) ≡ length (map (times w) lin) = omega arith in

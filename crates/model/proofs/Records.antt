@@ -3,13 +3,13 @@ use mathlib.Core.Path.{◌≡◌, refl, sym, ap, ◌∙◌}
 use mathlib.Core.List.{List, [], ◌∷◌, ◌++◌, map}
 use Prim.Native.Nat.{ℕ, zero, suc, ◌+◌, ◌-◌, ◌*◌, ◌/◌, ◌%◌, ◌<◌, ◌≤◌}
 use native.Mathlib.Omega.{arith}
+use Rattle.std.proofs.Common.{Some, None}
 use lib.ListN.{length, take, drop, get_or, length-append, length-drop, length-map, take-append-drop, drop_of_length-le}
 use lib.Seq.{drop-cons, drop-drop, length-take-le, take_at, drop_at, get_or-take, get_or-drop}
 use lib.Ieee.{Float, nan}
-use Rattle.model.specs.declared.mean_vari.MeanVari.{MeanVari}
 use Rattle.model.specs.declared.voice.model.Weight.{Weight}
 use Rattle.model.specs.declared.voice.model.Weight.TheVariants.{Given, Absent}
-use Rattle.model.specs.declared.voice.model.Found.TheVariants.{At, Missing}
+use Rattle.model.specs.declared.mean_vari.MeanVari.{MeanVari}
 use Rattle.model.specs.Pair.{pair, pairs_of}
 use Rattle.model.specs.Record.{Parameter, means_of, varis_of, rest_of, first, from_linear, weights, to_linear, pair_at}
 use Rattle.model.proofs.Pairs.{pairs-length, pairs-at}
@@ -115,13 +115,13 @@ linear_forth p =
 
 -- ---- reading
 
-found_at : (ps : List MeanVari) (n : ℕ) (z : MeanVari) → n < length ps → pair_at ps n ≡ At (get_or ps n z)
+found_at : (ps : List MeanVari) (n : ℕ) (z : MeanVari) → n < length ps → pair_at ps n ≡ Some (get_or ps n z)
 unfolding pair_at
 found_at [] n z h = absurd (omega arith)
 found_at (p ∷ ps) zero z h = refl
 found_at (p ∷ ps) (suc n) z h = found_at ps n z (omega arith)
 
-missing_at : (ps : List MeanVari) (n : ℕ) → length ps ≤ n → pair_at ps n ≡ Missing
+missing_at : (ps : List MeanVari) (n : ℕ) → length ps ≤ n → pair_at ps n ≡ None
 unfolding pair_at
 missing_at [] n h = refl
 missing_at (p ∷ ps) zero h = absurd (omega arith)
@@ -129,17 +129,17 @@ missing_at (p ∷ ps) (suc n) h = missing_at ps n (omega arith)
 
 module _ (lin : List Float) where
   -- the pair of a number below the count
-  pub pair_found : (n : ℕ) → n < length lin / 2 → pair_at (from_linear lin).parameters n ≡ At (pair (get_or lin n nan) (get_or lin (length lin / 2 + n) nan))
+  pub pair_found : (n : ℕ) → n < length lin / 2 → pair_at (from_linear lin).parameters n ≡ Some (pair (get_or lin n nan) (get_or lin (length lin / 2 + n) nan))
   unfolding from_linear
   pair_found n h =
       let a = means_of lin in
       let b = varis_of lin in
       let z : MeanVari = pair nan nan in
       found_at (pairs_of a b) n z (omega (arith, pairs-length a b, means-length lin, varis-length lin))
-      ∙ ap At (pairs-at a b n z (omega (arith, means-length lin, varis-length lin)))
+      ∙ ap Some (pairs-at a b n z (omega (arith, means-length lin, varis-length lin)))
       ∙ rw (get_or-take (length lin / 2) lin n nan h, get_or-take (length lin / 2) (drop (length lin / 2) lin) n nan h, get_or-drop)
 
-  pub pair_missing : (n : ℕ) → length lin / 2 ≤ n → pair_at (from_linear lin).parameters n ≡ Missing
+  pub pair_missing : (n : ℕ) → length lin / 2 ≤ n → pair_at (from_linear lin).parameters n ≡ None
   unfolding from_linear
   pair_missing n h = missing_at (pairs_of (means_of lin) (varis_of lin)) n (omega (arith, pairs-length (means_of lin) (varis_of lin), means-length lin, varis-length lin))
 

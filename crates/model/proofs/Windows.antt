@@ -6,12 +6,14 @@ use mathlib.Core.Logic.{⊎_elim}
 use Prim.Native.Nat.{ℕ, zero, suc, ◌+◌, ◌^◌, ◌<◌, ◌≤◌, min, max}
 use native.Mathlib.Numerals.{add-one}
 use native.Mathlib.Omega.{arith}
-use borrow.Author.Tests.{le-leb, lt-leb, leb-true, eq-eqb, ne_eqb, not-true, not-false}
+use borrow.Author.Tests.{leb-true, eq-eqb, ne_eqb, not-false}
 use lib.Dec.{T, leb}
-use lib.ListN.{length, take, drop, get_or, drop_of_length-le, length-take, get_or-eq_default, take-append-drop}
-use lib.Seq.{drop-cons, get_or-take, get_or-drop}
-use lib.Ieee.{Float, nan, inf, fin, lt}
+use lib.ListN.{length, take, drop, get_or, length-take, get_or-eq_default, take-append-drop}
+use lib.Seq.{get_or-take, get_or-drop}
+use lib.Ieee.{Float, nan, inf, fin}
 use lib.Ieee.Scale as scale
+use Rattle.std.specs.Float.{float_is_finite}
+use Rattle.std.specs.List.{list_all}
 use Rattle.lists.specs.Build.{build, fold_from}
 use Rattle.lists.specs.Parts.{part}
 use Rattle.lists.specs.Totals.{total}
@@ -21,25 +23,21 @@ use Rattle.lists.proofs.Parts.{take_min, take-both}
 use Rattle.lists.proofs.Sums.{total-whole}
 use Rattle.floats.specs.Numbers.{nought}
 use Rattle.floats.proofs.Signs.{zero-finite, nought-zero}
-use Rattle.model.specs.Windows.{between, all_of, finite, widths_fit, all_finite, window_refusal, longest, band_width, width_of, window_start}
-
--- ---- a loop that tests each item: what the items from i on say is what all say
-
-module _ {A : Type 0} (p : A → Bool) (xs : List A) (i : ℕ) (whole : Bool) (k : all_of p (drop i xs) ≡ whole) where
-  module _ (z : A) (t : Bool) (h : i < length xs) (e : t ≡ p (get_or xs i z)) where
-    pub all-next : not t ≡ false → all_of p (drop (i + 1) xs) ≡ whole
-    unfolding all_of
-    all-next n = rw add-one (rw (drop-cons xs i z h, ← e, not-false t n) at k)
-
-    pub all_stop : not t ≡ true → false ≡ whole
-    unfolding all_of
-    all_stop n = rw (drop-cons xs i z h, ← e, not-true t n) at k
-
-  pub all_done : length xs ≤ i → true ≡ whole
-  unfolding all_of
-  all_done h = rw (drop_of_length-le xs h) at k
+use Rattle.model.specs.Windows.{between, all_of, finite, widths_fit, all_finite, window_refusal, longest, band_width, window_start}
 
 -- ---- a test of every item, of lists that are joined or cut, and by a rule
+
+pub all_listed : {A : Type 0} (p : A → Bool) (xs : List A) → list_all p xs ≡ all_of p xs
+unfolding all_of
+all_listed p [] = refl
+all_listed p (x ∷ xs) = ap (λ (b : Bool). p x && b) (all_listed p xs)
+
+-- the library's test of a float is this one
+pub finite_is : (x : Float) → float_is_finite x ≡ finite x
+unfolding float_is_finite finite
+finite_is nan = refl
+finite_is (inf s) = refl
+finite_is (fin s m e) = refl
 
 module _ {A : Type 0} (p : A → Bool) where
   pub all_append : (xs ys : List A) → all_of p (xs ++ ys) ≡ (all_of p xs && all_of p ys)
@@ -72,54 +70,15 @@ module _ {A : Type 0} (p : A → Bool) where
     pub all_fails : (n i : ℕ) → i < n → p (f i) ≡ false → all_of p (build f n) ≡ false
     all_fails n i l h = by_test (all_of p (build f n)) (λ t. absurd (true≢false (sym (all_built n i t l) ∙ h))) (λ e. e)
 
--- ---- a number below infinity and above its negative
-
-pub finite-below : (x : Float) → lt x (inf false) ≡ true → lt (inf true) x ≡ finite x
-unfolding lt finite
-finite-below nan h = refl
-finite-below (inf true) h = refl
-finite-below (inf false) h = sym h
-finite-below (fin s m e) h = refl
-
-pub finite-not-below : (x : Float) → lt x (inf false) ≡ false → false ≡ finite x
-unfolding lt finite
-finite-not-below nan h = refl
-finite-not-below (inf s) h = refl
-finite-not-below (fin s m e) h = sym h
-
--- ---- between two bounds
-
-module _ (low high n : ℕ) where
-  pub between-under : n < low → false ≡ between low high n
-  between-under h = rw (lt-leb low n h)
-
-  pub between-from : low ≤ n → leb n high ≡ between low high n
-  between-from h = rw (le-leb low n h)
-
 -- ---- one window of a set
 
 module _ (ws : List ℕ) (i : ℕ) where
-  pub width-at : i < min 4 (length ws) → get_or ws i 0 ≡ width_of (take 4 ws) i
-  width-at h = sym (get_or-take 4 ws i 0 (omega arith))
-
-  pub width-past : min 4 (length ws) ≤ i → 0 ≡ width_of (take 4 ws) i
-  width-past h = sym (get_or-eq_default (take 4 ws) 0 (rw length-take h))
-
   pub start-at : (k : ℕ) → k ≡ min (min i 4) (length ws) → total (take (2 ^ 32) (take k ws)) ≡ window_start (take 4 ws) i
   start-at k e =
       let l : length (take k ws) ≤ 4294967296 = rw length-take (omega arith) in
       total-whole (take k ws) l ∙ ap total (ap (λ (m : ℕ). take m ws) e ∙ take_min (min i 4) ws ∙ sym (take-both i 4 ws))
 
--- ---- the ways out of a check
-
-module _ (ws : List ℕ) (t : Bool) (e : t ≡ between 1 4 (length ws)) where
-  pub fit_none : not t ≡ true → false ≡ widths_fit ws
-  unfolding widths_fit
-  fit_none n = rw (← e, not-true t n)
-
-  pub fit-each : not t ≡ false → all_of (between 1 15) ws ≡ widths_fit ws
-  unfolding widths_fit
-  fit-each n = rw (← e, not-false t n)
+-- ---- both of two tests
 
 pub and_first : (a b : Bool) → a && b ≡ true → a ≡ true
 and_first true b h = refl
@@ -159,27 +118,18 @@ module _ (ws : List ℕ) (f : widths_fit ws ≡ true) where
   pub fit-few : length ws ≤ 4
   fit-few = leb-true (length ws) 4 (and_second (leb 1 (length ws)) (leb (length ws) 4) counted)
 
-module _ (ws : List ℕ) (cs : List Float) (f : Bool) (e : f ≡ widths_fit ws) where
-  pub refused_1 : not f ≡ true → ◌≡◌ {A = ℕ} 1 (window_refusal ws cs)
+-- the ways out of a check, once the first two tests have held
+module _ (ws : List ℕ) (cs : List Float) (f : Bool) (e : f ≡ widths_fit ws) (n : not f ≡ false) (g : Bool) (d : g ≡ all_finite cs) (m : not g ≡ false) (t : ℕ) (s : t ≡ total (take (2 ^ 32) ws)) where
+  summed : t ≡ total ws
+  summed = s ∙ total-whole ws (omega (arith, fit-few ws (sym e ∙ not-false f n)))
+
+  pub refused_4 : (t ≡ length cs → ⊥) → ◌≡◌ {A = ℕ} 4 (window_refusal ws cs)
   unfolding window_refusal
-  refused_1 n = rw (← e, not-true f n)
+  refused_4 x = rw (← e, not-false f n, ← d, not-false g m, ← summed, ne_eqb (length cs) t (λ q. x (sym q)))
 
-  module _ (n : not f ≡ false) (g : Bool) (d : g ≡ all_finite cs) where
-    pub refused_2 : not g ≡ true → ◌≡◌ {A = ℕ} 2 (window_refusal ws cs)
-    unfolding window_refusal
-    refused_2 m = rw (← e, not-false f n, ← d, not-true g m)
-
-    module _ (m : not g ≡ false) (t : ℕ) (s : t ≡ total (take (2 ^ 32) ws)) where
-      summed : t ≡ total ws
-      summed = s ∙ total-whole ws (omega (arith, fit-few ws (sym e ∙ not-false f n)))
-
-      pub refused_4 : (t ≡ length cs → ⊥) → ◌≡◌ {A = ℕ} 4 (window_refusal ws cs)
-      unfolding window_refusal
-      refused_4 x = rw (← e, not-false f n, ← d, not-false g m, ← summed, ne_eqb (length cs) t (λ q. x (sym q)))
-
-      pub refused_none : t ≡ length cs → ◌≡◌ {A = ℕ} 0 (window_refusal ws cs)
-      unfolding window_refusal
-      refused_none x = rw (← e, not-false f n, ← d, not-false g m, ← summed, eq-eqb (length cs) t (sym x))
+  pub refused_none : t ≡ length cs → ◌≡◌ {A = ℕ} 0 (window_refusal ws cs)
+  unfolding window_refusal
+  refused_none x = rw (← e, not-false f n, ← d, not-false g m, ← summed, eq-eqb (length cs) t (sym x))
 
 -- ---- no window is longer than the longest, and the longest is within the band
 

@@ -1,10 +1,8 @@
 -- A state's record: pairs and a voicing weight, and the flat list that says them.
-use Rattle.std.specs.Prelude.{List, [], ◌∷◌, ◌++◌, map, ℕ, zero, suc, ◌+◌, ◌*◌, ◌/◌, length, take, drop, Float}
-use Rattle.model.specs.declared.mean_vari.MeanVari.{MeanVari}
+use Rattle.std.specs.Prelude.{Option, Some, None, List, [], ◌∷◌, ◌++◌, map, ℕ, zero, suc, ◌+◌, ◌*◌, ◌/◌, length, take, drop, Float}
 use Rattle.model.specs.declared.voice.model.Weight.{Weight}
 use Rattle.model.specs.declared.voice.model.Weight.TheVariants.{Given, Absent}
-use Rattle.model.specs.declared.voice.model.Found.{Found}
-use Rattle.model.specs.declared.voice.model.Found.TheVariants.{At, Missing}
+use Rattle.model.specs.declared.mean_vari.MeanVari.{MeanVari}
 use Rattle.model.specs.Pair.{pairs_of}
 
 -- RULES, Pairs: a state's pairs and its voicing weight; the Rust's `ModelParameter`
@@ -48,7 +46,7 @@ abbrev pub pair_number : ℕ → ℕ → ℕ → ℕ
 pair_number v window component = v * window + component
 
 -- the pair of a number, counted from 0
-unfoldable pub pair_at : List MeanVari → ℕ → Found
-pair_at [] n = Missing
-pair_at (p ∷ ps) zero = At p
+unfoldable pub pair_at : List MeanVari → ℕ → Option MeanVari
+pair_at [] n = None
+pair_at (p ∷ ps) zero = Some p
 pair_at (p ∷ ps) (suc n) = pair_at ps n

@@ -5,11 +5,11 @@ ghost use Rattle.floats.specs.Numbers.{nought};
 ghost use Rattle.model.specs.Pair.{pair, inverse_by, clamp_of, inverted, with0, weighted_by, plus, sum_of};
 ghost use Rattle.model.specs.Clamps.{is_high, is_low};
 
-#[derive(Clone, Copy)]
+#[derive(Clone, Copy, Debug, PartialEq)]
 pub struct MeanVari(pub f64, pub f64);
 
 // Whether the inverse of a variance is clamped: high where its size is above 1e19, low where it is below 1e-19. NaN is neither.
-#[derive(Clone, Copy)]
+#[derive(Clone, Copy, Debug, PartialEq, Eq)]
 pub enum Clamp {
     High,
     Low,
@@ -17,6 +17,7 @@ pub enum Clamp {
 }
 
 impl Clamp {
+    #[tactic(auto, unfolding(crate::specs::Pair::clamp_of))]
     pub fn of(vari: f64) -> Self
         ensures { result ≡ clamp_of vari }
     {
@@ -45,26 +46,18 @@ impl Clamp {
     pub fn high(self) -> usize
         ensures { result ≡ flag (is_high self) }
     {
-        match self {
-            Clamp::High => 1,
-            Clamp::Low => 0,
-            Clamp::No => 0,
-        }
+        usize::from(self == Clamp::High)
     }
 
     pub fn low(self) -> usize
         ensures { result ≡ flag (is_low self) }
     {
-        match self {
-            Clamp::High => 0,
-            Clamp::Low => 1,
-            Clamp::No => 0,
-        }
+        usize::from(self == Clamp::Low)
     }
 }
 
 // A pair with its inverse variance, and whether that was clamped.
-#[derive(Clone, Copy)]
+#[derive(Clone, Copy, Debug, PartialEq)]
 pub struct Inverted {
     pub pair: MeanVari,
     pub clamp: Clamp,
@@ -117,12 +110,9 @@ impl MeanVari {
 pub fn sum(means: &[f64], varis: &[f64]) -> MeanVari
     ensures { result ≡ sum_of means.now varis.now }
 {
-    let end = lists::least(means.len(), varis.len());
     let mut total = MeanVari::zero();
-    let mut i = 0;
-    while i < end {
-        total = total.add(MeanVari::new(means[i], varis[i]));
-        i += 1;
+    for (mean, vari) in means.iter().zip(varis) {
+        total = total.add(MeanVari::new(*mean, *vari));
     }
     total
 }

@@ -9,9 +9,8 @@ use Rattle.lists.specs.Bytes.{Bytes}
 use Rattle.lists.specs.Answers.{Answer, accepting}
 use Rattle.lists.proofs.Refusals.{or_none, none_then}
 use Rattle.lists.proofs.Answers.{accepted_is}
-use Rattle.read_along.specs.declared.Counted.{Counted}
-use Rattle.read_along.specs.declared.Counted.TheVariants.{Number}
-use Rattle.read_along.specs.declared.file.Written.TheVariants as bytes
+use Rattle.std.proofs.Common.{Result, Ok}
+use Rattle.read_along.specs.declared.WordsRefusal.{WordsRefusal}
 use Rattle.read_along.specs.Words.{spans_of}
 use Rattle.read_along.specs.Format.{spans_in, formed, bytes_of_file}
 use Rattle.read_along.specs.Promise.{timing_refusal, file_refusal, room_refusal, Writes, all_ends, SpansSays, WriteSays, ReadSays}
@@ -47,7 +46,7 @@ spans-writable words nstate ds e =
 
 -- ---- what was written
 
-module _ (words : List ℕ) (nstate : ℕ) (ds out out' : List ℕ) (n : ℕ) (wrote : WriteSays words nstate ds out (bytes.Bytes n) out') where
+module _ (words : List ℕ) (nstate : ℕ) (ds out out' : List ℕ) (n : ℕ) (wrote : WriteSays words nstate ds out (Ok n) out') where
   abbrev file : List ℕ
   file = bytes_of_file (spans_of words nstate ds)
 
@@ -63,7 +62,7 @@ module _ (words : List ℕ) (nstate : ℕ) (ds out out' : List ℕ) (n : ℕ) (w
   }
 
   -- reading them says what `spans` would, whatever room there is
-  pub written_read : (spans : List ℕ) (r : Counted) (spans' : List ℕ) → ReadSays (take n out') spans r spans' → SpansSays words nstate ds spans r spans'
+  pub written_read : (spans : List ℕ) (r : Result ℕ WordsRefusal) (spans' : List ℕ) → ReadSays (take n out') spans r spans' → SpansSays words nstate ds spans r spans'
   written_read spans r spans' reads =
       let f = file-formed (take n out') (spans_of words nstate ds) write_file in
       let k : file_refusal (take n out') ≡ 0 = rw f.0 in
@@ -71,7 +70,7 @@ module _ (words : List ℕ) (nstate : ℕ) (ds out out' : List ℕ) (n : ℕ) (w
 
 -- ---- what is read
 
-pub read-file : (bytes : List ℕ) → Bytes bytes → (spans : List ℕ) (n : ℕ) (spans' : List ℕ) → ReadSays bytes spans (Number n) spans'
+pub read-file : (bytes : List ℕ) → Bytes bytes → (spans : List ℕ) (n : ℕ) (spans' : List ℕ) → ReadSays bytes spans (Ok n) spans'
     → (n ≡ length (spans_in bytes)) × TimingFile bytes (spans_in bytes) × (spans' ≡ all_ends (spans_in bytes) ++ drop (2 * n) spans)
 read-file bytes b spans n spans' reads =
     let w = writes_accepted (file_refusal bytes) (length (spans_in bytes)) (all_ends (spans_in bytes)) spans n spans' reads in

@@ -18,7 +18,8 @@ use Rattle.lists.proofs.Joins.{rows_none, rows_next}
 use Rattle.spool.specs.Refusal.{trajectory_refusal}
 use Rattle.spool.specs.Promise.{ExcerptSays as StateSays}
 use Rattle.spool.proofs.Excerpts.{excerpts_from as states-from}
-use Rattle.read_along.specs.declared.Part.TheVariants.{Numbers}
+use Rattle.std.proofs.Common.{Ok}
+use Rattle.lists.specs.declared.Span.{Span as Part}
 use Rattle.read_along.specs.Words.{states_before, states_of, first_frame, own_frames, span_of, excerpt_start, excerpt_count}
 use Rattle.read_along.specs.Promise.{parted_as, words_refusal, excerpt_refusal, PartOfSays, ExcerptSays}
 use Rattle.read_along.proofs.Frames.{states-next, states-within, first-none, first_next, first-within, first-end}
@@ -34,15 +35,15 @@ module _ (words : List ℕ) (nstate : ℕ) (ds : List ℕ) where
 
   -- ---- an excerpt by its places
 
-  module _ (t : Bor (List Float)) (v word first count : ℕ) (says : PartOfSays words nstate ds t.now v word (Numbers first count)) where
-    told : (excerpt_refusal words nstate ds (length t.now) v word ≡ 0) × (first ≡ excerpt_start v (span_of words nstate ds word)) × (count ≡ excerpt_count v (span_of words nstate ds word))
+  module _ (t : Bor (List Float)) (v word : ℕ) (p : Part) (says : PartOfSays words nstate ds t.now v word (Ok p)) where
+    told : (excerpt_refusal words nstate ds (length t.now) v word ≡ 0) × (p.first ≡ excerpt_start v (span_of words nstate ds word)) × (p.count ≡ excerpt_count v (span_of words nstate ds word))
     told =
-        let a = accepted_is (parted_as (Numbers first count)) _ _ says refl in
-        let l : first ∷ count ∷ [] ≡ excerpt_start v (span_of words nstate ds word) ∷ excerpt_count v (span_of words nstate ds word) ∷ [] = a.1 in
+        let a = accepted_is (parted_as (Ok p)) _ _ says refl in
+        let l : p.first ∷ p.count ∷ [] ≡ excerpt_start v (span_of words nstate ds word) ∷ excerpt_count v (span_of words nstate ds word) ∷ [] = a.1 in
         (a.0, cc, cc)
 
     -- it lies in the trajectory
-    pub part-fits : first + count ≤ length t.now
+    pub part-fits : p.first + p.count ≤ length t.now
     part-fits =
         let z = or_none (words_refusal (trajectory_refusal (length t.now) ds v) words nstate ds) _ told.0 in
         let h : word < length words = ltb-true word (length words) (none_then (ltb word (length words)) 1 z.1) in
@@ -50,7 +51,7 @@ module _ (words : List ℕ) (nstate : ℕ) (ds : List ℕ) where
         omega (arith, told.1, told.2, count_is v word, ends_with v word h, mul-le-mul_right v (first-within words nstate ds (word + 1)), k.1.agree)
 
     -- and is what `excerpt` hands back
-    pub part-handed : (r : Bor (List Float)) → ExcerptSays words nstate ds t v word r → r.now ≡ take count (drop first t.now)
+    pub part-handed : (r : Bor (List Float)) → ExcerptSays words nstate ds t v word r → r.now ≡ take p.count (drop p.first t.now)
     part-handed r s = rw (told.1, told.2) (rw told.0 at s.numbers)
 
   -- ---- the excerpts of all words

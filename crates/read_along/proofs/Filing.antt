@@ -8,7 +8,7 @@ use native.Mathlib.Omega.{arith}
 use borrow.Author.Tests.{eq-eqb, ne_eqb, ltb-false, ltb-true, le-leb, lt-leb, not-false}
 use lib.Dec.{leb, ltb, eqb}
 use lib.ListN.{length, take, drop, get_or, drop_of_length-le}
-use lib.Seq.{sets, length-sets, drop-cons}
+use lib.Seq.{sets, drop-cons}
 use Rattle.lists.specs.Build.{rows}
 use Rattle.lists.specs.Bytes.{Bytes, bytes_of, starts_with}
 use Rattle.lists.proofs.Flags.{neither}
@@ -65,9 +65,6 @@ module _ (bytes : List ℕ) where
     pub within : i ≤ count_of bytes
     pub rest : touching end (drop i (spans_in bytes)) ≡ touching 0 (spans_in bytes)
 
-  pub none_touch : Touching 0 0
-  none_touch = record { within = zero-le; rest = refl }
-
   module _ {end i : ℕ} (k : Touching end i) where
     module _ (h : i < count_of bytes) (first after : ℕ) (f : first ≡ number_at bytes (head_bytes + span_bytes * i)) (a : after ≡ number_at bytes (head_bytes + span_bytes * i + 4)) where
       here : touching 0 (spans_in bytes) ≡ (eqb first end && (leb end after && touching after (drop (i + 1) (spans_in bytes))))
@@ -111,9 +108,6 @@ module _ (bytes : List ℕ) where
       unfolding formed
       as_touching e = rw (m, ← w, eq-eqb v 1 one, ← c, eq-eqb (length bytes) (head_bytes + span_bytes * n) e)
 
-  pub malformed_3 : formed bytes ≡ false → 3 ≡ file_refusal bytes
-  malformed_3 e = rw e
-
   pub formed_0 : formed bytes ≡ true → file_refusal bytes ≡ 0
   formed_0 e = rw e
 
@@ -130,9 +124,6 @@ module _ (bytes : List ℕ) where
   taking spans₀ = record { within = zero-le; so_far = rw (rows_none row) }
 
   module _ {spans₀ spans : List ℕ} {i : ℕ} (k : Taking spans₀ spans i) where
-    pub taking-long : length spans ≡ length spans₀
-    taking-long = ap length k.so_far ∙ length-sets spans₀ 0 (rows row i)
-
     pub taking-next : i < count_of bytes → (first after : ℕ) → first ≡ number_at bytes (head_bytes + span_bytes * i) → after ≡ number_at bytes (head_bytes + span_bytes * i + 4) → (spans' : List ℕ)
         → spans' ≡ sets spans (2 * i) (both_ends (span first after)) → Taking spans₀ spans' (i + 1)
     taking-next h first after f a spans' s = record { within = omega arith; so_far = rows-stored row 2 i 0 (2 * i) spans₀ spans spans' (λ t. refl) k.so_far (omega arith) (s ∙ rw (f, a)) }

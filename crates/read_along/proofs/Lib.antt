@@ -6,6 +6,7 @@ pub mod Files
 pub mod Back
 pub mod One
 pub mod Refusing
+mod Ends
 mod Lengths
 mod Steps
 mod Passes

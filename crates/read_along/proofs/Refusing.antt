@@ -1,9 +1,9 @@
 -- When words are refused, and what is known of those that aren't.
 use mathlib.Core.Path.{◌≡◌, refl, sym, ap, ◌∙◌}
 use mathlib.Core.Logic.{⊎_elim, ◌≢◌}
-use mathlib.Core.Bool.{Bool, true, false, cond, not, ◌&&◌, ◌||◌}
+use mathlib.Core.Bool.{Bool, true, false, cond, ◌&&◌, ◌||◌}
 use mathlib.Core.List.{List}
-use Prim.Native.Nat.{ℕ, zero, suc, ◌*◌, ◌/◌, ◌%◌, ◌^◌, ◌≤◌, ◌<◌}
+use Prim.Native.Nat.{ℕ, ◌*◌, ◌/◌, ◌%◌, ◌^◌, ◌≤◌, ◌<◌}
 use native.Mathlib.Nat.{mul_comm, mul-mod_left, div-add-mod, div-eq_of_eq-mul_left}
 use native.Mathlib.Omega.{arith}
 use borrow.Author.Tests.{lt-leb, le-leb, leb-true, lt-ltb, le-ltb, ltb-false, eq-eqb, ne_eqb, eqb-true}
@@ -13,7 +13,12 @@ use Rattle.lists.specs.Sizes.{most_label_states, most_words}
 use Rattle.lists.specs.Flags.{is_on}
 use Rattle.lists.specs.Totals.{total}
 use Rattle.lists.proofs.Numbers.{same_or_not}
-use Rattle.lists.proofs.Flags.{both, neither, off_zero}
+use Rattle.std.proofs.Common.{Result, Ok, Err, is_err}
+use Rattle.lists.specs.declared.Refusal.{Refusal}
+use Rattle.lists.specs.Refusals.{number_of}
+use Rattle.lists.specs.Ends.{refused}
+use Rattle.lists.proofs.Ends.{some_number}
+use Rattle.lists.proofs.Flags.{both, neither, on_true, off_zero}
 use Rattle.lists.proofs.Refusals.{or_none, none_then}
 use Rattle.lists.proofs.Sums.{total-whole}
 use Rattle.spool.specs.Refusal.{durations_refusal, trajectory_refusal}
@@ -50,10 +55,10 @@ module _ (words : List ℕ) (nstate : ℕ) (ds : List ℕ) where
 
 -- ---- the refusal
 
--- the crate below has given another number than 0
-pub refusing : (below : ℕ) → not (eqb below 0) ≡ is_on below
-refusing zero = refl
-refusing (suc k) = rw (ne_eqb (suc k) 0 (λ e. omega arith))
+-- the crate below refuses where its number is another than 0
+pub refusing : (below : Result (Unit {0}) Refusal) → is_err below ≡ is_on (refused below)
+refusing (Ok done) = refl
+refusing (Err e) = sym (on_true (number_of e) (λ z. let h = some_number e in omega arith))
 
 module _ (below : ℕ) (words : List ℕ) (nstate : ℕ) (ds : List ℕ) where
   pub words_5 : label_outside nstate || is_on below ≡ true → 5 ≡ words_refusal below words nstate ds
@@ -68,9 +73,6 @@ module _ (below : ℕ) (words : List ℕ) (nstate : ℕ) (ds : List ℕ) where
     pub words_0 : agreeing words nstate ds ≡ true → 0 ≡ words_refusal below words nstate ds
     unfolding words_refusal
     words_0 h = rw (n, h)
-
-    pub some-states : 1 ≤ nstate
-    some-states = ltb-false nstate 1 (neither (ltb nstate 1) (ltb most_label_states nstate) (neither (label_outside nstate) (is_on below) n).0).0
 
   -- nothing is refused, so each test holds
   pub record Passed : Type 0 where

@@ -2,9 +2,9 @@
 use mathlib.Core.Path.{◌≡◌, ap, ◌∙◌}
 use mathlib.Core.List.{List}
 use Prim.Native.Nat.{ℕ, ◌+◌, ◌-◌, ◌*◌, ◌^◌, ◌≤◌, ◌<◌}
-use native.Mathlib.Nat.{add-sub_cancel_left, mul-le-mul}
+use native.Mathlib.Nat.{add-sub_cancel_left}
 use native.Mathlib.Omega.{arith}
-use lib.ListN.{length, take, drop, get_or, length-take}
+use lib.ListN.{length, take, drop, length-take}
 use Rattle.lists.specs.Totals.{total}
 use Rattle.lists.specs.Sizes.{most_frames}
 use Rattle.lists.proofs.Sums.{total-whole}
@@ -20,28 +20,25 @@ module _ (words : List ℕ) (nstate : ℕ) (ds : List ℕ) (t : Timed words nsta
 
   module _ (word : ℕ) (h : word < length words) where
     -- what `behind` adds up
-    module _ (here : Start) (e : here ≡ word_start words nstate ds word) (labels width : ℕ) (l : labels ≡ get_or words word 0) (w : width ≡ nstate) where
-      product : labels * width ≡ states_of words nstate word
-      product = rw (l, w)
-
+    module _ (here : Start) (e : here ≡ word_start words nstate ds word) where
       states : here.state ≡ states_before words nstate word
       states = ap (λ (s : Start). s.state) e
 
       frame : here.frame ≡ first_frame words nstate ds word
       frame = ap (λ (s : Start). s.frame) e
 
-      step-state : here.state + labels * width ≡ states_before words nstate (word + 1)
-      step-state = omega (arith, product, states, states-next words nstate ds word h)
+      step-state : here.state + states_of words nstate word ≡ states_before words nstate (word + 1)
+      step-state = omega (arith, states, states-next words nstate ds word h)
 
-      pub step-within : here.state + labels * width ≤ length ds
+      pub step-within : here.state + states_of words nstate word ≤ length ds
       step-within = omega (arith, step-state, states-within words nstate ds t (word + 1))
 
-      module _ (frames : ℕ) (f : frames ≡ total (take (2 ^ 32) (take (here.state + labels * width - here.state) (drop here.state ds)))) where
+      module _ (frames : ℕ) (f : frames ≡ total (take (2 ^ 32) (take (here.state + states_of words nstate word - here.state) (drop here.state ds)))) where
         own : frames ≡ own_frames words nstate ds word
         own =
-            let n : here.state + labels * width - here.state ≡ labels * width = add-sub_cancel_left here.state (labels * width) in
-            f ∙ total-whole (take (here.state + labels * width - here.state) (drop here.state ds)) (simp length-take (omega (arith, n, step-within, t.states)))
-            ∙ rw (n, product, states)
+            let n : here.state + states_of words nstate word - here.state ≡ states_of words nstate word = add-sub_cancel_left here.state (states_of words nstate word) in
+            f ∙ total-whole (take (here.state + states_of words nstate word - here.state) (drop here.state ds)) (simp length-take (omega (arith, n, step-within, t.states)))
+            ∙ rw (n, states)
 
         step-frame : here.frame + frames ≡ first_frame words nstate ds (word + 1)
         step-frame = omega (arith, own, frame, first_next words nstate ds word h)
@@ -49,25 +46,25 @@ module _ (words : List ℕ) (nstate : ℕ) (ds : List ℕ) (t : Timed words nsta
         pub step_small : here.frame + frames ≤ most_frames
         step_small = omega (arith, step-frame, first-within words nstate ds (word + 1), t.short)
 
-        pub stepped : record { state = here.state + labels * width; frame = here.frame + frames } ≡ word_start words nstate ds (word + 1)
+        pub stepped : record { state = here.state + states_of words nstate word; frame = here.frame + frames } ≡ word_start words nstate ds (word + 1)
         stepped = rw (step-state, step-frame)
 
     -- what `start_of` adds up
-    module _ (labels width : ℕ) (l : labels ≡ total (take (2 ^ 32) (take word words))) (w : width ≡ nstate) where
-      start-state : labels * width ≡ states_before words nstate word
-      start-state = rw (l, w, front-total words word (omega (arith, t.few)))
+    module _ (labels : ℕ) (l : labels ≡ total (take (2 ^ 32) (take word words))) where
+      start-state : labels * nstate ≡ states_before words nstate word
+      start-state = rw (l, front-total words word (omega (arith, t.few)))
 
-      pub start-within : labels * width ≤ length ds
+      pub start-within : labels * nstate ≤ length ds
       start-within = omega (arith, start-state, states-within words nstate ds t word)
 
-      module _ (frame : ℕ) (f : frame ≡ total (take (2 ^ 32) (take (labels * width) ds))) where
+      module _ (frame : ℕ) (f : frame ≡ total (take (2 ^ 32) (take (labels * nstate) ds))) where
         start-frame : frame ≡ first_frame words nstate ds word
-        start-frame = f ∙ front-total ds (labels * width) (omega (arith, t.states)) ∙ ap (λ (n : ℕ). total (take n ds)) start-state
+        start-frame = f ∙ front-total ds (labels * nstate) (omega (arith, t.states)) ∙ ap (λ (n : ℕ). total (take n ds)) start-state
 
         pub start_small : frame ≤ most_frames
         start_small = omega (arith, start-frame, first-within words nstate ds word, t.short)
 
-        pub started : record { state = labels * width; frame = frame } ≡ word_start words nstate ds word
+        pub started : record { state = labels * nstate; frame = frame } ≡ word_start words nstate ds word
         started = rw (start-state, start-frame)
 
 -- what a word's excerpt is counted from
@@ -78,15 +75,7 @@ module _ (words : List ℕ) (nstate : ℕ) (ds : List ℕ) (word : ℕ) (h : wor
   pub part-forth : first ≤ after
   part-forth = omega (arith, ends)
 
-  module _ (t : Timed words nstate ds) (v width frames : ℕ) (w : width ≡ v) (g : frames ≡ after - first) where
-    pub part_small : v ≤ 64 → (first * width ≤ most_frames * 64) × (frames * width ≤ most_frames * 64)
-    part_small m =
-        let s : after ≤ most_frames = omega (arith, a, first-within words nstate ds (word + 1), t.short) in
-        let n : width ≤ 64 = omega arith in
-        let p : first ≤ most_frames = omega (arith, part-forth) in
-        let q : frames ≤ most_frames = omega arith in
-        (mul-le-mul p n, mul-le-mul q n)
-
+  module _ (v width frames : ℕ) (w : width ≡ v) (g : frames ≡ after - first) where
     pub part-start : first * width ≡ excerpt_start v (span_of words nstate ds word)
     part-start = rw (f, w)
 

@@ -1,5 +1,5 @@
 -- What the calls refuse, and what they promise.
-use Rattle.std.specs.Prelude.{◌≡◌, Bool, cond, ◌&&◌, ◌||◌, ℕ, ◌*◌, ◌<◌, ltb, leb, eqb, Float, length}
+use Rattle.std.specs.Prelude.{◌≡◌, Result, Ok, Err, Bool, cond, ◌&&◌, ◌||◌, ℕ, ◌*◌, ◌<◌, ltb, leb, eqb, Float, length}
 use mathlib.Core.List.{List, [], ◌∷◌, map, flatten}
 use Rattle.std.specs.Borrow.{Bor}
 use Rattle.lists.specs.Sizes.{most_label_states, most_words}
@@ -9,31 +9,39 @@ use Rattle.lists.specs.Refusals.{or_else}
 use Rattle.lists.specs.Answers.{Answer, accepting, refusing, given, answer_of, written}
 use Rattle.lists.specs.Parts.{PartSays}
 use Rattle.spool.specs.Refusal.{durations_refusal, trajectory_refusal}
-use Rattle.read_along.specs.declared.Counted.{Counted}
-use Rattle.read_along.specs.declared.Counted.TheVariants as counted
-use Rattle.read_along.specs.declared.file.Written.{Written}
-use Rattle.read_along.specs.declared.file.Written.TheVariants as bytes
-use Rattle.read_along.specs.declared.Part.{Part}
-use Rattle.read_along.specs.declared.Part.TheVariants as part
+use Rattle.lists.specs.declared.Span.{Span as Part}
+use Rattle.read_along.specs.declared.WordsRefusal.{WordsRefusal}
+use Rattle.read_along.specs.declared.WordsRefusal.TheVariants.{WordsDisagree, NoSuchWord, Malformed, TooLittleRoom, BadTiming}
 use Rattle.read_along.specs.Words.{Span, span_of, spans_of, in_milliseconds, Sounds, excerpt_start, excerpt_count}
 use Rattle.read_along.specs.Format.{spans_in, formed, bytes_of_file}
 
--- RULES, Forms: the number and the value of a count
-abbrev pub counted_as : Counted → Answer
-counted_as (counted.Number n) = accepting (n ∷ [])
-counted_as (counted.Refused k) = refusing k
-
--- of what was written
-abbrev pub written_as : Written → Answer
-written_as (bytes.Bytes n) = accepting (n ∷ [])
-written_as (bytes.Refused k) = refusing k
-
--- and of a part
-abbrev pub parted_as : Part → Answer
-parted_as (part.Numbers first count) = accepting (first ∷ count ∷ [])
-parted_as (part.Refused k) = refusing k
-
 -- ---- refusals
+
+-- RULES, Read-along: each refusal's number
+abbrev pub number_of : WordsRefusal → ℕ
+number_of WordsDisagree = 1
+number_of NoSuchWord = 2
+number_of Malformed = 3
+number_of TooLittleRoom = 4
+number_of BadTiming = 5
+
+-- RULES, Forms: number and values of an answer, which has these values where nothing is refused
+abbrev pub answered_as : {A : Type 0} → (A → List ℕ) → Result A WordsRefusal → Answer
+answered_as values (Ok a) = accepting (values a)
+answered_as values (Err e) = refusing (number_of e)
+
+-- of one that has a count
+abbrev pub counted_as : Result ℕ WordsRefusal → Answer
+counted_as = answered_as (λ n. n ∷ [])
+
+-- of one that has a part
+abbrev pub parted_as : Result Part WordsRefusal → Answer
+parted_as = answered_as (λ p. p.first ∷ p.count ∷ [])
+
+-- and the number alone of one that has no value
+abbrev pub refused_as : Result (Unit {0}) WordsRefusal → ℕ
+refused_as (Ok done) = 0
+refused_as (Err e) = number_of e
 
 -- RULES, Sizes: a label has 1 to 16 states; nstate is out of that range
 abbrev pub label_outside : ℕ → Bool
@@ -83,31 +91,31 @@ abbrev pub all_ends : List Span → List ℕ
 all_ends ss = flatten (map both_ends ss)
 
 -- RULES, Read-along: what `spans` answers, the number of words, and writes
-abbrev pub SpansSays : List ℕ → ℕ → List ℕ → List ℕ → Counted → List ℕ → Type 0
+abbrev pub SpansSays : List ℕ → ℕ → List ℕ → List ℕ → Result ℕ WordsRefusal → List ℕ → Type 0
 SpansSays words nstate durations out r = Writes (timing_refusal words nstate durations) (length words) (all_ends (spans_of words nstate durations)) out (counted_as r)
 
 -- RULES, Read-along: the same in milliseconds
-abbrev pub MillisecondsSays : List ℕ → ℕ → List ℕ → List ℕ → Counted → List ℕ → Type 0
+abbrev pub MillisecondsSays : List ℕ → ℕ → List ℕ → List ℕ → Result ℕ WordsRefusal → List ℕ → Type 0
 MillisecondsSays words nstate durations out r = Writes (timing_refusal words nstate durations) (length words) (all_ends (map in_milliseconds (spans_of words nstate durations))) out (counted_as r)
 
 -- RULES, Read-along: what `write` answers, the number of bytes, and writes
-abbrev pub WriteSays : List ℕ → ℕ → List ℕ → List ℕ → Written → List ℕ → Type 0
+abbrev pub WriteSays : List ℕ → ℕ → List ℕ → List ℕ → Result ℕ WordsRefusal → List ℕ → Type 0
 WriteSays words nstate durations out r =
     let file = bytes_of_file (spans_of words nstate durations) in
-    Writes (timing_refusal words nstate durations) (length file) file out (written_as r)
+    Writes (timing_refusal words nstate durations) (length file) file out (counted_as r)
 
 -- RULES, Read-along: what `read` answers, the number of words, and writes
-abbrev pub ReadSays : List ℕ → List ℕ → Counted → List ℕ → Type 0
+abbrev pub ReadSays : List ℕ → List ℕ → Result ℕ WordsRefusal → List ℕ → Type 0
 ReadSays bytes out r = Writes (file_refusal bytes) (length (spans_in bytes)) (all_ends (spans_in bytes)) out (counted_as r)
 
 -- RULES, Read-along: what `at` answers: a word that sounds at the frame
-pub record AtSays (words : List ℕ) (nstate : ℕ) (durations : List ℕ) (frame : ℕ) (r : Counted) : Type 0 where
+pub record AtSays (words : List ℕ) (nstate : ℕ) (durations : List ℕ) (frame : ℕ) (r : Result ℕ WordsRefusal) : Type 0 where
   pub word : ℕ
   pub answer : counted_as r ≡ answer_of (at_refusal words nstate durations frame) (word ∷ [])
   pub sounds : at_refusal words nstate durations frame ≡ 0 → (word < length words) × Sounds frame (span_of words nstate durations word)
 
 -- RULES, Read-along: what `excerpt_part` answers, the excerpt's first number and how many there are
-abbrev pub PartOfSays : List ℕ → ℕ → List ℕ → List Float → ℕ → ℕ → Part → Type 0
+abbrev pub PartOfSays : List ℕ → ℕ → List ℕ → List Float → ℕ → ℕ → Result Part WordsRefusal → Type 0
 PartOfSays words nstate durations trajectory v word r =
     let s = span_of words nstate durations word in
     parted_as r ≡ answer_of (excerpt_refusal words nstate durations (length trajectory) v word) (excerpt_start v s ∷ excerpt_count v s ∷ [])

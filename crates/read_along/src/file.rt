@@ -6,26 +6,19 @@ ghost use Rattle.read_along.specs.Format.{head_bytes, span_bytes, count_of, span
 ghost use Rattle.read_along.specs.Promise.{all_ends, WriteSays, ReadSays};
 ghost use Rattle.read_along.specs.Inner.Steps.{Timed};
 
-use crate::{Counted, Start};
+use crate::{FIRST, Words, WordsRefusal};
 
 const HEAD: usize = 9;
 
 // Bytes of a word's two numbers.
 const SPAN: usize = 8;
 
-// How many bytes were written, or the number of why none.
-#[derive(Clone, Copy)]
-pub enum Written {
-    Bytes(u64),
-    Refused(u8),
-}
-
 // The mark, the version and the number of words.
 fn put_heading(out: &mut [u8], count: usize)
     requires { count < 2 ^ 32 }
     ensures { out.new ≡ sets out.old 0 (bytes_of_heading count) }
 {
-    lists::copy_u8(b"RAL", 3, out);
+    lists::copy(b"RAL", 3, out);
     lists::put_little_endian(out, 3, 2, 1);
     lists::put_little_endian(out, 5, 4, count as u64);
 }
@@ -41,49 +34,48 @@ fn put_span(out: &mut [u8], word: usize, first: u32, after: u32)
 }
 
 // The spans of all words, behind the heading.
-fn put_spans(words: &[u32], nstate: u32, durations: &[u32], out: &mut [u8])
-    requires { Timed words.now nstate durations.now }
-    ensures { out.new ≡ sets out.old head_bytes (bytes_of_spans (spans_of words.now nstate durations.now)) }
+fn put_spans(words: Words, out: &mut [u8])
+    requires { Timed words.labels.now words.nstate words.durations.now }
+    ensures { out.new ≡ sets out.old head_bytes (bytes_of_spans (spans_of words.entry.labels.now words.entry.nstate words.entry.durations.now)) }
 {
-    let mut state = 0;
-    let mut frame = 0;
-    let mut i = 0;
-    while i < words.len() {
-        let here = Start {
-            state: state,
-            frame: frame,
-        };
-        let next = crate::behind(words, nstate, durations, i, here);
-        put_span(out, i, frame, next.frame);
-        state = next.state;
-        frame = next.frame;
-        i += 1;
+    let mut here = FIRST;
+    for i in 0..words.labels.len() {
+        let next = words.behind(i, here);
+        put_span(out, i, here.frame, next.frame);
+        here = next;
     }
 }
 
-// The timing file of words.
-pub fn write(words: &[u32], nstate: u32, durations: &[u32], out: &mut [u8]) -> Written
+// The timing file of words, and how many bytes it has.
+pub fn write(
+    words: &[u32],
+    nstate: u32,
+    durations: &[u32],
+    out: &mut [u8],
+) -> Result<u64, WordsRefusal>
     ensures { WriteSays words.now nstate durations.now out.old result out.new }
 {
-    let number = crate::timing_refusal(words, nstate, durations);
-    if number != 0 {
-        return Written::Refused(number);
-    }
-    let count = words.len();
+    let words = Words {
+        labels: words,
+        nstate,
+        durations,
+    };
+    words.check_timing()?;
+    let count = words.labels.len();
     let length = HEAD + SPAN * count;
     if out.len() < length {
-        return Written::Refused(4);
+        return Err(WordsRefusal::TooLittleRoom);
     }
     put_heading(out, count);
-    put_spans(words, nstate, durations, out);
-    Written::Bytes(length as u64)
+    put_spans(words, out);
+    Ok(length as u64)
 }
 
 // How many words a file says that it has.
 fn count_of(bytes: &[u8]) -> usize
     ensures { result ≡ count_of bytes.now }
 {
-    lists::wide(lists::little_u32(bytes, 5))
+    lists::little_u32(bytes, 5) as usize
 }
 
 // Whether the words of a file touch, from 0 on.
@@ -92,8 +84,7 @@ fn touch(bytes: &[u8], count: usize) -> bool
     ensures { result ≡ touching 0 (spans_in bytes.now) }
 {
     let mut end = 0;
-    let mut i = 0;
-    while i < count {
+    for i in 0..count {
         let at = HEAD + SPAN * i;
         let first = lists::little_u32(bytes, at);
         let after = lists::little_u32(bytes, at + 4);
@@ -101,7 +92,6 @@ fn touch(bytes: &[u8], count: usize) -> bool
             return false;
         }
         end = after;
-        i += 1;
     }
     true
 }
@@ -128,27 +118,25 @@ fn take_spans(bytes: &[u8], count: usize, spans: &mut [u32])
     requires { (count ≡ count_of bytes.now) × (2 * count ≤ length spans.old) }
     ensures { spans.new ≡ sets spans.old 0 (all_ends (spans_in bytes.now)) }
 {
-    let mut i = 0;
-    while i < count {
+    for i in 0..count {
         let at = HEAD + SPAN * i;
         let first = lists::little_u32(bytes, at);
         let after = lists::little_u32(bytes, at + 4);
         crate::put_span(spans, i, first, after);
-        i += 1;
     }
 }
 
-// The spans that a timing file says.
-pub fn read(bytes: &[u8], spans: &mut [u32]) -> Counted
+// The spans that a timing file says, and how many words it has.
+pub fn read(bytes: &[u8], spans: &mut [u32]) -> Result<u32, WordsRefusal>
     ensures { ReadSays bytes.now spans.old result spans.new }
 {
     if !is_formed(bytes) {
-        return Counted::Refused(3);
+        return Err(WordsRefusal::Malformed);
     }
     let count = count_of(bytes);
     if spans.len() < 2 * count {
-        return Counted::Refused(4);
+        return Err(WordsRefusal::TooLittleRoom);
     }
     take_spans(bytes, count, spans);
-    Counted::Number(count as u32)
+    Ok(count as u32)
 }

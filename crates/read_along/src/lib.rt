@@ -3,8 +3,9 @@
 
 ghost use Rattle.std.specs.Prelude.{◌≡◌, map, ◌+◌, ◌*◌, ◌≤◌, ◌<◌, length};
 ghost use Rattle.std.proofs.lemmas.List.Edits.{sets};
+ghost use Rattle.lists.specs.Ends.{refused};
 ghost use Rattle.read_along.specs.Words.{span, spans_of, times};
-ghost use Rattle.read_along.specs.Promise.{counted_as, agreeing, words_refusal, timing_refusal, both_ends, all_ends, Writes, SpansSays, MillisecondsSays, AtSays, PartOfSays, ExcerptSays};
+ghost use Rattle.read_along.specs.Promise.{number_of, refused_as, counted_as, agreeing, words_refusal, timing_refusal, both_ends, all_ends, Writes, SpansSays, MillisecondsSays, AtSays, PartOfSays, ExcerptSays};
 ghost use Rattle.read_along.specs.Inner.Steps.{word_start, Timed, FoundAt};
 
 pub mod file;
@@ -16,18 +17,29 @@ const MOST_LABEL_STATES: u32 = 16;
 
 const MILLISECONDS_A_FRAME: u32 = 5;
 
-// How many words there are or which one was found, or the number of why none.
-#[derive(Clone, Copy)]
-pub enum Counted {
-    Number(u32),
-    Refused(u8),
+// Why a call of words is refused.
+#[derive(Clone, Copy, Debug, PartialEq, Eq)]
+pub enum WordsRefusal {
+    WordsDisagree,
+    NoSuchWord,
+    Malformed,
+    TooLittleRoom,
+    BadTiming,
 }
 
-// The place of an excerpt's first number in the trajectory and how many numbers it has, or why there is none.
-#[derive(Clone, Copy)]
-pub enum Part {
-    Numbers(u64, u64),
-    Refused(u8),
+impl WordsRefusal {
+    // Its number, by which C and the programs know it.
+    pub fn number(self) -> u8
+        ensures { result ≡ number_of self }
+    {
+        match self {
+            WordsRefusal::WordsDisagree => 1,
+            WordsRefusal::NoSuchWord => 2,
+            WordsRefusal::Malformed => 3,
+            WordsRefusal::TooLittleRoom => 4,
+            WordsRefusal::BadTiming => 5,
+        }
+    }
 }
 
 // Where a word begins: how many states and how many frames come before it.
@@ -37,69 +49,120 @@ struct Start {
     frame: u32,
 }
 
-// Whether there are so many states a label for each label of the words.
-fn agree(words: &[u32], nstate: u32, durations: &[u32]) -> bool
-    requires { 1 ≤ nstate }
-    ensures { result ≡ agreeing words.now nstate durations.now }
-{
-    if MOST_WORDS < words.len() {
-        return false;
-    }
-    // The product of all labels and nstate could pass 64 bits.
-    let states = durations.len() as u64;
-    let each = lists::long(nstate);
-    (states % each == 0) & (lists::total_u32(words) == states / each)
+// Where the first word begins.
+const FIRST: Start = Start { state: 0, frame: 0 };
+
+// The words of an utterance, by how many labels each has, the states a label, and the frames of each state.
+#[derive(Clone, Copy)]
+struct Words<'a> {
+    labels: &'a [u32],
+    nstate: u32,
+    durations: &'a [u32],
 }
 
-// Why words can't be timed, given the number with which the crate below refuses.
-fn words_refusal(below: u8, words: &[u32], nstate: u32, durations: &[u32]) -> u8
-    ensures { result ≡ words_refusal below words.now nstate durations.now }
-{
-    if (nstate < 1) | (MOST_LABEL_STATES < nstate) | (below != 0) {
-        return 5;
+impl<'a> Words<'a> {
+    // Whether there are so many states a label for each label of the words.
+    fn agree(self) -> bool
+        requires { 1 ≤ self.nstate }
+        ensures { result ≡ agreeing self.entry.labels.now self.entry.nstate self.entry.durations.now }
+    {
+        if MOST_WORDS < self.labels.len() {
+            return false;
+        }
+        // The product of all labels and nstate could pass 64 bits.
+        let states = self.durations.len() as u64;
+        let each = u64::from(self.nstate);
+        (states % each == 0) & (lists::total_u32(self.labels) == states / each)
     }
-    if !agree(words, nstate, durations) {
-        return 1;
+
+    // Whether the words can be timed, given what the crate below says of the durations.
+    fn check(self, below: Result<(), lists::Refusal>) -> Result<(), WordsRefusal>
+        ensures { refused_as result ≡ words_refusal (refused below) self.entry.labels.now self.entry.nstate self.entry.durations.now }
+    {
+        if (self.nstate < 1) | (MOST_LABEL_STATES < self.nstate) | below.is_err() {
+            return Err(WordsRefusal::BadTiming);
+        }
+        if !self.agree() {
+            return Err(WordsRefusal::WordsDisagree);
+        }
+        Ok(())
     }
-    0
-}
 
-// The same where no trajectory is given.
-fn timing_refusal(words: &[u32], nstate: u32, durations: &[u32]) -> u8
-    ensures { result ≡ timing_refusal words.now nstate durations.now }
-{
-    words_refusal(
-        spool::durations_refusal(durations),
-        words,
-        nstate,
-        durations,
-    )
-}
-
-// Where the word behind one begins.
-fn behind(words: &[u32], nstate: u32, durations: &[u32], word: usize, here: Start) -> Start
-    requires { Timed words.now nstate durations.now × (word < length words.now) × (here ≡ word_start words.now nstate durations.now word) }
-    ensures { result ≡ word_start words.now nstate durations.now (word + 1) }
-{
-    let from = here.state;
-    let state = from + lists::wide(words[word]) * lists::wide(nstate);
-    let frames = lists::total_u32(&durations[from..state]);
-    Start {
-        state: state,
-        frame: here.frame + frames as u32,
+    // The same where no trajectory is given.
+    fn check_timing(self) -> Result<(), WordsRefusal>
+        ensures { refused_as result ≡ timing_refusal self.entry.labels.now self.entry.nstate self.entry.durations.now }
+    {
+        self.check(spool::check_durations(self.durations))
     }
-}
 
-// Where a word begins.
-fn start_of(words: &[u32], nstate: u32, durations: &[u32], word: usize) -> Start
-    requires { Timed words.now nstate durations.now × (word < length words.now) }
-    ensures { result ≡ word_start words.now nstate durations.now word }
-{
-    let labels = lists::total_u32(&words[..word]) as usize;
-    let state = labels * lists::wide(nstate);
-    Start {
-        state: state,
-        frame: lists::total_u32(&durations[..state]) as u32,
+    // Where the word behind one begins.
+    fn behind(self, word: usize, here: Start) -> Start
+        requires { Timed self.labels.now self.nstate self.durations.now × (word < length self.labels.now) × (here ≡ word_start self.labels.now self.nstate self.durations.now word) }
+        ensures { result ≡ word_start self.entry.labels.now self.entry.nstate self.entry.durations.now (word + 1) }
+    {
+        let from = here.state;
+        let state = from + self.labels[word] as usize * self.nstate as usize;
+        let frames = lists::total_u32(&self.durations[from..state]);
+        Start {
+            state,
+            frame: here.frame + frames as u32,
+        }
+    }
+
+    // Where a word begins.
+    fn start_of(self, word: usize) -> Start
+        requires { Timed self.labels.now self.nstate self.durations.now × (word < length self.labels.now) }
+        ensures { result ≡ word_start self.entry.labels.now self.entry.nstate self.entry.durations.now word }
+    {
+        let labels = lists::total_u32(&self.labels[..word]) as usize;
+        let state = labels * self.nstate as usize;
+        Start {
+            state,
+            frame: lists::total_u32(&self.durations[..state]) as u32,
+        }
+    }
+
+    // The spans of all words, each number times a scale.
+    fn put_spans(self, scale: u32, spans: &mut [u32])
+        requires { Timed self.labels.now self.nstate self.durations.now × (2 * length self.labels.now ≤ length spans.old) × (scale ≤ 5) }
+        ensures { spans.new ≡ sets spans.old 0 (all_ends (map (times scale) (spans_of self.entry.labels.now self.entry.nstate self.entry.durations.now))) }
+    {
+        let mut here = FIRST;
+        for i in 0..self.labels.len() {
+            let next = self.behind(i, here);
+            put_span(spans, i, scale * here.frame, scale * next.frame);
+            here = next;
+        }
+    }
+
+    // The spans of all words, each number times a scale, and how many words there are.
+    fn scaled_spans(self, scale: u32, spans: &mut [u32]) -> Result<u32, WordsRefusal>
+        requires { scale ≤ 5 }
+        ensures { Writes (timing_refusal self.entry.labels.now self.entry.nstate self.entry.durations.now) (length self.entry.labels.now) (all_ends (map (times scale) (spans_of self.entry.labels.now self.entry.nstate self.entry.durations.now))) spans.old (counted_as result) spans.new }
+    {
+        self.check_timing()?;
+        let count = self.labels.len();
+        if spans.len() < 2 * count {
+            return Err(WordsRefusal::TooLittleRoom);
+        }
+        self.put_spans(scale, spans);
+        Ok(count as u32)
+    }
+
+    // The word that sounds at a frame, if one does.
+    fn sounding(self, frame: u32) -> Option<usize>
+        requires { Timed self.labels.now self.nstate self.durations.now }
+        ensures { FoundAt self.entry.labels.now self.entry.nstate self.entry.durations.now frame result }
+    {
+        let mut start = FIRST;
+        for i in 0..self.labels.len() {
+            let next = self.behind(i, start);
+            if frame < next.frame {
+                return Some(i);
+            }
+            start = next;
+        }
+        None
     }
 }
 
@@ -113,101 +176,54 @@ fn put_span(spans: &mut [u32], word: usize, first: u32, after: u32)
     spans[at + 1] = after;
 }
 
-// The spans of all words, each number times a scale.
-fn put_spans(words: &[u32], nstate: u32, durations: &[u32], scale: u32, spans: &mut [u32])
-    requires { Timed words.now nstate durations.now × (2 * length words.now ≤ length spans.old) × (scale ≤ 5) }
-    ensures { spans.new ≡ sets spans.old 0 (all_ends (map (times scale) (spans_of words.now nstate durations.now))) }
-{
-    let mut state = 0;
-    let mut frame = 0;
-    let mut i = 0;
-    while i < words.len() {
-        let here = Start {
-            state: state,
-            frame: frame,
-        };
-        let next = behind(words, nstate, durations, i, here);
-        put_span(spans, i, scale * frame, scale * next.frame);
-        state = next.state;
-        frame = next.frame;
-        i += 1;
-    }
-}
-
-// The spans of all words, each number times a scale, or why there are none.
-fn scaled_spans(
+// Each word's first frame and the frame after its last, and how many words there are.
+pub fn spans(
     words: &[u32],
     nstate: u32,
     durations: &[u32],
-    scale: u32,
     spans: &mut [u32],
-) -> Counted
-    requires { scale ≤ 5 }
-    ensures { Writes (timing_refusal words.now nstate durations.now) (length words.now) (all_ends (map (times scale) (spans_of words.now nstate durations.now))) spans.old (counted_as result) spans.new }
-{
-    let number = timing_refusal(words, nstate, durations);
-    if number != 0 {
-        return Counted::Refused(number);
-    }
-    let count = words.len();
-    if spans.len() < 2 * count {
-        return Counted::Refused(4);
-    }
-    put_spans(words, nstate, durations, scale, spans);
-    Counted::Number(count as u32)
-}
-
-// Each word's first frame and the frame after its last.
-pub fn spans(words: &[u32], nstate: u32, durations: &[u32], spans: &mut [u32]) -> Counted
+) -> Result<u32, WordsRefusal>
     ensures { SpansSays words.now nstate durations.now spans.old result spans.new }
 {
-    scaled_spans(words, nstate, durations, 1, spans)
+    let words = Words {
+        labels: words,
+        nstate,
+        durations,
+    };
+    words.scaled_spans(1, spans)
 }
 
 // The same in milliseconds.
-pub fn milliseconds(words: &[u32], nstate: u32, durations: &[u32], spans: &mut [u32]) -> Counted
+pub fn milliseconds(
+    words: &[u32],
+    nstate: u32,
+    durations: &[u32],
+    spans: &mut [u32],
+) -> Result<u32, WordsRefusal>
     ensures { MillisecondsSays words.now nstate durations.now spans.old result spans.new }
 {
-    scaled_spans(words, nstate, durations, MILLISECONDS_A_FRAME, spans)
-}
-
-// The word that sounds at a frame, or how many words there are where none does.
-fn sounding(words: &[u32], nstate: u32, durations: &[u32], frame: u32) -> usize
-    requires { Timed words.now nstate durations.now }
-    ensures { FoundAt words.now nstate durations.now frame result }
-{
-    let mut state = 0;
-    let mut first = 0;
-    let mut i = 0;
-    while i < words.len() {
-        let here = Start {
-            state: state,
-            frame: first,
-        };
-        let next = behind(words, nstate, durations, i, here);
-        if frame < next.frame {
-            return i;
-        }
-        state = next.state;
-        first = next.frame;
-        i += 1;
-    }
-    i
+    let words = Words {
+        labels: words,
+        nstate,
+        durations,
+    };
+    words.scaled_spans(MILLISECONDS_A_FRAME, spans)
 }
 
 // The word that sounds at a frame.
-pub fn at(words: &[u32], nstate: u32, durations: &[u32], frame: u32) -> Counted
+pub fn at(words: &[u32], nstate: u32, durations: &[u32], frame: u32) -> Result<u32, WordsRefusal>
     ensures { AtSays words.now nstate durations.now frame result }
 {
-    let number = timing_refusal(words, nstate, durations);
-    if number != 0 {
-        return Counted::Refused(number);
-    }
-    let word = sounding(words, nstate, durations, frame);
-    if word == words.len() {
-        return Counted::Refused(2);
-    }
-    Counted::Number(word as u32)
+    let words = Words {
+        labels: words,
+        nstate,
+        durations,
+    };
+    words.check_timing()?;
+    let Some(word) = words.sounding(frame) else {
+        return Err(WordsRefusal::NoSuchWord);
+    };
+    Ok(word as u32)
 }
 
 // A word's excerpt by its numbers' places, for callers that can't be handed a part of a list.
@@ -218,26 +234,26 @@ pub fn excerpt_part(
     trajectory: &[f64],
     v: u32,
     word: u32,
-) -> Part
+) -> Result<lists::Span, WordsRefusal>
     ensures { PartOfSays words.now nstate durations.now trajectory.now v word result }
 {
-    let below = spool::trajectory_refusal(trajectory, durations, v);
-    let number = words_refusal(below, words, nstate, durations);
-    if number != 0 {
-        return Part::Refused(number);
+    let words = Words {
+        labels: words,
+        nstate,
+        durations,
+    };
+    words.check(spool::check_trajectory(trajectory, durations, v))?;
+    let i = word as usize;
+    if words.labels.len() <= i {
+        return Err(WordsRefusal::NoSuchWord);
     }
-    let i = lists::wide(word);
-    if words.len() <= i {
-        return Part::Refused(2);
-    }
-    let here = start_of(words, nstate, durations, i);
-    let first = here.frame;
-    let next = behind(words, nstate, durations, i, here);
-    let width = lists::long(v);
-    Part::Numbers(
-        lists::long(first) * width,
-        lists::long(next.frame - first) * width,
-    )
+    let here = words.start_of(i);
+    let next = words.behind(i, here);
+    let width = u64::from(v);
+    Ok(lists::Span {
+        first: u64::from(here.frame) * width,
+        count: u64::from(next.frame - here.frame) * width,
+    })
 }
 
 // The part of the lent trajectory that a word has; the empty part of it on a refusal.
@@ -251,9 +267,8 @@ pub fn excerpt<'a>(
 ) -> &'a [f64]
     ensures { ExcerptSays words.now nstate durations.now trajectory.entry v word result }
 {
-    let Part::Numbers(first, count) = excerpt_part(words, nstate, durations, trajectory, v, word)
-    else {
-        return lists::part_f64(trajectory, 0, 0);
+    let Ok(part) = excerpt_part(words, nstate, durations, trajectory, v, word) else {
+        return lists::part(trajectory, 0, 0);
     };
-    lists::part_f64(trajectory, first as usize, count as usize)
+    lists::part(trajectory, part.first as usize, part.count as usize)
 }

@@ -1,17 +1,16 @@
 -- Laws of passes over regions that lie one after the other: what is done to one is done to each.
-use mathlib.Core.Path.{◌≡◌, refl, sym, ◌∙◌}
+use mathlib.Core.Path.{◌≡◌, refl, ◌∙◌}
 use mathlib.Core.List.{List}
 use Prim.Native.Nat.{ℕ, ◌+◌, ◌-◌, ◌*◌, ◌<◌, ◌≤◌}
-use native.Mathlib.Nat.{suc-mul, zero-mul}
+use native.Mathlib.Nat.{suc-mul}
 use native.Mathlib.Numerals.{add-one}
 use native.Mathlib.Omega.{arith}
 use borrow.Rule.Slice.PartMut.{put_mid}
 use lib.ListN.{length, take, drop}
 use lib.Ieee.{Float}
-use Rattle.lists.proofs.Expansions.{part_length}
 use Rattle.region.specs.Region.{region_of}
 use Rattle.region.specs.Inner.Passes.{Across}
-use Rattle.region.proofs.Lanes.{Stepped, stepped-none, stepped_lent, region-fits}
+use Rattle.region.proofs.Lanes.{Stepped, stepped_lent, region-fits}
 
 -- ---- no pass, one pass after another, and a pass in other words
 
@@ -36,9 +35,6 @@ pub record Passing (Pass : ℕ → List Float → List Float → Type 0) (size l
   pub room : lanes * size ≤ length m
   pub stepped : Stepped Pass size lanes l d m
 
-pub passing-none : {Pass : ℕ → List Float → List Float → Type 0} {size lanes : ℕ} {d : List Float} → lanes * size ≤ length d → Passing Pass size lanes d d 0 0
-passing-none {Pass} {size} {lanes} {d} h = record { within = omega arith; place = sym (zero-mul size); room = h; stepped = stepped-none Pass size lanes d }
-
 module _ {Pass : ℕ → List Float → List Float → Type 0} {size lanes : ℕ} {d m : List Float} {l o : ℕ} (k : Passing Pass size lanes d m l o) where
   pub passing-done : lanes ≤ l → Across Pass size lanes d m
   passing-done h = record { long = k.stepped.long; each = λ j b. k.stepped.done j (omega arith); behind = k.stepped.behind }
@@ -47,9 +43,6 @@ module _ {Pass : ℕ → List Float → List Float → Type 0} {size lanes : ℕ
     -- the region lies within the list, and is lent whole
     pub passing-fits : o + size ≤ length m
     passing-fits = rw k.place (region-fits size lanes l m h k.room)
-
-    pub passing-long : length (take (o + size - o) (drop o m)) ≡ size
-    passing-long = part_length m o size passing-fits
 
     -- it is back as x
     pub passing-next : (x : List Float) → length x ≡ length (take (o + size - o) (drop o m)) → Pass l (take (o + size - o) (drop o m)) x → Passing Pass size lanes d (put_mid o (o + size - o) m x) (l + 1) (o + size)

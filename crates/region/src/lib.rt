@@ -6,7 +6,7 @@ ghost use Rattle.std.specs.Prelude.{◌≡◌, ◌*◌, leb};
 ghost use Rattle.region.specs.Region.{floats_of, size_of, places_of};
 
 // What a region's places follow from: so many windows, so many frames, and rows so wide. No such numbers are too large for a place.
-#[derive(Clone, Copy)]
+#[derive(Clone, Copy, Debug, PartialEq, Eq)]
 pub struct Layout {
     pub windows: u8,
     pub n: u32,
@@ -14,7 +14,7 @@ pub struct Layout {
 }
 
 // Where the parts of a region begin; the means are at 0. It has `size` floats.
-#[derive(Clone, Copy)]
+#[derive(Clone, Copy, Debug, PartialEq, Eq)]
 pub struct Places {
     pub ivars: usize,
     pub rows: usize,
@@ -25,7 +25,7 @@ pub struct Places {
 }
 
 // Of v components those from `first` on, so many.
-#[derive(Clone, Copy)]
+#[derive(Clone, Copy, Debug, PartialEq, Eq)]
 pub struct Group {
     pub v: usize,
     pub first: usize,
@@ -37,17 +37,17 @@ impl Layout {
     pub fn floats(self) -> usize
         ensures { result ≡ floats_of self }
     {
-        let windows = lists::small(self.windows);
-        let row = lists::small(self.w) + 1;
+        let windows = usize::from(self.windows);
+        let row = usize::from(self.w) + 1;
         windows + windows + row + row
     }
 
     pub fn places(self) -> Places
         ensures { result ≡ places_of self }
     {
-        let n = lists::wide(self.n);
-        let w = lists::small(self.w);
-        let ivars = lists::small(self.windows) * n;
+        let n = self.n as usize;
+        let w = usize::from(self.w);
+        let ivars = usize::from(self.windows) * n;
         let rows = ivars + ivars;
         let right = rows + n * w;
         let factors = right + n;

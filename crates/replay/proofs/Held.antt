@@ -15,16 +15,16 @@ both : (a b : Bool) → cond a b false ≡ true → (a ≡ true) × (b ≡ true)
 both true b e = (refl, e)
 both false b e = absurd (subst T (sym e) tt)
 
-module _ {A : Type 0} (f : A → ℕ) (mark z : A) where
+module _ {A : Type 0} (f : A → ℕ) (mark : A) where
   -- the next place, and then what is left
-  at_next : (xs right : List A) (i : ℕ) → i < length xs
+  at_next : (z : A) (xs right : List A) (i : ℕ) → i < length xs
       → holds f (drop i xs) (drop i right) mark ≡ cond (eqb (f (get_or xs i z)) (f (get_or right i mark))) (holds f (drop (suc i) xs) (drop (suc i) right) mark) false
   unfolding holds
-  at_next [] right i h = absurd (omega arith)
-  at_next (x ∷ xs) [] zero h = refl
-  at_next (x ∷ xs) (y ∷ ys) zero h = refl
-  at_next (x ∷ xs) [] (suc i) h = rw (drop-nil i) at (at_next xs [] i (omega arith))
-  at_next (x ∷ xs) (y ∷ ys) (suc i) h = at_next xs ys i (omega arith)
+  at_next z [] right i h = absurd (omega arith)
+  at_next z (x ∷ xs) [] zero h = refl
+  at_next z (x ∷ xs) (y ∷ ys) zero h = refl
+  at_next z (x ∷ xs) [] (suc i) h = rw (drop-nil i) at (at_next z xs [] i (omega arith))
+  at_next z (x ∷ xs) (y ∷ ys) (suc i) h = at_next z xs ys i (omega arith)
 
   -- what is right has no room
   pub too_long : (xs right : List A) → length xs < length right → false ≡ holds f xs right mark
@@ -41,13 +41,13 @@ module _ {A : Type 0} (f : A → ℕ) (mark z : A) where
     pub left : holds f (drop i xs) (drop i right) mark ≡ holds f xs right mark
 
   module _ {xs right : List A} {i : ℕ} (a : Agreed xs right i) where
-    pub agreed-more : i < length xs → f (get_or xs i z) ≡ f (get_or right i mark) → Agreed xs right (i + 1)
-    agreed-more h e =
-        record { sofar = omega arith; room = a.room; left = rw add-one (sym (rw (eq-eqb _ _ e) at (at_next xs right i h)) ∙ a.left) }
+    pub agreed-more : (z : A) → i < length xs → f (get_or xs i z) ≡ f (get_or right i mark) → Agreed xs right (i + 1)
+    agreed-more z h e =
+        record { sofar = omega arith; room = a.room; left = rw add-one (sym (rw (eq-eqb _ _ e) at (at_next z xs right i h)) ∙ a.left) }
 
     -- a place differs, and decides
-    pub disagreed : i < length xs → (f (get_or xs i z) ≡ f (get_or right i mark) → ⊥) → false ≡ holds f xs right mark
-    disagreed h n = sym (rw (ne_eqb _ _ n) at (at_next xs right i h)) ∙ a.left
+    pub disagreed : (z : A) → i < length xs → (f (get_or xs i z) ≡ f (get_or right i mark) → ⊥) → false ≡ holds f xs right mark
+    disagreed z h n = sym (rw (ne_eqb _ _ n) at (at_next z xs right i h)) ∙ a.left
 
     -- no place is left
     pub agreed-all : length xs ≤ i → true ≡ holds f xs right mark

@@ -7,8 +7,8 @@ ghost use Rattle.replay.specs.Count.{fresh, counted, closed};
 mod compare;
 mod input;
 
-pub use compare::{at_f64, at_u32, holds_f64, holds_u32, part_u8, part_u32};
-pub use input::{Came, Listed, read, read_bytes, read_floats, read_numbers, read_section};
+pub use compare::{Numbered, at, holds};
+pub use input::{Came, Item, read, read_list, read_section};
 use std::io::{Print, Read};
 
 // What a lent output holds at entry, and still where nothing is written.
@@ -21,7 +21,7 @@ pub const WORK: u32 = 0x5a5a_5a5a;
 pub const OUT_F64: f64 = -1e6;
 
 // How many cases were replayed, how many of them differ, the number of the first that does, from 1 (0 while none does), and whether the input ended.
-#[derive(Clone, Copy)]
+#[derive(Clone, Copy, Debug, PartialEq, Eq)]
 pub struct Tally {
     pub seen: u64,
     pub differ: u64,
@@ -48,26 +48,20 @@ impl Tally {
     {
         let seen = one_more(self.seen);
         if agrees {
-            return Tally {
-                seen: seen,
-                differ: self.differ,
-                first: self.first,
-                ended: self.ended,
-            };
+            return Tally { seen, ..self };
         }
         if self.differ == 0 {
             return Tally {
-                seen: seen,
+                seen,
                 differ: 1,
                 first: seen,
-                ended: self.ended,
+                ..self
             };
         }
         Tally {
-            seen: seen,
+            seen,
             differ: one_more(self.differ),
-            first: self.first,
-            ended: self.ended,
+            ..self
         }
     }
 
@@ -76,10 +70,8 @@ impl Tally {
         ensures { result ≡ closed self }
     {
         Tally {
-            seen: self.seen,
-            differ: self.differ,
-            first: self.first,
             ended: true,
+            ..self
         }
     }
 
@@ -123,10 +115,7 @@ pub fn end<R: Read>(from: &mut R, out: &impl Print) {
 fn one_more(n: u64) -> u64
     ensures { result ≡ min (n + 1) (2 ^ 64 - 1) }
 {
-    if n == u64::MAX {
-        return n;
-    }
-    n + 1
+    n.saturating_add(1)
 }
 
 fn say(out: &impl Print, text: &[u8]) {

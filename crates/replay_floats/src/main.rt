@@ -7,25 +7,19 @@
 use replay::{Came, Tally};
 use std::io::Read;
 
-// The answer's 64 bits for a vector's kind, or that there is no such kind.
-#[derive(Clone, Copy)]
-enum Answer {
-    Bits(u64),
-    Unknown,
-}
-
-fn computed(kind: u8, a: u64, b: u64) -> Answer {
+// The answer's 64 bits for a vector's kind, if there is such a kind.
+fn computed(kind: u8, a: u64, b: u64) -> Option<u64> {
     let x = floats::of_bits(a);
     match kind {
-        1 => Answer::Bits(floats::rounded(x) as u64),
-        2 => Answer::Bits(floats::bits_of(floats::magnitude(x))),
-        3 => Answer::Bits(floats::cost_below(x, floats::of_bits(b)) as u64),
-        4 => Answer::Bits(floats::bits_of(floats::sqrt(x))),
-        5 => Answer::Bits(floats::bits_of(x)),
-        6 => Answer::Bits(floats::bits_of(x - floats::of_bits(b))),
-        7 => Answer::Bits(read_at(a, b)),
-        8 => Answer::Bits(written_at(x, b)),
-        _ => Answer::Unknown,
+        1 => Some(floats::rounded(x) as u64),
+        2 => Some(floats::bits_of(floats::magnitude(x))),
+        3 => Some(floats::cost_below(x, floats::of_bits(b)) as u64),
+        4 => Some(floats::bits_of(floats::sqrt(x))),
+        5 => Some(floats::bits_of(x)),
+        6 => Some(floats::bits_of(x - floats::of_bits(b))),
+        7 => Some(read_at(a, b)),
+        8 => Some(written_at(x, b)),
+        _ => None,
     }
 }
 
@@ -46,10 +40,7 @@ fn written_at(x: f64, place: u64) -> u64 {
 fn agrees(vector: &[u8; 25]) -> bool {
     let a = lists::little_endian(vector, 1, 8);
     let b = lists::little_endian(vector, 9, 8);
-    let Answer::Bits(bits) = computed(vector[0], a, b) else {
-        return false;
-    };
-    bits == lists::little_endian(vector, 17, 8)
+    computed(vector[0], a, b) == Some(lists::little_endian(vector, 17, 8))
 }
 
 // The tally with the next vector; one that is cut short agrees with nothing.
@@ -62,14 +53,15 @@ fn next<R: Read>(from: &mut R, tally: Tally) -> Tally {
     }
 }
 
-// A proved loop has to end, and nothing says that the input does: it counts down from a number that no input uses up.
+// A proved loop has to end, and nothing says that the input does: it has as many turns as no input uses up.
 fn main(rt: HostRuntime) {
     let mut from = rt.stdin();
     let mut tally = Tally::new();
-    let mut left = u64::MAX;
-    while left > 0 && !tally.ended {
+    for _ in 0..u64::MAX {
+        if tally.ended {
+            break;
+        }
         tally = next(&mut from, tally);
-        left -= 1;
     }
     tally.print(&rt, b"floats", b"vector");
 }

@@ -6,21 +6,20 @@ use replay::{OUT, WORK};
 // Whether the counts and durations are those that are stored. Head: states, states, states a label, labels, written, changes, written.
 pub fn agrees(head: &[u32], durations: &[u32], floats: &[f64]) -> bool {
     let states = case::count(head, 0);
-    let means = lists::part_f64(floats, 0, states);
-    let varis = lists::part_f64(floats, states, states);
+    let means = lists::part(floats, 0, states);
+    let varis = lists::part(floats, states, states);
     let nstate = case::number(head, 2);
-    let ends = lists::part_f64(floats, 2 * states, case::count(head, 3));
+    let ends = lists::part(floats, 2 * states, case::count(head, 3));
     let ones = [1u32; 20];
-    let shortest = replay::part_u32(&ones, 0, states);
+    let shortest = lists::part(&ones, 0, states);
     let mut out = [OUT; 20];
     let mut work = [WORK; 20];
     let answer = duration::create_with_alignment(
         means, varis, shortest, nstate, ends, &mut out, &mut work,
     );
-    let Aligned::Done(written, changes) = answer else {
-        return false;
+    let right = Aligned {
+        states: case::number(head, 4),
+        changes: case::number(head, 5),
     };
-    (written == case::number(head, 4))
-        & (changes == case::number(head, 5))
-        & case::left(&out, &work, states, durations)
+    (answer == Ok(right)) & case::left(&out, &work, states, durations)
 }

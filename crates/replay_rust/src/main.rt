@@ -2,7 +2,7 @@
 // tools/store writes them.
 #![tactic(auto)]
 
-use replay::{Listed, Tally};
+use replay::Tally;
 use std::io::{Print, Read};
 
 mod alignments;
@@ -15,68 +15,73 @@ mod pairs;
 mod records;
 mod trajectories;
 
-// Whether a case of a kind, by the kind's number, has the answer that is stored with it.
-fn agrees(kind: u32, head: &[u32], numbers: &[u32], floats: &[f64], bytes: &[u8]) -> bool {
-    match kind {
-        1 => pairs::agrees(head, floats),
-        2 => records::agrees(head, floats),
-        3 => fits::agrees(fits::Wanted::Length, head, numbers, floats),
-        4 => fits::agrees(fits::Wanted::Speed, head, numbers, floats),
-        5 => alignments::agrees(head, numbers, floats),
-        6 => masks::agrees(head, numbers, floats),
-        7 => bands::agrees(head, numbers, floats),
-        8 => trajectories::agrees(head, numbers, floats, bytes),
-        11 => jobs::agrees(head, numbers, bytes),
-        _ => false,
-    }
-}
-
-// The tally with the next case of a kind.
-fn next<R: Read>(from: &mut R, kind: u32, tally: Tally) -> Tally {
-    let mut head = [0; 12];
-    let mut numbers = [0; 100];
+// Whether the next case has the answer that is stored with it, if it came whole.
+fn next_agrees<R: Read, F>(from: &mut R, agrees: &F) -> Option<bool>
+where
+    F: Fn(&[u32], &[u32], &[f64], &[u8]) -> bool,
+    requires { F.IsAlwaysCallable agrees.now }
+{
+    let mut head = [0u32; 12];
+    let mut numbers = [0u32; 100];
     let mut floats = [0.0; 500];
     let mut bytes = [0u8; 300];
-    let Listed::Of(h) = replay::read_numbers(from, &mut head) else {
-        return tally.cut();
-    };
-    let Listed::Of(n) = replay::read_numbers(from, &mut numbers) else {
-        return tally.cut();
-    };
-    let Listed::Of(f) = replay::read_floats(from, &mut floats) else {
-        return tally.cut();
-    };
-    let Listed::Of(b) = replay::read_bytes(from, &mut bytes) else {
-        return tally.cut();
-    };
-    let head = replay::part_u32(&head, 0, h);
-    let numbers = replay::part_u32(&numbers, 0, n);
-    let floats = lists::part_f64(&floats, 0, f);
-    let bytes = replay::part_u8(&bytes, 0, b);
-    tally.with(agrees(kind, head, numbers, floats, bytes))
+    let h = replay::read_list(from, &mut head)?;
+    let n = replay::read_list(from, &mut numbers)?;
+    let f = replay::read_list(from, &mut floats)?;
+    let b = replay::read_list(from, &mut bytes)?;
+    Some(agrees(&head[..h], &numbers[..n], &floats[..f], &bytes[..b]))
 }
 
-// The cases of a kind's section, and the line that says how many differ.
-fn section<R: Read>(from: &mut R, out: &impl Print, kind: u32, name: &[u8]) {
+// The cases of a kind's section, and the line that says how many of them differ from what is stored with them.
+fn section<R: Read, F>(from: &mut R, out: &impl Print, kind: u32, name: &[u8], agrees: F)
+where
+    F: Fn(&[u32], &[u32], &[f64], &[u8]) -> bool + Drop,
+    requires { F.IsAlwaysCallable agrees }
+{
     let mut tally = Tally::new();
-    let mut left = replay::read_section(from, kind);
-    while left > 0 && !tally.ended {
-        tally = next(from, kind, tally);
-        left -= 1;
+    for _ in 0..replay::read_section(from, kind) {
+        tally = match next_agrees(from, &agrees) {
+            Some(agreed) => tally.with(agreed),
+            None => tally.cut(),
+        };
+        if tally.ended {
+            break;
+        }
     }
     tally.print(out, name, b"case");
 }
 
 fn main(rt: HostRuntime) {
     let mut from = rt.stdin();
-    section(&mut from, &rt, 1, b"pair");
-    section(&mut from, &rt, 2, b"record");
-    section(&mut from, &rt, 3, b"fit");
-    section(&mut from, &rt, 4, b"speed");
-    section(&mut from, &rt, 5, b"align");
-    section(&mut from, &rt, 6, b"mask");
-    section(&mut from, &rt, 7, b"band");
-    section(&mut from, &rt, 8, b"trajectory");
-    section(&mut from, &rt, 11, b"job");
+    section(&mut from, &rt, 1, b"pair", |head, _, floats, _| {
+        pairs::agrees(head, floats)
+    });
+    section(&mut from, &rt, 2, b"record", |head, _, floats, _| {
+        records::agrees(head, floats)
+    });
+    section(&mut from, &rt, 3, b"fit", |head, numbers, floats, _| {
+        fits::agrees(
+            duration::estimate_duration_with_frame_length,
+            head,
+            numbers,
+            floats,
+        )
+    });
+    section(&mut from, &rt, 4, b"speed", |head, numbers, floats, _| {
+        fits::agrees(duration::create, head, numbers, floats)
+    });
+    section(&mut from, &rt, 5, b"align", |head, numbers, floats, _| {
+        alignments::agrees(head, numbers, floats)
+    });
+    section(&mut from, &rt, 6, b"mask", |head, numbers, floats, _| {
+        masks::agrees(head, numbers, floats)
+    });
+    section(&mut from, &rt, 7, b"band", |head, numbers, floats, _| {
+        bands::agrees(head, numbers, floats)
+    });
+    section(&mut from, &rt, 8, b"trajectory", trajectories::agrees);
+    section(&mut from, &rt, 11, b"job", |head, numbers, _, bytes| {
+        jobs::agrees(head, numbers, bytes)
+    });
     replay::end(&mut from, &rt);
 }

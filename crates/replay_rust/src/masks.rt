@@ -1,6 +1,5 @@
 // Masks and distances.
 use crate::case;
-use lists::Filled;
 use replay::OUT;
 
 // What the lists of distances hold at entry, and still where nothing is written.
@@ -12,12 +11,12 @@ const RIGHT: u32 = OUT + 2;
 pub fn agrees(head: &[u32], numbers: &[u32], floats: &[f64]) -> bool {
     let states = case::count(head, 0);
     let frames = case::count(head, 2);
-    let weights = lists::part_f64(floats, 0, states);
+    let weights = lists::part(floats, 0, states);
     let threshold = case::float(floats, states);
-    let durations = replay::part_u32(numbers, 0, states);
-    let voiced = replay::part_u32(numbers, states, frames);
-    let left = replay::part_u32(numbers, states + frames, frames);
-    let right = replay::part_u32(numbers, states + 2 * frames, frames);
+    let durations = lists::part(numbers, 0, states);
+    let voiced = lists::part(numbers, states, frames);
+    let left = lists::part(numbers, states + frames, frames);
+    let right = lists::part(numbers, states + 2 * frames, frames);
     let mut flags = [OUT; 44];
     let mut before = [LEFT; 44];
     let mut after = [RIGHT; 44];
@@ -29,11 +28,8 @@ pub fn agrees(head: &[u32], numbers: &[u32], floats: &[f64]) -> bool {
         &mut before,
         &mut after,
     );
-    let Filled::Done(made) = answer else {
-        return false;
-    };
-    (made as usize == frames)
-        & replay::holds_u32(&flags, voiced, OUT)
-        & replay::holds_u32(&before, left, LEFT)
-        & replay::holds_u32(&after, right, RIGHT)
+    (answer == Ok(case::number(head, 2)))
+        & replay::holds(&flags, voiced, OUT)
+        & replay::holds(&before, left, LEFT)
+        & replay::holds(&after, right, RIGHT)
 }

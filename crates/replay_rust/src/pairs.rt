@@ -2,15 +2,9 @@
 use crate::case;
 use model::mean_vari::{Clamp, Inverted, MeanVari};
 
-#[derive(Clone, Copy)]
-enum Answer {
-    Pair(Inverted),
-    Unknown,
-}
-
 // A pair of another operation than the inverse variance: nothing is clamped.
-fn plain(pair: MeanVari) -> Answer {
-    Answer::Pair(Inverted {
+fn plain(pair: MeanVari) -> Option<Inverted> {
+    Some(Inverted {
         pair,
         clamp: Clamp::No,
     })
@@ -37,16 +31,16 @@ fn estimated(pair: MeanVari, rho: f64) -> MeanVari {
     MeanVari(floats::rounded(pair.0 + rho * pair.1) as f64, 0.0)
 }
 
-// The answer for an operation's number, or that there is no such operation.
-fn computed(operation: u32, pair: MeanVari, other: MeanVari, weight: f64) -> Answer {
+// The answer for an operation's number, if there is such an operation.
+fn computed(operation: u32, pair: MeanVari, other: MeanVari, weight: f64) -> Option<Inverted> {
     match operation {
-        0 => Answer::Pair(pair.with_ivar()),
+        0 => Some(pair.with_ivar()),
         1 => plain(pair.with_0()),
         2 => plain(pair.weighted(weight)),
         3 => plain(pair.add(other)),
         4 => plain(summed(pair, other)),
         5 => plain(estimated(pair, weight)),
-        _ => Answer::Unknown,
+        _ => None,
     }
 }
 
@@ -59,11 +53,11 @@ pub fn agrees(head: &[u32], floats: &[f64]) -> bool {
     let pair = pair_at(floats, 0, 1);
     let other = pair_at(floats, 2, 3);
     let weight = case::float(floats, 4);
-    let Answer::Pair(made) = computed(case::number(head, 0), pair, other, weight) else {
+    let Some(made) = computed(case::number(head, 0), pair, other, weight) else {
         return false;
     };
     let clamp = made.clamp;
     let right = stored(clamp) == case::number(head, 1);
     let numbers = [made.pair.0, made.pair.1];
-    right & replay::holds_f64(&numbers, lists::part_f64(floats, 5, 2), 0.0)
+    right & replay::holds(&numbers, lists::part(floats, 5, 2), 0.0)
 }

@@ -1,17 +1,10 @@
 // Trajectories.
 use crate::case;
-use mlpg_adjust::{Created, GlobalVariance, Stream};
+use mlpg_adjust::{Clamped, Stream};
 use replay::{OUT_F64, WORK};
 
 // What the floats of the work space hold at entry, and still where nothing is written.
 const WORK_F64: f64 = -2e6;
-
-fn variance_of(on: u32, weight: f64) -> GlobalVariance {
-    if on == 0 {
-        return GlobalVariance::Off;
-    }
-    GlobalVariance::On(weight)
-}
 
 fn stream_of(head: &[u32], floats: &[f64]) -> Stream {
     Stream {
@@ -19,18 +12,18 @@ fn stream_of(head: &[u32], floats: &[f64]) -> Stream {
         masked: case::number(head, 1) != 0,
         threshold: case::float(floats, 0),
         fill: case::float(floats, 1),
-        gv: variance_of(case::number(head, 2), case::float(floats, 2)),
+        gv: (case::number(head, 2) != 0).then_some(case::float(floats, 2)),
     }
 }
 
 // Whether the work space of so many frames is zeroed, with everything beyond as it was.
 fn is_cleared(frames: usize, work: &[f64; 1160], marks: &[u32; 100]) -> bool {
-    let most = lists::least(frames, 24);
+    let most = frames.min(24);
     let mut floats = [WORK_F64; 1160];
     let mut counts = [WORK; 100];
-    lists::fill_f64(&mut floats, most * 48, 0.0);
-    lists::fill_u32(&mut counts, most * 4, 0);
-    replay::holds_f64(work, &floats, WORK_F64) & replay::holds_u32(marks, &counts, WORK)
+    lists::fill(&mut floats, most * 48, 0.0);
+    lists::fill(&mut counts, most * 4, 0);
+    replay::holds(work, &floats, WORK_F64) & replay::holds(marks, &counts, WORK)
 }
 
 // Whether the numbers and counts are those that are stored. Head: v, masked, GV on, windows, coefficients, records' numbers, states, GV's numbers, states, numbers, and the pairs
@@ -42,27 +35,29 @@ pub fn agrees(head: &[u32], numbers: &[u32], floats: &[f64], switches: &[u8]) ->
     let states = case::count(head, 6);
     let pairs = case::count(head, 7);
     let given = 3 + taps + recorded;
-    let durations = replay::part_u32(numbers, windows, states);
-    let right = lists::part_f64(floats, given + pairs, case::count(head, 9));
+    let durations = lists::part(numbers, windows, states);
+    let right = lists::part(floats, given + pairs, case::count(head, 9));
     let mut out = [OUT_F64; 80];
     let mut work = [WORK_F64; 1160];
     let mut marks = [WORK; 100];
     let answer = mlpg_adjust::create(
         stream_of(head, floats),
-        replay::part_u32(numbers, 0, windows),
-        lists::part_f64(floats, 3, taps),
-        lists::part_f64(floats, 3 + taps, recorded),
+        lists::part(numbers, 0, windows),
+        lists::part(floats, 3, taps),
+        lists::part(floats, 3 + taps, recorded),
         durations,
-        lists::part_f64(floats, given, pairs),
+        lists::part(floats, given, pairs),
         switches,
         &mut out,
         &mut work,
         &mut marks,
     );
-    let Created::Done { high, low } = answer else {
-        return false;
+    let clamped = Clamped {
+        high: case::number(head, 10),
+        low: case::number(head, 11),
     };
-    let counted = (high == case::number(head, 10)) & (low == case::number(head, 11));
     let frames = lists::total_u32(durations) as usize;
-    counted & replay::holds_f64(&out, right, OUT_F64) & is_cleared(frames, &work, &marks)
+    (answer == Ok(clamped))
+        & replay::holds(&out, right, OUT_F64)
+        & is_cleared(frames, &work, &marks)
 }

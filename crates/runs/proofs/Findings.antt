@@ -71,9 +71,6 @@ pub record Passed (voiced : Bool) (ds : List ℕ) (mask : List Bool) (p e : Plac
   pub forth : p.frame ≤ e.frame
   pub between : drop p.frame mask ≡ replicate (e.frame - p.frame) (not voiced) ++ drop e.frame mask
 
-pub passed_none : {voiced : Bool} {ds : List ℕ} {mask : List Bool} {p : Place} → Stands ds p → Passed voiced ds mask p p
-passed_none {p} s = let z : p.frame - p.frame ≡ 0 = omega arith in record { stands = s; later = omega arith; forth = omega arith; between = rw z }
-
 -- ---- a walk along a stream's states
 
 module _ (size : ℕ) (records : List Float) (threshold : Float) (ds : List ℕ) where
@@ -95,10 +92,11 @@ module _ (size : ℕ) (records : List Float) (threshold : Float) (ds : List ℕ)
     reached s = record { stands = w.stands; later = w.later; forth = w.forth; between = w.between; turned = s }
 
     -- there are no states behind
-    pub passed-all : length ds ≤ e.state → Reaches voiced ds (stream_mask size records threshold ds) p e
+    pub passed-all : length ds ≤ e.state → Reaches voiced ds (stream_mask size records threshold ds) p (record { state = length ds; frame = e.frame })
     passed-all h =
         let l : length (stream_mask size records threshold ds) ≤ e.frame = omega (arith, stream-length size records threshold ds, frame-last ds e.state e.frame w.stands.framed h) in
-        reached (rw (drop_of_length-le (stream_mask size records threshold ds) l) tt)
+        let q : e.state ≡ length ds = omega (arith, w.stands.within) in
+        subst (λ (n : ℕ). Reaches voiced ds (stream_mask size records threshold ds) p (record { state = n; frame = e.frame })) q (reached (rw (drop_of_length-le (stream_mask size records threshold ds) l) tt))
 
     -- the state there turns, or doesn't
     module _ (t : e.state < length ds) where

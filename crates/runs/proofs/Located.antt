@@ -41,7 +41,7 @@ module _ (s : Stream) (widths : List ℕ) (coefs records : List Float) (ds : Lis
     recorded = record { each = rw es (le_of_eq (sym shaped.recorded)); frames = shaped.frames }
 
     -- run number `run` is found, of n frames
-    module _ (run k : ℕ) (ek : k ≡ run) (f : Found) (a : FoundAt ds (stream_mask size records s.threshold ds) f × (f.number ≤ k) × (f.number < k → f.end.frame ≡ f.begin.frame))
+    module _ (run : ℕ) (f : Found) (a : FoundAt ds (stream_mask size records s.threshold ds) f × (f.number ≤ run) × (f.number < run → f.end.frame ≡ f.begin.frame))
         (n : ℕ) (en : n + f.begin.frame ≡ f.end.frame) where
       placed : FoundAt ds mask f
       placed = subst (λ (m : ℕ). FoundAt ds (stream_mask m records s.threshold ds) f) es a.0
@@ -50,10 +50,10 @@ module _ (s : Stream) (widths : List ℕ) (coefs records : List Float) (ds : Lis
       its e = omega arith
 
       pub run-frames : (run_at mask run).frames ≡ n
-      run-frames = rw (← ek) (found-frames ds mask f k placed a.1 a.2) ∙ its (sym en)
+      run-frames = found-frames ds mask f run placed a.1 a.2 ∙ its (sym en)
 
       pub run-there : ltb run (length (runs_of mask)) ≡ not (eqb n 0)
-      run-there = rw (← ek) (found-there ds mask f k placed a.1 a.2) ∙ ap (λ (m : ℕ). not (eqb m 0)) (its (sym en))
+      run-there = found-there ds mask f run placed a.1 a.2 ∙ ap (λ (m : ℕ). not (eqb m 0)) (its (sym en))
 
       module _ (out work : List Float) (marks : List ℕ) (accepted : found_refusal s widths n (length out) (length work) (length marks) ≡ 0) where
         abbrev fit : Bool
@@ -80,7 +80,7 @@ module _ (s : Stream) (widths : List ℕ) (coefs records : List Float) (ds : Lis
             (leb-true (n * s.v) (length out) a, leb-true (n * 48) (length work) b, leb-true (n * 4) (length marks) d)
 
         pub run_is : run_at mask run ≡ run_of f
-        run_is = rw (← ek) (found-run ds mask f k placed a.1 a.2 (rw (its (sym en)) some)).0
+        run_is = (found-run ds mask f run placed a.1 a.2 (rw (its (sym en)) some)).0
 
         pub renders : Renders s widths coefs records ds f out work marks
         renders = record {

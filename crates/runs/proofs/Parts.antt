@@ -37,7 +37,9 @@ use Rattle.band.proofs.Lengths.{side-length}
 use Rattle.solve.proofs.Factors.{solution-length}
 use Rattle.mlpg_adjust.specs.Trajectory.{voiced_ivars, voiced_means, matrix, side, solved, trajectory, with_gv, gv_on, state_size, numbers_of}
 use Rattle.mlpg_adjust.specs.Promise.{lengths_of, disagree, stream_refusal, create_refusal, created_number, zero_floats, zero_marks, CreateSays}
-use Rattle.mlpg_adjust.specs.declared.Created.{Created}
+use Rattle.std.proofs.Common.{Result}
+use Rattle.lists.specs.declared.Refusal.{Refusal}
+use Rattle.mlpg_adjust.specs.declared.Clamped.{Clamped}
 use Rattle.mlpg_adjust.specs.declared.Stream.{Stream}
 use Rattle.mlpg_adjust.proofs.Calls.{without_gv}
 use Rattle.mlpg_adjust.proofs.Ways.{size_small}
@@ -263,7 +265,7 @@ module _ (s : Stream) (widths : List ℕ) (coefs records : List Float) (ds : Lis
       )
 
   -- and so the output and the work space are the run's
-  pub run-said : (size : ℕ) → size ≡ state_size s widths → (c : Created) (out' work' : List Float) (marks' : List ℕ)
+  pub run-said : (size : ℕ) → size ≡ state_size s widths → (c : Result Clamped Refusal) (out' work' : List Float) (marks' : List ℕ)
       → CreateSays s widths coefs (part (f.begin.state * size) (f.end.state * size - f.begin.state * size) records) (part f.begin.state (f.end.state - f.begin.state) ds) gv switches out work marks c out' work' marks'
       → (out' ≡ written 0 (run_numbers s widths coefs records ds (run_of f)) out) × (work' ≡ written 0 (zero_floats (run_of f).frames) work) × (marks' ≡ written 0 (zero_marks (run_of f).frames) marks)
   run-said size e c out' work' marks' k =

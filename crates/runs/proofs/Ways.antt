@@ -10,13 +10,14 @@ use lib.Dec.{ltb, leb, eqb}
 use lib.ListN.{length, take, drop}
 use lib.Ieee.{Float}
 use Rattle.lists.specs.Totals.{total}
-use Rattle.lists.specs.Refusals.{or_else}
+use Rattle.lists.specs.Refusals.{number_of, or_else}
 use Rattle.lists.specs.Answers.{written}
-use Rattle.lists.specs.declared.Filled.{Filled}
-use Rattle.lists.specs.declared.Filled.TheVariants.{Done, Refused}
+use Rattle.std.proofs.Common.{Result, Ok, Err}
+use Rattle.lists.specs.declared.Refusal.{Refusal}
+use Rattle.lists.specs.declared.Refusal.TheVariants.{TooLittleRoom}
 use Rattle.lists.proofs.Flags.{neither}
-use Rattle.lists.proofs.Answers.{refused, untouched, accepted, in_front}
-use Rattle.lists.proofs.Refusals.{or_first}
+use Rattle.lists.proofs.Answers.{untouched, accepted, in_front}
+use Rattle.lists.proofs.Ends.{stops, not-counted, not_none}
 use Rattle.model.specs.Windows.{width_of}
 use Rattle.voicing.specs.Mask.{stream_mask}
 use Rattle.voicing.specs.declared.Voicing.{Voicing}
@@ -91,25 +92,25 @@ module _ (v : ℕ) (masked : Bool) (threshold : Float) (windows : ℕ) (records 
   abbrev found : List Run
   found = runs_of (stream_mask (record_size v windows masked) records threshold ds)
 
-  abbrev Told : Filled → List ℕ → Type 0
+  abbrev Told : Result ℕ Refusal → List ℕ → Type 0
   Told r out' = RunsSay v masked threshold windows records ds out r out'
 
   abbrev why : ℕ
   why = runs_refusal v masked threshold windows records ds out
 
-  untold : (k : ℕ) → k ≡ why → (k ≡ 0 → ⊥) → Told (Refused k) out
-  untold k e h = let n : why ≡ 0 → ⊥ = λ z. h (e ∙ z) in record { answer = rw e (refused why _ n); places = untouched why _ out n }
+  untold : (e : Refusal) → number_of e ≡ why → Told (Err e) out
+  untold e q = record { answer = not-counted e why _ q; places = untouched why _ out (not_none e why q) }
 
-  pub lists-refused : (k : ℕ) → k ≡ lists → (k ≡ 0 → ⊥) → Told (Refused k) out
+  pub lists-refused : (e : Refusal) → number_of e ≡ lists → Told (Err e) out
   unfolding runs_refusal
-  lists-refused k e h = untold k (e ∙ sym (or_first lists _ (λ z. h (e ∙ z)))) h
+  lists-refused e q = untold e (stops e lists _ q)
 
   module _ (none : lists ≡ 0) (n : ℕ) (en : n ≡ length found) where
-    pub runs-short : leb (n * 2) (length out) ≡ false → Told (Refused 6) out
+    pub runs-short : leb (n * 2) (length out) ≡ false → Told (Err TooLittleRoom) out
     unfolding runs_refusal runs_in
-    runs-short h = untold 6 (rw (none, ← en, h)) (λ z. omega arith)
+    runs-short h = untold TooLittleRoom (rw (none, ← en, h))
 
-    pub runs-told : leb (n * 2) (length out) ≡ true → (front : List ℕ) → front ≡ pairs_of found → Told (Done n) (front ++ drop (2 * n) out)
+    pub runs-told : leb (n * 2) (length out) ≡ true → (front : List ℕ) → front ≡ pairs_of found → Told (Ok n) (front ++ drop (2 * n) out)
     unfolding runs_refusal runs_in
     runs-told h front e =
         let q : why ≡ 0 = rw (none, ← en, h) in
@@ -128,18 +129,18 @@ module _ (s : Stream) (widths : List ℕ) (coefs records : List Float) (ds : Lis
   abbrev refusal : ℕ
   refusal = run_refusal s widths coefs records ds gv switches run out work marks
 
-  abbrev Says : Filled → List Float → List Float → List ℕ → Type 0
+  abbrev Says : Result ℕ Refusal → List Float → List Float → List ℕ → Type 0
   Says r out' work' marks' = RunSays s widths coefs records ds gv switches run out work marks r out' work' marks'
 
   -- refused, nothing is touched
-  still : (k : ℕ) → k ≡ refusal → (k ≡ 0 → ⊥) → Says (Refused k) out work marks
-  still k e h =
-      let n : refusal ≡ 0 → ⊥ = λ z. h (e ∙ z) in
-      record { answer = rw e (refused refusal ((run_at mask run).frames ∷ []) n); numbers = untouched refusal _ out n; space = untouched refusal _ work n; counts = untouched refusal _ marks n }
+  still : (e : Refusal) → number_of e ≡ refusal → Says (Err e) out work marks
+  still e q =
+      let n : refusal ≡ 0 → ⊥ = not_none e refusal q in
+      record { answer = not-counted e refusal (run_at mask run).frames q; numbers = untouched refusal _ out n; space = untouched refusal _ work n; counts = untouched refusal _ marks n }
 
-  pub inputs-refused : (k : ℕ) → k ≡ inputs → (k ≡ 0 → ⊥) → Says (Refused k) out work marks
+  pub inputs-refused : (e : Refusal) → number_of e ≡ inputs → Says (Err e) out work marks
   unfolding run_refusal
-  inputs-refused k e h = still k (e ∙ sym (or_first inputs _ (λ z. h (e ∙ z)))) h
+  inputs-refused e q = still e (stops e inputs _ q)
 
   -- of a run of n frames, which is there where it has some
   module _ (none : inputs ≡ 0) (n : ℕ) (en : (run_at mask run).frames ≡ n) where
@@ -153,12 +154,12 @@ module _ (s : Stream) (widths : List ℕ) (coefs records : List Float) (ds : Lis
           swapped false true k = refl
           swapped false false k = refl
 
-      pub run-refused : (k : ℕ) → k ≡ found_refusal s widths n (length out) (length work) (length marks) → (k ≡ 0 → ⊥) → Says (Refused k) out work marks
-      run-refused k e h = still k (e ∙ sym found-refusal) h
+      pub run-refused : (e : Refusal) → number_of e ≡ found_refusal s widths n (length out) (length work) (length marks) → Says (Err e) out work marks
+      run-refused e q = still e (q ∙ sym found-refusal)
 
       pub run-done : found_refusal s widths n (length out) (length work) (length marks) ≡ 0 → (r : Run) → run_at mask run ≡ r → (out' work' : List Float) (marks' : List ℕ)
           → out' ≡ written 0 (run_numbers s widths coefs records ds r) out → work' ≡ written 0 (zero_floats r.frames) work → marks' ≡ written 0 (zero_marks r.frames) marks
-          → Says (Done n) out' work' marks'
+          → Says (Ok n) out' work' marks'
       run-done z r e out' work' marks' a b d =
           let q : refusal ≡ 0 = found-refusal ∙ z in
           record { answer = rw (q, en); numbers = rw (q, e) a; space = rw (q, e) b; counts = rw (q, e) d }

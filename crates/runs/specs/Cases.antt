@@ -1,13 +1,11 @@
 -- RULES, One run alone: worked cases of runs and of their refusals, computed from the definitions.
-use Rattle.std.specs.Prelude.{◌≡◌, refl, true, false, List, [], ◌∷◌, ℕ, replicate, Float}
+use Rattle.std.specs.Prelude.{Option, None, Some, ◌≡◌, refl, true, false, List, [], ◌∷◌, ℕ, replicate, Float}
 use Rattle.std.specs.Float.Ieee.{of_bits, lt}
 use Rattle.floats.specs.Numbers.{nought, one}
 use Rattle.model.specs.Record.{from_linear}
 use Rattle.model.specs.Windows.{widths_fit, all_finite, finite}
 use Rattle.voicing.specs.Mask.{mask_of, weights_of}
 use Rattle.mlpg_adjust.specs.Promise.{disagree}
-use Rattle.mlpg_adjust.specs.declared.GlobalVariance.{GlobalVariance}
-use Rattle.mlpg_adjust.specs.declared.GlobalVariance.TheVariants.{Off, On}
 use Rattle.runs.specs.Runs.{runs_from, runs_of, pairs_of}
 use Rattle.runs.specs.Promise.{runs_in, runs_refusal, run_refusal}
 
@@ -43,30 +41,30 @@ room_of_three = refl
 -- ---- the order of 6, 20, 21 and 22
 
 -- run k of two frames and of four, in a window of so many coefficients, with so much room
-abbrev number : GlobalVariance → ℕ → ℕ → ℕ → ℕ
+abbrev number : Option Float → ℕ → ℕ → ℕ → ℕ
 number gv k width room =
     run_refusal (record { v = 1; masked = true; threshold = nought; fill = nought; gv = gv }) (width ∷ []) (replicate width one) records (3 ∷ 2 ∷ 1 ∷ 4 ∷ 0 ∷ []) (one ∷ one ∷ [])
     (0 ∷ 0 ∷ 0 ∷ 0 ∷ 0 ∷ []) k (replicate room one) (replicate 192 one) (replicate 16 0)
 
-pub accepted : number Off 1 1 4 ≡ 0
+pub accepted : number None 1 1 4 ≡ 0
 unfolding run_refusal widths_fit all_finite finite disagree runs_from mask_of weights_of lt of_bits from_linear
 accepted = refl
 
 -- a run of four frames in room for three is 6, whatever else
-pub six : number (On one) 1 3 3 ≡ 6
+pub six : number (Some one) 1 3 3 ≡ 6
 unfolding run_refusal widths_fit all_finite finite disagree runs_from mask_of weights_of lt of_bits from_linear
 six = refl
 
 -- one that is not there needs no room: 20 with GV on
-pub twenty : number (On one) 2 3 0 ≡ 20
+pub twenty : number (Some one) 2 3 0 ≡ 20
 unfolding run_refusal widths_fit all_finite finite disagree runs_from mask_of weights_of lt of_bits from_linear
 twenty = refl
 
 -- and 21 with GV off
-pub twenty_one : number Off 2 3 0 ≡ 21
+pub twenty_one : number None 2 3 0 ≡ 21
 unfolding run_refusal widths_fit all_finite finite disagree runs_from mask_of weights_of lt of_bits from_linear
 twenty_one = refl
 
-pub twenty_two : number Off 0 3 2 ≡ 22
+pub twenty_two : number None 0 3 2 ≡ 22
 unfolding run_refusal widths_fit all_finite finite disagree runs_from mask_of weights_of lt of_bits from_linear
 twenty_two = refl

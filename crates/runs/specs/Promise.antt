@@ -1,12 +1,12 @@
 -- What the calls for runs promise.
-use Rattle.std.specs.Prelude.{◌≡◌, Bool, cond, not, ◌||◌, ◌&&◌, ℕ, ◌*◌, length, ltb, leb, eqb, Float}
+use Rattle.std.specs.Prelude.{◌≡◌, Result, Bool, cond, not, ◌||◌, ◌&&◌, ℕ, ◌*◌, length, ltb, leb, eqb, Float}
 use mathlib.Core.List.{List, [], ◌∷◌}
 use Rattle.lists.specs.Sizes.{most_windows, most_frames}
 use Rattle.lists.specs.Totals.{total}
 use Rattle.lists.specs.Refusals.{or_else}
 use Rattle.lists.specs.Answers.{answer_of, written}
-use Rattle.lists.specs.Ends.{filled}
-use Rattle.lists.specs.declared.Filled.{Filled}
+use Rattle.lists.specs.Ends.{counted}
+use Rattle.lists.specs.declared.Refusal.{Refusal}
 use Rattle.model.specs.Windows.{width_of}
 use Rattle.voicing.specs.Mask.{mask_of, weights_of, stream_mask}
 use Rattle.mlpg_adjust.specs.Trajectory.{record_size, state_size, gv_on}
@@ -39,8 +39,8 @@ module _ (v : ℕ) (masked : Bool) (threshold : Float) (windows : ℕ) (records 
   runs_refusal out = or_else (records_refusal v masked windows (length records) ds) (cond (leb (length runs_in * 2) (length out)) 0 6)
 
   -- how many runs there are, and two numbers of each
-  pub record RunsSay (out : List ℕ) (r : Filled) (out' : List ℕ) : Type 0 where
-    pub answer : filled r ≡ answer_of (runs_refusal out) (length runs_in ∷ [])
+  pub record RunsSay (out : List ℕ) (r : Result ℕ Refusal) (out' : List ℕ) : Type 0 where
+    pub answer : counted r ≡ answer_of (runs_refusal out) (length runs_in ∷ [])
     pub places : out' ≡ written (runs_refusal out) (pairs_of runs_in) out
 
 -- ---- `create_run`
@@ -68,8 +68,8 @@ module _ (s : Stream) (widths : List ℕ) (coefs records : List Float) (ds : Lis
       (cond (ltb 1 (width_of widths 0)) 22 0))))
 
   -- how many frames the run has, its trajectory, and the work space of these frames zeroed
-  pub record RunSays (out work : List Float) (marks : List ℕ) (r : Filled) (out' work' : List Float) (marks' : List ℕ) : Type 0 where
-    pub answer : filled r ≡ answer_of (run_refusal out work marks) (asked.frames ∷ [])
+  pub record RunSays (out work : List Float) (marks : List ℕ) (r : Result ℕ Refusal) (out' work' : List Float) (marks' : List ℕ) : Type 0 where
+    pub answer : counted r ≡ answer_of (run_refusal out work marks) (asked.frames ∷ [])
     pub numbers : out' ≡ written (run_refusal out work marks) (run_numbers s widths coefs records ds asked) out
     pub space : work' ≡ written (run_refusal out work marks) (zero_floats asked.frames) work
     pub counts : marks' ≡ written (run_refusal out work marks) (zero_marks asked.frames) marks

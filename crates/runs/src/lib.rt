@@ -4,16 +4,18 @@
 ghost use Rattle.std.specs.Prelude.{◌≡◌};
 ghost use Rattle.runs.specs.Promise.{RunsSay, RunSays};
 
-use lists::Filled;
-use mlpg_adjust::Stream;
+use lists::Refusal;
+use mlpg_adjust::{Inputs, Stream};
+use states::States;
 use voicing::Voicing;
 
 mod finding;
 mod refusing;
 mod rendering;
+mod states;
 
 // A run of voiced frames: its first one, and how many it has.
-#[derive(Clone, Copy)]
+#[derive(Clone, Copy, Debug, PartialEq, Eq)]
 pub struct Run {
     pub first: usize,
     pub frames: usize,
@@ -28,24 +30,23 @@ pub fn runs(
     records: &[f64],
     durations: &[u32],
     out: &mut [u32],
-) -> Filled
+) -> Result<u32, Refusal>
     ensures { RunsSay v masked threshold windows records.now durations.now out.old result out.new }
 {
-    let refused = refusing::refusal_of_records(v, masked, windows, records.len(), durations);
-    if refused != 0 {
-        return Filled::Refused(refused);
-    }
-    let u = Voicing {
-        size: refusing::record_size(v, windows, masked),
-        threshold,
+    refusing::check_records(v, masked, windows, records.len(), durations)?;
+    let size = mlpg_adjust::record_size(v, windows as u8, masked);
+    let states = States {
+        records,
+        voicing: Voicing { size, threshold },
+        durations,
     };
-    let count = finding::count(records, u, durations);
+    let count = states.count();
     if !lists::has_room(count, 2, out.len()) {
-        return Filled::Refused(6);
+        return Err(Refusal::TooLittleRoom);
     }
     let end = 2 * count;
-    finding::write(records, u, durations, &mut out[..end]);
-    Filled::Done(count as u32)
+    states.write(&mut out[..end]);
+    Ok(count as u32)
 }
 
 // The trajectory of one run alone, by its number, and how many frames it has.
@@ -61,11 +62,11 @@ pub fn create_run(
     out: &mut [f64],
     work: &mut [f64],
     marks: &mut [u32],
-) -> Filled
+) -> Result<u32, Refusal>
     ensures { RunSays stream widths.now coefficients.now records.now durations.now gv.now switches.now run
         out.old work.old marks.old result out.new work.new marks.new }
 {
-    let refused = mlpg_adjust::refusal_of_stream(
+    mlpg_adjust::check_stream(
         stream,
         widths,
         coefficients,
@@ -73,21 +74,14 @@ pub fn create_run(
         durations,
         gv,
         switches,
-    );
-    if refused != 0 {
-        return Filled::Refused(refused);
-    }
-    rendering::answer(
-        stream,
+    )?;
+    let inputs = Inputs {
         widths,
         coefficients,
         records,
         durations,
         gv,
         switches,
-        run,
-        out,
-        work,
-        marks,
-    )
+    };
+    rendering::answer(stream, inputs, run, out, work, marks)
 }

@@ -20,14 +20,14 @@ use Rattle.lists.proofs.Fills.{build-length}
 use Rattle.lists.proofs.Builds.{build-at, build_is, map-build, fold_append}
 use Rattle.lists.proofs.Firsts.{first-within, first_is, first-before, first-none}
 use Rattle.lists.proofs.Chosen.{select-append, select-at, select-each, select-front, select-map, select-first, select-none}
-use Rattle.lists.specs.declared.Changed.{Changed}
-use Rattle.lists.specs.declared.Changed.TheVariants.{Done}
-use Rattle.lists.specs.declared.Counted.TheVariants.{Number}
-use Rattle.settings.specs.declared.Got.TheVariants.{Held}
+use Rattle.std.specs.Prelude.{Result, Ok}
+use Rattle.lists.specs.declared.Refusal.{Refusal}
+use Rattle.lists.specs.Answers.{accepting}
+use Rattle.lists.proofs.Answers.{accepted_is}
 use Rattle.settings.specs.Store.{Store, store_settings, store_of, free, holds_at, holding, is_held, first_off, free_place, settings_at, Entry, entry_in, entries_in, held_in}
 use Rattle.settings.specs.Changes.{empty}
 use Rattle.settings.specs.Format.{put_entry, settled, set_entry, entries_of, read_refusal, read_in, voices_of}
-use Rattle.lists.specs.Ends.{changed_of, counted_of}
+use Rattle.lists.proofs.Ends.{accepted_ok}
 use Rattle.settings.specs.Promise.{store_refusal, file_in, write_refusal, ReadSays, WriteSays}
 use Rattle.settings.specs.Laws.{SameSettings}
 use Rattle.settings.specs.Written.{Fits, nothing, Writable}
@@ -38,7 +38,7 @@ use Rattle.settings.proofs.Holding.{held-most}
 use Rattle.settings.proofs.Setting.{holds-first, held_first}
 use Rattle.settings.proofs.Refusing.{has_places}
 use Rattle.settings.proofs.Files.{written_back, written-formed}
-use Rattle.settings.proofs.Laws.{Sized, got_in, got_held, got_none, get_same, store_then, usable-then}
+use Rattle.settings.proofs.Laws.{Sized, given_so, got_in, got_held, got_none, get_same, store_then, usable-then}
 use Rattle.settings.proofs.Different.{Numbers, different_voices}
 use Rattle.settings.proofs.OneByOne.{closed_fold, closed-sized, read-closed}
 
@@ -234,20 +234,16 @@ module _ (s : Store) where
           (λ (h : length vs ≤ first_at v vs). got_none v t (omega (arith, absent h, voices-long (entries_in s) t closed)) ∙ sym (got_none v s h))
           (λ (h : first_at v vs < length vs).
           got_held v t (omega (arith, place-back h, within h, few, voices-long (entries_in s) t closed))
-          ∙ ap Held (ap (settings_at t.settings) (place-back h) ∙ settings-back h) ∙ sym (got_held v s h))
+          ∙ ap given_so (ap (settings_at t.settings) (place-back h) ∙ settings-back h) ∙ sym (got_held v s h))
           (le_or_lt (length vs) (first_at v vs))
 
 -- ---- over the calls
 
 -- RULES, Settings: a file that was read leaves its records, a later one in the place of an earlier of its voice
-pub read-holds : (voices settings bytes : List ℕ) → Bytes bytes → (voices' settings' : List ℕ) → ReadSays voices settings bytes Done voices' settings' → entries_in (store_of voices' settings') ≡ settled (entries_of bytes)
+pub read-holds : (voices settings bytes : List ℕ) → Bytes bytes → (voices' settings' : List ℕ) → ReadSays voices settings bytes (Ok tt) voices' settings' → entries_in (store_of voices' settings') ≡ settled (entries_of bytes)
 read-holds voices settings bytes b voices' settings' read =
     let k : Closed (settled (entries_of bytes)) (read_in bytes) = read-closed voices settings bytes b voices' settings' read in
     ap entries_in (store_then read (closed-sized (settled (entries_of bytes)) (read_in bytes) k)) ∙ closed-entries (settled (entries_of bytes)) (read_in bytes) k
-
-number_is : (k n m : ℕ) → Number m ≡ counted_of k n → (k ≡ 0) × (m ≡ n)
-number_is zero n m e = (refl, cc)
-number_is (suc k) n m e = let z : ◌≡◌ {A = ℕ} 0 1 = cc in absurd (omega arith)
 
 -- each setting of a front has 64 bits where those of the list have
 front-bits : (n : ℕ) (l : List ℕ) → ((i : ℕ) → get_or l i 0 < 2 ^ 64) → (i : ℕ) → get_or (take n l) i 0 < 2 ^ 64
@@ -257,8 +253,8 @@ front-bits (suc n) (x ∷ l) k zero = k 0
 front-bits (suc n) (x ∷ l) k (suc i) = front-bits n l (λ j. k (suc j)) i
 
 -- RULES, Settings: a store was written, and the file is read into another, whatever that held; each number of the settings has 64 bits
-module _ (voices settings out out' : List ℕ) (m : ℕ) (wrote : WriteSays voices settings out (Number m) out') (bits : (i : ℕ) → get_or settings i 0 < 2 ^ 64)
-    (ws ts : List ℕ) (u : store_refusal ws ts ≡ 0) (r : Changed) (ws' ts' : List ℕ) (reads : ReadSays ws ts (take m out') r ws' ts') where
+module _ (voices settings out out' : List ℕ) (m : ℕ) (wrote : WriteSays voices settings out (Ok m) out') (bits : (i : ℕ) → get_or settings i 0 < 2 ^ 64)
+    (ws ts : List ℕ) (u : store_refusal ws ts ≡ 0) (r : Result (Unit {0}) Refusal) (ws' ts' : List ℕ) (reads : ReadSays ws ts (take m out') r ws' ts') where
   abbrev x : Store
   x = store_of voices settings
 
@@ -266,7 +262,10 @@ module _ (voices settings out out' : List ℕ) (m : ℕ) (wrote : WriteSays voic
   bytes = file_in x
 
   was : (write_refusal voices settings out ≡ 0) × (m ≡ length bytes)
-  was = number_is (write_refusal voices settings out) (length bytes) m wrote.answer
+  was =
+      let a = accepted_is (accepting (m ∷ [])) (write_refusal voices settings out) (length bytes ∷ []) wrote.answer refl in
+      let v = a.1 in
+      (a.0, cc)
 
   usable : store_refusal voices settings ≡ 0
   unfolding write_refusal
@@ -291,11 +290,11 @@ module _ (voices settings out out' : List ℕ) (m : ℕ) (wrote : WriteSays voic
       let l : held_in (voices_of (entries_of bytes)) ≤ most_voices = rw (says, n) (few x long) in
       rw (u, file_is, written-formed 2 (entries_in x) room, le-ltb most_voices (held_in (voices_of (entries_of bytes))) l)
 
-  done : r ≡ Done
-  done = reads.answer ∙ ap changed_of accepted
+  done : r ≡ Ok tt
+  done = accepted_ok r (reads.answer ∙ accepted)
 
-  read_done : ReadSays ws ts (take m out') Done ws' ts'
-  read_done = subst (λ (y : Changed). ReadSays ws ts (take m out') y ws' ts') done reads
+  read_done : ReadSays ws ts (take m out') (Ok tt) ws' ts'
+  read_done = subst (λ (y : Result (Unit {0}) Refusal). ReadSays ws ts (take m out') y ws' ts') done reads
 
   is_read : read_in (take m out') ≡ t x long
   unfolding read_in
@@ -307,7 +306,7 @@ module _ (voices settings out out' : List ℕ) (m : ℕ) (wrote : WriteSays voic
   then : store_of ws' ts' ≡ t x long
   then = store_then read_done read-sized ∙ is_read
 
-  pub written_read : (r ≡ Done) × SameSettings voices settings ws' ts'
+  pub written_read : (r ≡ Ok tt) × SameSettings voices settings ws' ts'
   written_read = (
     done,
     record {

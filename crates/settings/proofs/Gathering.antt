@@ -6,7 +6,7 @@ use mathlib.Core.List.{List, [], ◌∷◌, ◌++◌, map, flatten, append_assoc
 use Prim.Native.Nat.{ℕ, zero, suc, ◌+◌, ◌-◌, ◌*◌, ◌≤◌, ◌<◌, max, zero-le}
 use native.Mathlib.Numerals.{add-one}
 use native.Mathlib.Omega.{arith}
-use borrow.Author.Tests.{le-leb, lt-leb, eq-eqb}
+use borrow.Author.Tests.{le-leb, lt-ltb, le-ltb, eq-eqb}
 use lib.ListN.{length, take, drop, get_or, set, replicate, length-append, length-drop, length-map, length-replicate, get_or-replicate, take-append-drop, drop_of_length-le, get_or-append}
 use lib.Seq.{sets, take_all, take_at, take-suc, length-take-le, get_or-append-add, set_at}
 use Rattle.lists.specs.Sizes.{most_voices, most_voice}
@@ -19,11 +19,13 @@ use Rattle.lists.proofs.Builds.{build-at, fold_append}
 use Rattle.lists.proofs.Stores.{sets-past-first}
 use Rattle.lists.proofs.Spelled.{word_below}
 use Rattle.lists.proofs.Firsts.{first-within, first_is, first-none, first-left, first-right}
+use Rattle.std.specs.Prelude.{Ok, Err}
+use Rattle.lists.specs.declared.Refusal.TheVariants.{StoreFull}
 use Rattle.settings.specs.declared.Settings.{Settings}
 use Rattle.settings.specs.Store.{Store, store_settings, store, free, holds_at, free_place, holding, in_order, Entry}
 use Rattle.settings.specs.Changes.{empty, place_for, set_in}
 use Rattle.settings.specs.Format.{count_of, version_of, head_bytes, entry_bytes, settings_from, entry_at, entries_of, put_entry, settled, set_entry, read_in, voices_of}
-use Rattle.settings.specs.Inner.Steps.{Gathered}
+use Rattle.settings.specs.Inner.Steps.{Gathered, full_refusal}
 use Rattle.settings.proofs.Places.{off_at, holding-long, holding-at, own-place, free-place}
 
 -- the voices of records, and their settings one after the other
@@ -275,13 +277,13 @@ module _ (bytes : List ℕ) where
     pub places-long : length settings ≡ store_settings
     places-long = settings-long (settled (take i es)) (store voices settings) k.closed
 
-    pub gather_done : count_of bytes ≤ i → Gathered bytes true voices settings
+    pub gather_done : count_of bytes ≤ i → Gathered bytes (Ok tt) voices settings
     unfolding read_in
     gather_done h =
         let t : take i es ≡ es = take_all i es (rw es-long h) in
         let f : length (settled es) ≤ most_voices = rw (← t) k.closed.few in
         let m : store voices settings ≡ read_in bytes = sym k.made ∙ ap (fold_from set_entry empty) t in
-        record { fits = sym (le-leb (length (settled es)) most_voices f); numbers = λ o. ap (λ (s : Store). s.voices) m; kept = λ o. ap (λ (s : Store). s.settings) m }
+        record { fits = rw (le-ltb most_voices (length (settled es)) f); numbers = λ o. ap (λ (s : Store). s.voices) m; kept = λ o. ap (λ (s : Store). s.settings) m }
 
     module _ (h : i < count_of bytes) (at voice : ℕ) (a : at ≡ head_bytes + entry_bytes (version_of bytes) * i) (v : voice ≡ word_at bytes at) (place : ℕ) (p : place ≡ first_at voice (take held voices)) where
       abbrev e : Entry
@@ -302,13 +304,14 @@ module _ (bytes : List ℕ) where
       unfolding settled fold_from
       settled-next = ap (fold_from put_entry []) (next-entry i h) ∙ fold_append put_entry [] (take i es) (e ∷ [])
 
-      pub gather_full : place ≡ most_voices → Gathered bytes false voices settings
+      pub gather_full : place ≡ most_voices → Gathered bytes (Err StoreFull) voices settings
       unfolding settled
       gather_full f =
           let l : length (settled (take (i + 1) es)) ≡ max (length (settled (take i es))) (place + 1) = ap length settled-next ∙ put-long (settled (take i es)) e ∙ rw (← place_of) in
           let w : settled es ≡ fold_from put_entry (settled (take (i + 1) es)) (drop (i + 1) es) = ap (fold_from put_entry []) (sym (take-append-drop (i + 1) es)) ∙ fold_append put_entry [] (take (i + 1) es) (drop (i + 1) es) in
           let g : most_voices < length (settled es) = rw w (omega (arith, settled-grows (settled (take (i + 1) es)) (drop (i + 1) es))) in
-          record { fits = sym (lt-leb (length (settled es)) most_voices g); numbers = λ o. absurd (let z : ◌≡◌ {A = ℕ} 0 1 = cc in omega arith); kept = λ o. absurd (let z : ◌≡◌ {A = ℕ} 0 1 = cc in omega arith) }
+          let t : full_refusal bytes ≡ 17 = rw (lt-ltb most_voices (length (settled es)) g) in
+          record { fits = sym t; numbers = λ o. absurd (omega arith); kept = λ o. absurd (omega arith) }
 
       pub place-within : (place ≡ most_voices → ⊥) → place < most_voices
       place-within d = omega (arith, gathered-few, place_of, first-within e.voice (names (settled (take i es))), names-long (settled (take i es)), k.so_many)

@@ -13,8 +13,11 @@ use Rattle.lists.specs.Frames.{count}
 use Rattle.lists.specs.Firsts.{first_at}
 use Rattle.lists.proofs.Counts.{count_most}
 use Rattle.lists.proofs.Chosen.{at_any}
-use Rattle.lists.specs.declared.Counted.{Counted}
-use Rattle.lists.specs.declared.Counted.TheVariants.{Number, Refused}
+use Rattle.std.specs.Prelude.{Result, Ok, Err}
+use Rattle.lists.specs.declared.Refusal.{Refusal}
+use Rattle.lists.specs.declared.Refusal.TheVariants.{TooLittleRoom}
+use Rattle.lists.proofs.Answers.{same}
+use Rattle.lists.proofs.Ends.{counted-one}
 use Rattle.settings.specs.Store.{free, holds_at, holding, held_in}
 use Rattle.settings.specs.Promise.{CountSays}
 use Rattle.settings.proofs.Places.{holding-long}
@@ -36,12 +39,12 @@ held-most voices = omega (arith, count_most (holding voices), holding-long voice
 pub held-few : (voices : List ℕ) → held_in (take most_voices voices) ≤ most_voices
 held-few voices = omega (arith, held-most (take most_voices voices), length-take most_voices voices)
 
-pub count-short : (voices : List ℕ) → length voices < most_voices → CountSays voices (Refused 6)
+pub count-short : (voices : List ℕ) → length voices < most_voices → CountSays voices (Err TooLittleRoom)
 count-short voices h = rw (lt-ltb (length voices) most_voices h)
 
-pub count-done : (voices : List ℕ) (n : ℕ) → most_voices ≤ length voices → n ≡ held_in (take most_voices voices) → CountSays voices (Number n)
+pub count-done : (voices : List ℕ) (n : ℕ) → most_voices ≤ length voices → n ≡ held_in (take most_voices voices) → CountSays voices (Ok n)
 count-done voices n h e = rw (le-ltb (length voices) most_voices h, e)
 
 -- two answers that count allows are equal
-pub count-one : (voices : List ℕ) (r s : Counted) → CountSays voices r → CountSays voices s → r ≡ s
-count-one voices r s f g = f ∙ sym g
+pub count-one : (voices : List ℕ) (r s : Result ℕ Refusal) → CountSays voices r → CountSays voices s → r ≡ s
+count-one voices r s f g = counted-one r s (same (f ∙ sym g))

@@ -18,14 +18,16 @@ use Rattle.lists.proofs.Refusals.{or_none}
 use Rattle.lists.proofs.Counts.{count_most}
 use Rattle.lists.proofs.Firsts.{first_is, first-none, length-replaced}
 use Rattle.settings.specs.declared.Settings.{Settings}
-use Rattle.lists.specs.declared.Changed.TheVariants.{Done, Refused as Changed-as-Refused}
-use Rattle.settings.specs.declared.Got.{Got}
-use Rattle.settings.specs.declared.Got.TheVariants.{Held, Refused as Got-as-Refused}
+use Rattle.std.specs.Prelude.{Result, Ok, Err}
+use Rattle.lists.specs.Answers.{Answer, accepting, refusing, answer_of}
+use Rattle.lists.specs.declared.Refusal.{Refusal}
+use Rattle.lists.specs.declared.Refusal.TheVariants.{VoiceNotHeld}
 use Rattle.settings.specs.Store.{Store, store_settings, store_of, free, is_held, held_in, holding, free_place, in_order, settings_at}
 use Rattle.settings.specs.Changes.{empty, place_for, set_in, remove_in}
 use Rattle.settings.specs.Laws.{Full}
-use Rattle.lists.proofs.Ends.{done_none}
-use Rattle.settings.specs.Promise.{got_of, store_refusal, voice_refusal, set_refusal, held_refusal, ChangesTo, ClearSays, SetSays, GetSays, RemoveSays}
+use Rattle.lists.proofs.Ends.{not_none}
+use Rattle.settings.proofs.Changing.{got_one}
+use Rattle.settings.specs.Promise.{got, store_refusal, voice_refusal, set_refusal, held_refusal, ChangesTo, ClearSays, SetSays, GetSays, RemoveSays}
 use Rattle.settings.proofs.Refusing.{placed}
 use Rattle.settings.proofs.Places.{place-within, no_place, holding-long, free-place}
 use Rattle.settings.proofs.Setting.{same_numbers, set_there, set_aside, put-there, put_aside, gone, left, free-next}
@@ -40,9 +42,9 @@ pub record Sized (s : Store) : Type 0 where
 pub enough : (voices settings : List ℕ) → most_voices ≤ length voices → store_settings ≤ length settings → store_refusal voices settings ≡ 0
 enough voices settings h g = rw (le-ltb (length voices) most_voices h, le-ltb (length settings) store_settings g)
 
-module _ {k : ℕ} {new : Store} {voices settings voices' settings' : List ℕ} (c : ChangesTo k new voices settings Done voices' settings') (s : Sized new) where
+module _ {k : ℕ} {new : Store} {voices settings voices' settings' : List ℕ} (c : ChangesTo k new voices settings (Ok tt) voices' settings') (s : Sized new) where
   none : k ≡ 0
-  none = done_none k c.answer
+  none = sym c.answer
 
   pub numbers-then : voices' ≡ new.voices ++ drop most_voices voices
   numbers-then = c.numbers ∙ rw (none, s.numbers)
@@ -61,13 +63,16 @@ module _ {k : ℕ} {new : Store} {voices settings voices' settings' : List ℕ} 
 
 -- ---- what is got from a store
 
-abbrev pub got_in : ℕ → Store → Got
-got_in v s = got_of (cond (is_held v s.voices) 0 19) (settings_at s.settings (first_at v s.voices))
+abbrev pub given_so : Settings → Answer
+given_so s = accepting (in_order s)
 
-pub got_held : (v : ℕ) (s : Store) → first_at v s.voices < length s.voices → got_in v s ≡ Held (settings_at s.settings (first_at v s.voices))
+abbrev pub got_in : ℕ → Store → Answer
+got_in v s = answer_of (cond (is_held v s.voices) 0 19) (in_order (settings_at s.settings (first_at v s.voices)))
+
+pub got_held : (v : ℕ) (s : Store) → first_at v s.voices < length s.voices → got_in v s ≡ accepting (in_order (settings_at s.settings (first_at v s.voices)))
 got_held v s h = rw (lt-ltb (first_at v s.voices) (length s.voices) h)
 
-pub got_none : (v : ℕ) (s : Store) → length s.voices ≤ first_at v s.voices → got_in v s ≡ Got-as-Refused 19
+pub got_none : (v : ℕ) (s : Store) → length s.voices ≤ first_at v s.voices → got_in v s ≡ refusing 19
 got_none v s h = rw (le-ltb (first_at v s.voices) (length s.voices) h)
 
 -- a voice that is where it was, with what it had
@@ -75,7 +80,7 @@ got_same : (v : ℕ) (s t : Store) → length t.voices ≡ length s.voices → f
     → (first_at v s.voices < length s.voices → settings_at t.settings (first_at v s.voices) ≡ settings_at s.settings (first_at v s.voices)) → got_in v t ≡ got_in v s
 got_same v s t l f g = ⊎_elim
     (λ (h : length s.voices ≤ first_at v s.voices). got_none v t (omega arith) ∙ sym (got_none v s h))
-    (λ (h : first_at v s.voices < length s.voices). got_held v t (omega arith) ∙ ap Held (ap (settings_at t.settings) f ∙ g h) ∙ sym (got_held v s h))
+    (λ (h : first_at v s.voices < length s.voices). got_held v t (omega arith) ∙ ap given_so (ap (settings_at t.settings) f ∙ g h) ∙ sym (got_held v s h))
     (le_or_lt (length s.voices) (first_at v s.voices))
 
 module _ (s : Store) (z : Sized s) (v : ℕ) where
@@ -90,12 +95,12 @@ module _ (s : Store) (z : Sized s) (v : ℕ) where
     room : 3 * place_for v s.voices + 3 ≤ length s.settings
     room = omega (arith, z.settings)
 
-    got_set : got_in v (set_in v given s) ≡ Held given
+    got_set : got_in v (set_in v given s) ≡ accepting (in_order given)
     unfolding set_in
     got_set =
         let t : Store = set_in v given s in
         let f : first_at v t.voices ≡ place_for v s.voices = set_there s.voices v h' in
-        got_held v t (rw (f, length-set) h') ∙ ap Held (ap (settings_at t.settings) f ∙ put-there s.settings (place_for v s.voices) given room)
+        got_held v t (rw (f, length-set) h') ∙ ap given_so (ap (settings_at t.settings) f ∙ put-there s.settings (place_for v s.voices) given room)
 
     got_aside : (w : ℕ) → w ≢ v → w ≤ most_voice → got_in w (set_in v given s) ≡ got_in w s
     unfolding set_in
@@ -116,7 +121,7 @@ module _ (s : Store) (z : Sized s) (v : ℕ) where
     unfolding remove_in
     remove_sized = record { numbers = length-replaced v free s.voices ∙ z.numbers; settings = length-sets s.settings _ (in_order zeros) ∙ z.settings }
 
-    got_removed : got_in v (remove_in v s) ≡ Got-as-Refused 19
+    got_removed : got_in v (remove_in v s) ≡ refusing 19
     unfolding remove_in
     got_removed = got_none v (remove_in v s) (omega (arith, gone s.voices v m))
 
@@ -131,9 +136,9 @@ module _ (s : Store) (z : Sized s) (v : ℕ) where
 -- ---- over the calls
 
 -- a refused call leaves both lists
-pub refused-same : (k j : ℕ) (new : Store) (voices settings voices' settings' : List ℕ) → ChangesTo k new voices settings (Changed-as-Refused j) voices' settings' → (voices' ≡ voices) × (settings' ≡ settings)
-refused-same zero j new voices settings voices' settings' c = absurd (let e : Changed-as-Refused j ≡ Done = c.answer in let z : ◌≡◌ {A = ℕ} 0 1 = cc in omega arith)
-refused-same (suc k) j new voices settings voices' settings' c = (c.numbers, c.kept)
+pub refused-same : (k : ℕ) (d : Refusal) (new : Store) (voices settings voices' settings' : List ℕ) → ChangesTo k new voices settings (Err d) voices' settings' → (voices' ≡ voices) × (settings' ≡ settings)
+refused-same zero d new voices settings voices' settings' c = absurd (not_none d 0 c.answer refl)
+refused-same (suc k) d new voices settings voices' settings' c = (c.numbers, c.kept)
 
 module _ (voices settings : List ℕ) (v : ℕ) (e : voice_refusal v voices settings ≡ 0) where
   -- a voice that isn't refused has a number that one can have, in a store with its places
@@ -150,20 +155,20 @@ module _ (voices settings : List ℕ) (v : ℕ) (e : voice_refusal v voices sett
   sized = let b = placed v voices settings e in record { numbers = length-take-le most_voices voices b.0; settings = length-take-le store_settings settings b.1 }
 
 -- what get answers
-get_is : (voices settings : List ℕ) (w : ℕ) (r : Got) → w ≤ most_voice → store_refusal voices settings ≡ 0 → GetSays voices settings w r → r ≡ got_in w (store_of voices settings)
+get_is : (voices settings : List ℕ) (w : ℕ) (r : Result Settings Refusal) → w ≤ most_voice → store_refusal voices settings ≡ 0 → GetSays voices settings w r → got r ≡ got_in w (store_of voices settings)
 unfolding held_refusal
 get_is voices settings w r m u g = g ∙ rw (le-ltb most_voice w m, u)
 
-get_large : (voices settings : List ℕ) (w : ℕ) (r : Got) → most_voice < w → GetSays voices settings w r → r ≡ Got-as-Refused 3
+get_large : (voices settings : List ℕ) (w : ℕ) (r : Result Settings Refusal) → most_voice < w → GetSays voices settings w r → got r ≡ refusing 3
 unfolding held_refusal
 get_large voices settings w r m g = g ∙ rw (lt-ltb most_voice w m)
 
 -- a voice's settings are the same before and after, where they are in the stores
-pub get_same : (voices settings voices' settings' : List ℕ) (w : ℕ) (r r' : Got) → store_refusal voices settings ≡ 0 → store_refusal voices' settings' ≡ 0
+pub get_same : (voices settings voices' settings' : List ℕ) (w : ℕ) (r r' : Result Settings Refusal) → store_refusal voices settings ≡ 0 → store_refusal voices' settings' ≡ 0
     → (w ≤ most_voice → got_in w (store_of voices' settings') ≡ got_in w (store_of voices settings)) → GetSays voices settings w r → GetSays voices' settings' w r' → r' ≡ r
 get_same voices settings voices' settings' w r r' u u' e g g' = ⊎_elim
-    (λ (m : w ≤ most_voice). get_is voices' settings' w r' m u' g' ∙ e m ∙ sym (get_is voices settings w r m u g))
-    (λ (m : most_voice < w). get_large voices' settings' w r' m g' ∙ sym (get_large voices settings w r m g))
+    (λ (m : w ≤ most_voice). got_one r' r (get_is voices' settings' w r' m u' g' ∙ e m ∙ sym (get_is voices settings w r m u g)))
+    (λ (m : most_voice < w). got_one r' r (get_large voices' settings' w r' m g' ∙ sym (get_large voices settings w r m g)))
     (le_or_lt w most_voice)
 
 -- ---- clear
@@ -171,12 +176,12 @@ get_same voices settings voices' settings' w r r' u u' e g g' = ⊎_elim
 pub clear_sized : Sized empty
 clear_sized = record { numbers = length-replicate most_voices free; settings = length-replicate {A = ℕ} store_settings 0 }
 
-module _ (voices settings voices' settings' : List ℕ) (c : ClearSays voices settings Done voices' settings') where
+module _ (voices settings voices' settings' : List ℕ) (c : ClearSays voices settings (Ok tt) voices' settings') where
   -- get after clear
-  pub get_cleared : (w : ℕ) → w ≤ most_voice → (r : Got) → GetSays voices' settings' w r → r ≡ Got-as-Refused 19
+  pub get_cleared : (w : ℕ) → w ≤ most_voice → (r : Result Settings Refusal) → GetSays voices' settings' w r → r ≡ Err VoiceNotHeld
   get_cleared w m r g =
       let f : first_at w empty.voices ≡ most_voices = first-none w empty.voices free (λ j h q. let z : free ≡ w = sym (get_or-replicate most_voices j free free h) ∙ q in omega arith) in
-      get_is voices' settings' w r m (usable-then c clear_sized) g ∙ ap (got_in w) (store_then c clear_sized) ∙ got_none w empty (omega (arith, f, clear_sized.numbers))
+      got_one r (Err VoiceNotHeld) (get_is voices' settings' w r m (usable-then c clear_sized) g ∙ ap (got_in w) (store_then c clear_sized) ∙ got_none w empty (omega (arith, f, clear_sized.numbers)))
 
   -- no voice is held
   pub none-held : held_in (take most_voices voices') ≡ 0
@@ -185,13 +190,13 @@ module _ (voices settings voices' settings' : List ℕ) (c : ClearSays voices se
 
 -- ---- set
 
-module _ (voices settings : List ℕ) (v : ℕ) (given : Settings) (voices' settings' : List ℕ) (c : SetSays voices settings v given Done voices' settings') where
+module _ (voices settings : List ℕ) (v : ℕ) (given : Settings) (voices' settings' : List ℕ) (c : SetSays voices settings v given (Ok tt) voices' settings') where
   abbrev s : Store
   s = store_of voices settings
 
   accepted : (voice_refusal v voices settings ≡ 0) × (◌≡◌ {A = ℕ} (cond (is_held v s.voices || ltb (held_in s.voices) most_voices) 0 17) 0)
   unfolding set_refusal
-  accepted = or_none (voice_refusal v voices settings) _ (done_none (set_refusal v voices settings) c.answer)
+  accepted = or_none (voice_refusal v voices settings) _ (sym c.answer)
 
   number : v ≤ most_voice
   number = small voices settings v accepted.0
@@ -209,11 +214,11 @@ module _ (voices settings : List ℕ) (v : ℕ) (given : Settings) (voices' sett
   then = store_then c (set-sized s z v given place)
 
   -- get after set
-  pub get_set : (r : Got) → GetSays voices' settings' v r → r ≡ Held given
-  get_set r g = get_is voices' settings' v r number (usable-then c (set-sized s z v given place)) g ∙ ap (got_in v) then ∙ got_set s z v given place
+  pub get_set : (r : Result Settings Refusal) → GetSays voices' settings' v r → r ≡ Ok given
+  get_set r g = got_one r (Ok given) (get_is voices' settings' v r number (usable-then c (set-sized s z v given place)) g ∙ ap (got_in v) then ∙ got_set s z v given place)
 
   -- get of another voice
-  pub get_beside : (w : ℕ) → w ≢ v → (r r' : Got) → GetSays voices settings w r → GetSays voices' settings' w r' → r' ≡ r
+  pub get_beside : (w : ℕ) → w ≢ v → (r r' : Result Settings Refusal) → GetSays voices settings w r → GetSays voices' settings' w r' → r' ≡ r
   get_beside w d r r' = get_same voices settings voices' settings' w r r' (usable voices settings v accepted.0) (usable-then c (set-sized s z v given place)) (λ m. ap (got_in w) then ∙ got_aside s z v given place w d m)
 
   -- where the voice is then: its own place, or the first that was free; and every other voice is where it was
@@ -239,13 +244,13 @@ module _ (voices settings : List ℕ) (v : ℕ) (given : Settings) (voices' sett
 
 -- ---- remove
 
-module _ (voices settings : List ℕ) (v : ℕ) (voices' settings' : List ℕ) (c : RemoveSays voices settings v Done voices' settings') where
+module _ (voices settings : List ℕ) (v : ℕ) (voices' settings' : List ℕ) (c : RemoveSays voices settings v (Ok tt) voices' settings') where
   abbrev t : Store
   t = store_of voices settings
 
   was : (voice_refusal v voices settings ≡ 0) × (◌≡◌ {A = ℕ} (cond (is_held v t.voices) 0 19) 0)
   unfolding held_refusal
-  was = or_none (voice_refusal v voices settings) _ (done_none (held_refusal v voices settings) c.answer)
+  was = or_none (voice_refusal v voices settings) _ (sym c.answer)
 
   y : Sized t
   y = sized voices settings v was.0
@@ -260,11 +265,11 @@ module _ (voices settings : List ℕ) (v : ℕ) (voices' settings' : List ℕ) (
   after = store_then c (remove_sized t y v (small voices settings v was.0) held)
 
   -- get after remove
-  pub get_removed : (r : Got) → GetSays voices' settings' v r → r ≡ Got-as-Refused 19
-  get_removed r g = get_is voices' settings' v r (small voices settings v was.0) (usable-then c (remove_sized t y v (small voices settings v was.0) held)) g ∙ ap (got_in v) after ∙ got_removed t y v (small voices settings v was.0) held
+  pub get_removed : (r : Result Settings Refusal) → GetSays voices' settings' v r → r ≡ Err VoiceNotHeld
+  get_removed r g = got_one r (Err VoiceNotHeld) (get_is voices' settings' v r (small voices settings v was.0) (usable-then c (remove_sized t y v (small voices settings v was.0) held)) g ∙ ap (got_in v) after ∙ got_removed t y v (small voices settings v was.0) held)
 
   -- get of another voice
-  pub get_kept : (w : ℕ) → w ≢ v → (r r' : Got) → GetSays voices settings w r → GetSays voices' settings' w r' → r' ≡ r
+  pub get_kept : (w : ℕ) → w ≢ v → (r r' : Result Settings Refusal) → GetSays voices settings w r → GetSays voices' settings' w r' → r' ≡ r
   get_kept w d r r' = get_same voices settings voices' settings' w r r' (usable voices settings v was.0) (usable-then c (remove_sized t y v (small voices settings v was.0) held)) (λ m. ap (got_in w) after ∙ got_left t y v (small voices settings v was.0) held w d m)
 
   -- every other voice stays where it was
@@ -278,7 +283,7 @@ module _ (voices settings : List ℕ) (v : ℕ) (voices' settings' : List ℕ) (
   place-left = ap (λ (x : Store). free_place x.voices) after ∙ free-next t.voices v (small voices settings v was.0) (omega (arith, held, y.numbers))
 
   -- a voice that is new and is set then stands there
-  pub next-takes : (w : ℕ) (given : Settings) (voices'' settings'' : List ℕ) → SetSays voices' settings' w given Done voices'' settings'' → is_held w (take most_voices voices') ≡ false
+  pub next-takes : (w : ℕ) (given : Settings) (voices'' settings'' : List ℕ) → SetSays voices' settings' w given (Ok tt) voices'' settings'' → is_held w (take most_voices voices') ≡ false
       → first_at w (take most_voices voices'') ≡ min (free_place (take most_voices voices)) (first_at v (take most_voices voices))
   next-takes w given voices'' settings'' d n = new-takes voices' settings' w given voices'' settings'' d n ∙ place-left
 

@@ -15,18 +15,17 @@ use Rattle.lists.specs.Bytes.{Bytes}
 use Rattle.lists.specs.Firsts.{first_at}
 use Rattle.lists.proofs.Numbers.{le_or_lt}
 use Rattle.lists.proofs.Refusals.{or_none}
-use Rattle.lists.specs.declared.Changed.{Changed}
-use Rattle.lists.specs.declared.Changed.TheVariants.{Done}
+use Rattle.std.specs.Prelude.{Result, Ok}
+use Rattle.lists.specs.declared.Refusal.{Refusal}
 use Rattle.settings.specs.Store.{Store, store_settings, store_of, Entry, held_in}
 use Rattle.settings.specs.Changes.{empty, place_for}
 use Rattle.settings.specs.Format.{format_refusal, entries_of, put_entry, settled, set_entry, read_refusal, read_in, voices_of}
-use Rattle.lists.specs.Ends.{changed_of}
 use Rattle.settings.specs.Promise.{store_refusal, set_refusal, ClearSays, SetSays, ReadSays}
 use Rattle.settings.specs.Laws.{Sets, none, set_then}
 use Rattle.settings.proofs.Places.{some-place}
 use Rattle.settings.proofs.Gathering.{names, Closed, none-closed, put-closed, place_is, put-long, settled-grows, voices-long, settings-long}
 use Rattle.settings.proofs.Different.{Numbers, file-numbers, different_voices}
-use Rattle.lists.proofs.Ends.{done_none}
+use Rattle.lists.proofs.Ends.{accepted_ok}
 use Rattle.settings.proofs.Laws.{Sized, clear_sized, store_then, usable-then, numbers-then, settings-then, set-sized}
 
 -- ---- records that are put one after the other leave a store closed up
@@ -54,19 +53,19 @@ is_set got x voices settings k u m h =
     rw (le-ltb most_voice x.voice m, u, some-place x.voice vs most_voices (voices-long got (store_of voices settings) k) p)
 
 -- a call of set that is done: the store is then the new one, and what lies behind it as it was
-record IsSet (x : Entry) (r : Changed) (voices settings voices' settings' : List ℕ) : Type 0 where
-  done : r ≡ Done
+record IsSet (x : Entry) (r : Result (Unit {0}) Refusal) (voices settings voices' settings' : List ℕ) : Type 0 where
+  done : r ≡ Ok tt
   then : store_of voices' settings' ≡ set_entry (store_of voices settings) x
   usable : store_refusal voices' settings' ≡ 0
   numbers : drop most_voices voices' ≡ drop most_voices voices
   kept : drop store_settings settings' ≡ drop store_settings settings
 
-set_is : (got : List Entry) (x : Entry) (r : Changed) (voices settings voices' settings' : List ℕ) → Closed got (store_of voices settings) → store_refusal voices settings ≡ 0 → x.voice ≤ most_voice → first_at x.voice (names got) < most_voices
+set_is : (got : List Entry) (x : Entry) (r : Result (Unit {0}) Refusal) (voices settings voices' settings' : List ℕ) → Closed got (store_of voices settings) → store_refusal voices settings ≡ 0 → x.voice ≤ most_voice → first_at x.voice (names got) < most_voices
     → SetSays voices settings x.voice x.settings r voices' settings' → IsSet x r voices settings voices' settings'
 set_is got x r voices settings voices' settings' k u m h c =
     let s : Store = store_of voices settings in
-    let d : r ≡ Done = c.answer ∙ ap changed_of (is_set got x voices settings k u m h) in
-    let e : SetSays voices settings x.voice x.settings Done voices' settings' = subst (λ (y : Changed). SetSays voices settings x.voice x.settings y voices' settings') d c in
+    let d : r ≡ Ok tt = accepted_ok r (c.answer ∙ is_set got x voices settings k u m h) in
+    let e : SetSays voices settings x.voice x.settings (Ok tt) voices' settings' = subst (λ (y : Result (Unit {0}) Refusal). SetSays voices settings x.voice x.settings y voices' settings') d c in
     let p : place_for x.voice (take most_voices voices) < most_voices = rw (place_is got s k x m h) h in
     let j : Sized (set_entry s x) = set-sized s (closed-sized got s k) x.voice x.settings p in
     record {
@@ -78,13 +77,13 @@ set_is got x r voices settings voices' settings' k u m h c =
     }
 
 -- calls of set with these records, all of them done
-record AllSet (es : List Entry) (rs : List Changed) (voices settings voices' settings' : List ℕ) : Type 0 where
-  done : rs ≡ map (λ e. Done) es
+record AllSet (es : List Entry) (rs : List (Result (Unit {0}) Refusal)) (voices settings voices' settings' : List ℕ) : Type 0 where
+  done : rs ≡ map (λ e. Ok tt) es
   then : store_of voices' settings' ≡ fold_from set_entry (store_of voices settings) es
   numbers : drop most_voices voices' ≡ drop most_voices voices
   kept : drop store_settings settings' ≡ drop store_settings settings
 
-sets_fold : (es got : List Entry) (rs : List Changed) (voices settings voices' settings' : List ℕ) → Closed got (store_of voices settings) → store_refusal voices settings ≡ 0 → Numbers es → length (fold_from put_entry got es) ≤ most_voices
+sets_fold : (es got : List Entry) (rs : List (Result (Unit {0}) Refusal)) (voices settings voices' settings' : List ℕ) → Closed got (store_of voices settings) → store_refusal voices settings ≡ 0 → Numbers es → length (fold_from put_entry got es) ≤ most_voices
     → Sets voices settings es rs voices' settings' → AllSet es rs voices settings voices' settings'
 unfolding fold_from
 sets_fold [] got rs voices settings voices' settings' k u m h none = record { done = refl; then = refl; numbers = refl; kept = refl }
@@ -97,11 +96,11 @@ few_0 : (n : ℕ) → ◌≡◌ {A = ℕ} (cond (ltb most_voices n) 17 0) 0 → 
 few_0 n e = ⊎_elim (λ (h : n ≤ most_voices). h) (λ (h : most_voices < n). absurd (let z : ◌≡◌ {A = ℕ} 17 0 = rw (lt-ltb most_voices n h) at e in omega arith)) (le_or_lt n most_voices)
 
 -- what a file that is read leaves is closed up: its records, a later one in the place of an earlier of its voice
-module _ (voices settings bytes : List ℕ) (b : Bytes bytes) (v₂ s₂ : List ℕ) (read : ReadSays voices settings bytes Done v₂ s₂) where
+module _ (voices settings bytes : List ℕ) (b : Bytes bytes) (v₂ s₂ : List ℕ) (read : ReadSays voices settings bytes (Ok tt) v₂ s₂) where
   read-few : length (fold_from put_entry [] (entries_of bytes)) ≤ most_voices
   unfolding read_refusal settled
   read-few =
-      let n : held_in (voices_of (entries_of bytes)) ≤ most_voices = few_0 (held_in (voices_of (entries_of bytes))) (or_none (format_refusal bytes) _ (or_none (store_refusal voices settings) (read_refusal bytes) (done_none _ read.answer)).1).1 in
+      let n : held_in (voices_of (entries_of bytes)) ≤ most_voices = few_0 (held_in (voices_of (entries_of bytes))) (or_none (format_refusal bytes) _ (or_none (store_refusal voices settings) (read_refusal bytes) (sym read.answer)).1).1 in
       let d : length (fold_from put_entry [] (entries_of bytes)) ≡ held_in (voices_of (entries_of bytes)) = different_voices (entries_of bytes) (file-numbers bytes b) in
       omega arith
 
@@ -114,8 +113,8 @@ front-back : (n : ℕ) (l m : List ℕ) → take n l ≡ take n m → drop n l �
 front-back n l m e f = sym (take-append-drop n l) ∙ rw (e, f) (take-append-drop n m)
 
 -- RULES, Settings: a file that is read leaves what clear and a set for each of its records leave, which are all done
-module _ (voices settings bytes : List ℕ) (b : Bytes bytes) (v₀ s₀ : List ℕ) (cleared : ClearSays voices settings Done v₀ s₀) (rs : List Changed) (v₁ s₁ : List ℕ) (sets : Sets v₀ s₀ (entries_of bytes) rs v₁ s₁)
-    (v₂ s₂ : List ℕ) (read : ReadSays voices settings bytes Done v₂ s₂) where
+module _ (voices settings bytes : List ℕ) (b : Bytes bytes) (v₀ s₀ : List ℕ) (cleared : ClearSays voices settings (Ok tt) v₀ s₀) (rs : List (Result (Unit {0}) Refusal)) (v₁ s₁ : List ℕ) (sets : Sets v₀ s₀ (entries_of bytes) rs v₁ s₁)
+    (v₂ s₂ : List ℕ) (read : ReadSays voices settings bytes (Ok tt) v₂ s₂) where
   all_set : AllSet (entries_of bytes) rs v₀ s₀ v₁ s₁
   all_set = sets_fold (entries_of bytes) [] rs v₀ s₀ v₁ s₁ (rw (store_then cleared clear_sized) none-closed) (usable-then cleared clear_sized) (file-numbers bytes b) (read-few voices settings bytes b v₂ s₂ read) sets
 
@@ -126,7 +125,7 @@ module _ (voices settings bytes : List ℕ) (b : Bytes bytes) (v₀ s₀ : List 
   unfolding read_in
   same_store = all_set.then ∙ ap (λ (y : Store). fold_from set_entry y (entries_of bytes)) (store_then cleared clear_sized)
 
-  pub read-sets : (rs ≡ map (λ e. Done) (entries_of bytes)) × (v₁ ≡ v₂) × (s₁ ≡ s₂)
+  pub read-sets : (rs ≡ map (λ e. Ok tt) (entries_of bytes)) × (v₁ ≡ v₂) × (s₁ ≡ s₂)
   read-sets =
       let t : store_of v₂ s₂ ≡ read_in bytes = store_then read read-sized in (
         all_set.done,

@@ -3,6 +3,8 @@ use mathlib.Core.Path.{◌≡◌, refl, sym, ap, ◌∙◌}
 use mathlib.Core.Bool.{Bool, true, false, ◌||◌}
 use mathlib.Core.Logic.{⊎_elim}
 use mathlib.Core.List.{List, [], ◌∷◌}
+use Rattle.std.specs.Prelude.{Option, Some, None}
+use Rattle.std.specs.Bool.{then_some}
 use Prim.Native.Nat.{ℕ, zero, suc, ◌+◌, ◌≤◌, ◌<◌, zero-le}
 use native.Mathlib.Numerals.{add-one}
 use native.Mathlib.Omega.{arith}
@@ -19,6 +21,7 @@ use Rattle.lists.proofs.Builds.{build-at}
 use Rattle.lists.proofs.Firsts.{first-within}
 use Rattle.settings.specs.Store.{holds_at, holding, held_in, is_held, first_off, free_place}
 use Rattle.settings.specs.Changes.{place_for}
+use Rattle.settings.specs.Inner.Steps.{PlaceGiven}
 
 -- ---- the first that is off
 
@@ -104,6 +107,22 @@ module _ {voices : List ℕ} {i : ℕ} (k : Looking voices i) where
     look_next e =
         let z : first_off (drop i (holding voices)) ≡ suc (first_off (drop (i + 1) (holding voices))) = ap first_off from_here ∙ rw e in
         record { within = omega arith; rest = omega (arith, k.rest) }
+
+-- ---- a place that is looked for
+
+-- is given where the list has it
+pub place-given : (p first : ℕ) (voices : List ℕ) (r : Option ℕ) → p ≡ first → first ≤ length voices → r ≡ then_some (ltb p (length voices)) p → PlaceGiven r first voices
+place-given p first voices r e h q = rw q (⊎_elim
+    (λ (g : length voices ≤ p). rw (le-ltb p (length voices) g) (omega arith))
+    (λ (g : p < length voices). rw (lt-ltb p (length voices) g) (e, g))
+    (le_or_lt (length voices) p))
+
+-- so it is where one is given, and the list doesn't have it where none is
+pub place-there : (o : Option ℕ) (p first : ℕ) (voices : List ℕ) → o ≡ Some p → PlaceGiven o first voices → (p ≡ first) × (p < length voices)
+place-there o p first voices e g = rw e at g
+
+pub none-there : (o : Option ℕ) (first : ℕ) (voices : List ℕ) → o ≡ None → PlaceGiven o first voices → first ≡ length voices
+none-there o first voices e g = rw e at g
 
 -- ---- where a voice goes
 

@@ -1,5 +1,5 @@
 -- Why a store, a voice or a file is refused.
-use mathlib.Core.Path.{◌≡◌, refl, ◌∙◌}
+use mathlib.Core.Path.{◌≡◌, refl}
 use mathlib.Core.Bool.{true, false, cond, ◌||◌}
 use mathlib.Core.List.{List}
 use Prim.Native.Nat.{ℕ, ◌+◌, ◌*◌, ◌≤◌, ◌<◌}
@@ -8,9 +8,13 @@ use native.Mathlib.Omega.{arith}
 use borrow.Author.Tests.{lt-ltb, le-ltb, eq-eqb, ne_eqb, ltb-false}
 use lib.Dec.{ltb, eqb}
 use lib.ListN.{length}
+use Rattle.std.specs.Prelude.{Option, Some, None, Err}
+use Rattle.std.specs.Option.{ok_or}
+use Rattle.lists.specs.declared.Refusal.{Refusal}
 use Rattle.lists.specs.Sizes.{most_voices, most_voice}
 use Rattle.lists.specs.Bytes.{Bytes, starts_with}
 use Rattle.lists.proofs.Spelled.{word_below}
+use Rattle.lists.proofs.Flags.{neither}
 use Rattle.lists.proofs.Refusals.{or_none}
 use Rattle.settings.specs.Store.{store_settings}
 use Rattle.settings.specs.Format.{mark, version_of, is_known, count_of, head_bytes, entry_bytes, format_refusal}
@@ -21,25 +25,12 @@ use Rattle.settings.specs.Promise.{store_refusal, voice_refusal}
 pub large : (voice : ℕ) (voices settings : List ℕ) → most_voice < voice → 3 ≡ voice_refusal voice voices settings
 large voice voices settings h = rw (lt-ltb most_voice voice h)
 
-pub then-store : (voice k : ℕ) (voices settings : List ℕ) → voice ≤ most_voice → k ≡ store_refusal voices settings → k ≡ voice_refusal voice voices settings
-then-store voice k voices settings h e = e ∙ rw (le-ltb most_voice voice h)
-
--- neither test holds
-neither : (a b : ℕ) (c d : ℕ) → ltb a b || ltb c d ≡ false → (b ≤ a) × (d ≤ c)
-neither a b c d e =
-    (elim (ltb a b) as (λ t. ltb a b ≡ t → t || ltb c d ≡ false → (b ≤ a) × (d ≤ c)) [
-      | true ↦ λ q g. absurd (let z : ◌≡◌ {A = ℕ} 0 1 = cc in omega arith)
-      | false ↦ λ q g. (ltb-false a b q, ltb-false c d g)
-    ])
-    refl
-    e
-
 -- a store that isn't refused has its places
 pub has_places : (voices settings : List ℕ) → store_refusal voices settings ≡ 0 → (most_voices ≤ length voices) × (store_settings ≤ length settings)
 has_places voices settings e =
     (elim (ltb (length voices) most_voices || ltb (length settings) store_settings) as (λ t. ltb (length voices) most_voices || ltb (length settings) store_settings ≡ t → ◌≡◌ {A = ℕ} (cond t 6 0) 0 → (most_voices ≤ length voices) × (store_settings ≤ length settings)) [
       | true ↦ λ q g. absurd (omega arith)
-      | false ↦ λ q g. neither (length voices) most_voices (length settings) store_settings q
+      | false ↦ λ q g. let n = neither _ _ q in (ltb-false (length voices) most_voices n.0, ltb-false (length settings) store_settings n.1)
     ])
     refl
     e
@@ -47,6 +38,12 @@ has_places voices settings e =
 -- and so has one in which a voice isn't refused
 pub placed : (voice : ℕ) (voices settings : List ℕ) → voice_refusal voice voices settings ≡ 0 → (most_voices ≤ length voices) × (store_settings ≤ length settings)
 placed voice voices settings e = has_places voices settings (or_none (cond (ltb most_voice voice) 3 0) (store_refusal voices settings) e).1
+
+-- ---- what is missing is refused with this
+
+pub missing : {A : Type 0} (o : Option A) (d e : Refusal) → Err d ≡ ok_or o e → o ≡ None → d ≡ e
+missing (Some x) d e q n = absurd (let z : ◌≡◌ {A = ℕ} 0 1 = cc in omega arith)
+missing None d e q n = cc
 
 -- ---- a file
 

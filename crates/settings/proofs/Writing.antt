@@ -1,28 +1,31 @@
 -- The file of a store: how long it is, and how it comes to stand in the output.
 use mathlib.Core.Path.{◌≡◌, refl, sym, ap, ◌∙◌}
-use mathlib.Core.Bool.{Bool, true, false, cond, ◌||◌}
+use mathlib.Core.Bool.{Bool, true, false, cond}
 use mathlib.Core.List.{List, [], ◌∷◌, ◌++◌, flatten, append_assoc, append-nil}
 use Prim.Native.Nat.{ℕ, zero, suc, ◌+◌, ◌*◌, ◌≤◌, ◌<◌, zero-le}
 use native.Mathlib.Nat.{mul-zero, mul-suc}
 use native.Mathlib.Numerals.{add-one}
 use native.Mathlib.Omega.{arith}
 use borrow.Author.Tests.{lt-ltb, le-ltb}
-use lib.Dec.{ltb, eqb}
+use lib.Dec.{eqb}
 use lib.ListN.{length, take, get_or, length-append}
 use lib.Seq.{sets, length-sets, sets-eq, length-take-le}
 use Rattle.lists.specs.Sizes.{most_voices}
 use Rattle.lists.specs.Build.{build, rows}
 use Rattle.lists.specs.Frames.{select}
 use Rattle.lists.specs.Bytes.{bytes_of}
-use Rattle.lists.proofs.Answers.{in_front}
+use Rattle.lists.proofs.Answers.{same, untouched, in_front}
 use Rattle.lists.proofs.Stores.{sets_behind}
 use Rattle.lists.proofs.Fills.{build-length}
 use Rattle.lists.proofs.Bytes.{bytes-length}
 use Rattle.lists.proofs.Counts.{select-length}
 use Rattle.lists.proofs.Chosen.{at_any, select-append}
 use Rattle.settings.specs.declared.Settings.{Settings}
-use Rattle.lists.specs.declared.Counted.{Counted}
-use Rattle.lists.specs.declared.Counted.TheVariants.{Number, Refused}
+use Rattle.std.specs.Prelude.{Result, Ok, Err}
+use Rattle.lists.specs.declared.Refusal.{Refusal}
+use Rattle.lists.specs.declared.Refusal.TheVariants.{TooLittleRoom}
+use Rattle.lists.specs.Refusals.{number_of}
+use Rattle.lists.proofs.Ends.{not_none, refuses, counted-one, stops}
 use Rattle.settings.specs.Store.{Store, store_settings, store_of, free, holds_at, holding, held_in, settings_at, Entry, entry, entry_in, entries_in}
 use Rattle.settings.specs.Format.{mark, head_bytes, entry_bytes, length_of, bytes_of_entry, bytes_of_entries, bytes_of_heading, bytes_of_file}
 use Rattle.settings.specs.Promise.{store_refusal, file_in, write_refusal, WriteSays}
@@ -151,10 +154,6 @@ module _ {s : Store} {out₀ out : List ℕ} {at i : ℕ} (k : Putting s out₀ 
 
 -- ---- the ways through write
 
-short_6 : (t : Bool) (k : ℕ) → k ≡ cond t 6 0 → (k ≡ 0 → ⊥) → ◌≡◌ {A = ℕ} (cond t 6 0) 6
-short_6 true k e z = refl
-short_6 false k e z = absurd (z e)
-
 -- a store that isn't refused has its places
 pub store-whole : (voices settings : List ℕ) → store_refusal voices settings ≡ 0 → (length (take most_voices voices) ≡ most_voices) × (length (take store_settings settings) ≡ store_settings)
 store-whole voices settings e = let p = has_places voices settings e in (length-take-le most_voices voices p.0, length-take-le store_settings settings p.1)
@@ -163,23 +162,23 @@ module _ (voices settings out : List ℕ) where
   abbrev file : List ℕ
   file = file_in (store_of voices settings)
 
-  refused_so : write_refusal voices settings out ≡ 6 → WriteSays voices settings out (Refused 6) out
-  refused_so e = record { answer = rw e; output = rw e }
+  refused_so : (d : Refusal) → number_of d ≡ write_refusal voices settings out → WriteSays voices settings out (Err d) out
+  refused_so d e = record { answer = refuses d (write_refusal voices settings out) _ e; output = untouched (write_refusal voices settings out) file out (not_none d (write_refusal voices settings out) e) }
 
-  pub write_short : (k : ℕ) → k ≡ store_refusal voices settings → (k ≡ 0 → ⊥) → WriteSays voices settings out (Refused 6) out
+  pub write_short : (d : Refusal) → number_of d ≡ store_refusal voices settings → WriteSays voices settings out (Err d) out
   unfolding write_refusal
-  write_short k e z = let s : store_refusal voices settings ≡ 6 = short_6 (ltb (length voices) most_voices || ltb (length settings) store_settings) k e z in refused_so (rw s)
+  write_short d e = refused_so d (stops d (store_refusal voices settings) _ e)
 
   module _ (none : store_refusal voices settings ≡ 0) (n : ℕ) (e : n ≡ held_in (take most_voices voices)) where
     long : length file ≡ head_bytes + 26 * n
     long = store_long (store_of voices settings) ∙ rw e
 
-    pub write_small : length out < head_bytes + 26 * n → WriteSays voices settings out (Refused 6) out
+    pub write_small : length out < head_bytes + 26 * n → WriteSays voices settings out (Err TooLittleRoom) out
     unfolding write_refusal
-    write_small h = refused_so (rw (none, lt-ltb (length out) (length file) (rw long h)))
+    write_small h = refused_so TooLittleRoom (rw (none, lt-ltb (length out) (length file) (rw long h)))
 
     pub write_done : (a b : List ℕ) → head_bytes + 26 * n ≤ length out → a ≡ sets out 0 (bytes_of_heading 2 n) → b ≡ sets a head_bytes (bytes_of_entries 2 (entries_in (store_of voices settings)))
-        → WriteSays voices settings out (Number (head_bytes + 26 * n)) b
+        → WriteSays voices settings out (Ok (head_bytes + 26 * n)) b
     unfolding write_refusal bytes_of_file
     write_done a b h f g =
         let s : Store = store_of voices settings in
@@ -194,5 +193,5 @@ module _ (voices settings out : List ℕ) where
         }
 
 -- two outcomes that write allows are equal
-pub write_one : (voices settings out : List ℕ) (r s : Counted) (o₁ o₂ : List ℕ) → WriteSays voices settings out r o₁ → WriteSays voices settings out s o₂ → (r ≡ s) × (o₁ ≡ o₂)
-write_one voices settings out r s o₁ o₂ f g = (f.answer ∙ sym g.answer, f.output ∙ sym g.output)
+pub write_one : (voices settings out : List ℕ) (r s : Result ℕ Refusal) (o₁ o₂ : List ℕ) → WriteSays voices settings out r o₁ → WriteSays voices settings out s o₂ → (r ≡ s) × (o₁ ≡ o₂)
+write_one voices settings out r s o₁ o₂ f g = (counted-one r s (same (f.answer ∙ sym g.answer)), f.output ∙ sym g.output)

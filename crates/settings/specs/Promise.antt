@@ -1,23 +1,19 @@
 -- What the calls promise.
-use Rattle.std.specs.Prelude.{◌≡◌, cond, ◌||◌, List, ℕ, zero, suc, ltb, length, take}
+use Rattle.std.specs.Prelude.{◌≡◌, Result, cond, ◌||◌, List, [], ◌∷◌, ℕ, ltb, length, take}
 use Rattle.lists.specs.Sizes.{most_voices, most_voice}
 use Rattle.lists.specs.Refusals.{or_else}
-use Rattle.lists.specs.Answers.{written}
-pub use Rattle.lists.specs.Ends.{changed_number, changed_of, counted, counted_of}
+use Rattle.lists.specs.Answers.{Answer, answer_of, written}
+pub use Rattle.lists.specs.Ends.{answered, counted, refused}
 use Rattle.lists.specs.Firsts.{first_at}
 use Rattle.settings.specs.declared.Settings.{Settings}
-use Rattle.lists.specs.declared.Changed.{Changed}
-use Rattle.settings.specs.declared.Got.{Got}
-use Rattle.settings.specs.declared.Got.TheVariants.{Held, Refused as Got-as-Refused}
-use Rattle.lists.specs.declared.Counted.{Counted}
-use Rattle.settings.specs.Store.{Store, store_settings, store_of, is_held, held_in, settings_at, entries_in}
+use Rattle.lists.specs.declared.Refusal.{Refusal}
+use Rattle.settings.specs.Store.{Store, store_settings, store_of, is_held, held_in, in_order, settings_at, entries_in}
 use Rattle.settings.specs.Changes.{empty, set_in, remove_in}
 use Rattle.settings.specs.Format.{read_refusal, read_in, bytes_of_file}
 
--- the answer of a number, with these settings where it is 0
-abbrev pub got_of : ℕ → Settings → Got
-got_of zero s = Held s
-got_of (suc k) s = Got-as-Refused (suc k)
+-- RULES, Forms: number and values of get's answer: 0 and a voice's settings, or a refusal's number alone
+abbrev pub got : Result Settings Refusal → Answer
+got = answered in_order
 
 -- ---- refusals
 
@@ -45,30 +41,30 @@ held_refusal voice voices settings = or_else (voice_refusal voice voices setting
 -- ---- promises
 
 -- RULES, Refusals: a call that changes a store, with the number of its refusal and the store that it leaves where that is 0
-pub record ChangesTo (k : ℕ) (new : Store) (voices settings : List ℕ) (r : Changed) (voices' settings' : List ℕ) : Type 0 where
-  pub answer : r ≡ changed_of k
+pub record ChangesTo (k : ℕ) (new : Store) (voices settings : List ℕ) (r : Result (Unit {0}) Refusal) (voices' settings' : List ℕ) : Type 0 where
+  pub answer : refused r ≡ k
   pub numbers : voices' ≡ written k new.voices voices
   pub kept : settings' ≡ written k new.settings settings
 
-abbrev pub ClearSays : List ℕ → List ℕ → Changed → List ℕ → List ℕ → Type 0
+abbrev pub ClearSays : List ℕ → List ℕ → Result (Unit {0}) Refusal → List ℕ → List ℕ → Type 0
 ClearSays voices settings = ChangesTo (store_refusal voices settings) empty voices settings
 
-abbrev pub SetSays : List ℕ → List ℕ → ℕ → Settings → Changed → List ℕ → List ℕ → Type 0
+abbrev pub SetSays : List ℕ → List ℕ → ℕ → Settings → Result (Unit {0}) Refusal → List ℕ → List ℕ → Type 0
 SetSays voices settings voice given = ChangesTo (set_refusal voice voices settings) (set_in voice given (store_of voices settings)) voices settings
 
-abbrev pub RemoveSays : List ℕ → List ℕ → ℕ → Changed → List ℕ → List ℕ → Type 0
+abbrev pub RemoveSays : List ℕ → List ℕ → ℕ → Result (Unit {0}) Refusal → List ℕ → List ℕ → Type 0
 RemoveSays voices settings voice = ChangesTo (held_refusal voice voices settings) (remove_in voice (store_of voices settings)) voices settings
 
 -- RULES, Settings: reading replaces the store
-abbrev pub ReadSays : List ℕ → List ℕ → List ℕ → Changed → List ℕ → List ℕ → Type 0
+abbrev pub ReadSays : List ℕ → List ℕ → List ℕ → Result (Unit {0}) Refusal → List ℕ → List ℕ → Type 0
 ReadSays voices settings bytes = ChangesTo (or_else (store_refusal voices settings) (read_refusal bytes)) (read_in bytes) voices settings
 
 -- RULES, Settings: the settings of the place that holds the voice
-abbrev pub GetSays : List ℕ → List ℕ → ℕ → Got → Type 0
-GetSays voices settings voice r = let s = store_of voices settings in r ≡ got_of (held_refusal voice voices settings) (settings_at s.settings (first_at voice s.voices))
+abbrev pub GetSays : List ℕ → List ℕ → ℕ → Result Settings Refusal → Type 0
+GetSays voices settings voice r = let s = store_of voices settings in got r ≡ answer_of (held_refusal voice voices settings) (in_order (settings_at s.settings (first_at voice s.voices)))
 
-abbrev pub CountSays : List ℕ → Counted → Type 0
-CountSays voices r = r ≡ counted_of (count_refusal voices) (held_in (take most_voices voices))
+abbrev pub CountSays : List ℕ → Result ℕ Refusal → Type 0
+CountSays voices r = counted r ≡ answer_of (count_refusal voices) (held_in (take most_voices voices) ∷ [])
 
 -- RULES, Settings: version 2, with a record for each place that holds a voice
 abbrev pub file_in : Store → List ℕ
@@ -78,6 +74,6 @@ file_in s = bytes_of_file 2 (entries_in s)
 unfoldable pub write_refusal : List ℕ → List ℕ → List ℕ → ℕ
 write_refusal voices settings out = or_else (store_refusal voices settings) (cond (ltb (length out) (length (file_in (store_of voices settings)))) 6 0)
 
-pub record WriteSays (voices settings out : List ℕ) (r : Counted) (out' : List ℕ) : Type 0 where
-  pub answer : r ≡ counted_of (write_refusal voices settings out) (length (file_in (store_of voices settings)))
+pub record WriteSays (voices settings out : List ℕ) (r : Result ℕ Refusal) (out' : List ℕ) : Type 0 where
+  pub answer : counted r ≡ answer_of (write_refusal voices settings out) (length (file_in (store_of voices settings)) ∷ [])
   pub output : out' ≡ written (write_refusal voices settings out) (file_in (store_of voices settings)) out

@@ -1,15 +1,18 @@
 // The settings file: a store is read from it, and written to it.
-ghost use Rattle.std.specs.Prelude.{◌≡◌, ◌*◌, ◌+◌, ◌^◌, ◌<◌, ◌≤◌, length};
+ghost use Rattle.std.specs.Prelude.{◌≡◌, ◌^◌, ◌<◌};
 ghost use Rattle.std.proofs.lemmas.List.Edits.{sets};
 ghost use Rattle.lists.specs.Sizes.{most_voices};
-ghost use Rattle.settings.specs.Store.{store_settings, store, entry, entries_in};
+ghost use Rattle.lists.specs.Ends.{refused};
+ghost use Rattle.settings.specs.Store.{entry, entries_in};
+ghost use Rattle.settings.specs.Inner.Lent.{lent};
 ghost use Rattle.settings.specs.Changes.{empty};
 ghost use Rattle.settings.specs.Format.{head_bytes, entry_bytes, settings_from, format_refusal, bytes_of_entry, bytes_of_heading, bytes_of_entries};
 ghost use Rattle.settings.specs.Promise.{store_refusal, ReadSays, WriteSays};
 ghost use Rattle.settings.specs.Inner.Steps.{Gathered, Replaced, PlaceWritten};
 
+use crate::store::Store;
 use crate::{FREE, PLACES, SETTINGS, Settings};
-use lists::{Changed, Counted};
+use lists::Refusal;
 
 const HEAD: usize = 7;
 
@@ -31,25 +34,25 @@ fn entry_bytes(version: u64) -> usize
     ENTRY
 }
 
-// Why a file can't be read, but for too many voices.
-fn format_refusal(bytes: &[u8]) -> u8
-    ensures { result ≡ format_refusal bytes.now }
+// Whether a file can be read, but for too many voices.
+fn check_format(bytes: &[u8]) -> Result<(), Refusal>
+    ensures { refused result ≡ format_refusal bytes.now }
 {
     if !lists::starts_with(bytes, b"VST") {
-        return 18;
+        return Err(Refusal::SettingsMalformed);
     }
     if bytes.len() < 5 {
-        return 18;
+        return Err(Refusal::SettingsMalformed);
     }
     let version = lists::little_endian(bytes, 3, 2);
     if !((version == 1) | (version == 2)) {
-        return 16;
+        return Err(Refusal::SettingsVersion);
     }
     let count = lists::little_endian(bytes, 5, 2) as usize;
     if bytes.len() != HEAD + entry_bytes(version) * count {
-        return 18;
+        return Err(Refusal::SettingsMalformed);
     }
-    0
+    Ok(())
 }
 
 // The threshold of a record at a place.
@@ -75,8 +78,8 @@ fn settings_from(version: u64, bytes: &[u8], at: usize) -> Settings
     }
 }
 
-// Sets the records of a file, one after the other, in a store that is clear; whether there was a place for each.
-fn gather(bytes: &[u8], voices: &mut [u32], settings: &mut [u64]) -> bool
+// Sets the records of a file, one after the other, in a store that is clear, if there is a place for each.
+fn gather(bytes: &[u8], voices: &mut [u32], settings: &mut [u64]) -> Result<(), Refusal>
     requires { (voices.old ≡ empty.voices) × (settings.old ≡ empty.settings) }
     ensures { Gathered bytes.now result voices.new settings.new }
 {
@@ -84,53 +87,40 @@ fn gather(bytes: &[u8], voices: &mut [u32], settings: &mut [u64]) -> bool
     let count = lists::little_endian(bytes, 5, 2) as usize;
     let size = entry_bytes(version);
     let mut held = 0;
-    let mut i = 0;
-    while i < count {
+    for i in 0..count {
         let at = HEAD + size * i;
         let voice = lists::little_endian(bytes, at, 2) as u32;
         let place = lists::first_u32(&voices[..held], voice);
         if place == PLACES {
-            return false;
+            return Err(Refusal::StoreFull);
         }
         voices[place] = voice;
         crate::put_settings(settings, place, settings_from(version, bytes, at));
-        held = lists::larger(held, place + 1);
-        i += 1;
+        held = held.max(place + 1);
     }
-    true
+    Ok(())
 }
 
-// The store becomes what a file says that is well formed; whether there is a place for each of its voices, or nothing changes.
-fn replace(voices: &mut [u32], settings: &mut [u64], bytes: &[u8]) -> bool
+// The store becomes what a file says that is well formed, if there is a place for each of its voices.
+fn replace(voices: &mut [u32], settings: &mut [u64], bytes: &[u8]) -> Result<(), Refusal>
     requires { store_refusal voices.old settings.old ≡ 0 }
     ensures { Replaced voices.old settings.old bytes.now result voices.new settings.new }
 {
     let mut new_voices = [FREE; PLACES];
     let mut new_settings = [0u64; SETTINGS];
-    let all = gather(bytes, &mut new_voices, &mut new_settings);
-    if all {
-        lists::copy_u32(&new_voices, PLACES, voices);
-        lists::copy_u64(&new_settings, SETTINGS, settings);
-    }
-    all
+    gather(bytes, &mut new_voices, &mut new_settings)?;
+    voices[..PLACES].copy_from_slice(&new_voices);
+    settings[..SETTINGS].copy_from_slice(&new_settings);
+    Ok(())
 }
 
 // The store becomes what the file says.
-pub fn read(voices: &mut [u32], settings: &mut [u64], bytes: &[u8]) -> Changed
+pub fn read(voices: &mut [u32], settings: &mut [u64], bytes: &[u8]) -> Result<(), Refusal>
     ensures { ReadSays voices.old settings.old bytes.now result voices.new settings.new }
 {
-    let short = crate::store_refusal(voices, settings);
-    if short != 0 {
-        return Changed::Refused(short);
-    }
-    let malformed = format_refusal(bytes);
-    if malformed != 0 {
-        return Changed::Refused(malformed);
-    }
-    if !replace(voices, settings, bytes) {
-        return Changed::Refused(17);
-    }
-    Changed::Done
+    crate::check_store(voices, settings)?;
+    check_format(bytes)?;
+    replace(voices, settings, bytes)
 }
 
 // A record, from a place on.
@@ -145,27 +135,25 @@ fn put_entry(out: &mut [u8], at: usize, voice: u32, given: Settings)
 }
 
 // The record of a place that holds a voice; where the next one stands.
-fn put_place(voices: &[u32], settings: &[u64], place: usize, out: &mut [u8], at: usize) -> usize
-    requires { (place < length voices.now) × (3 * place + 3 ≤ length settings.now) × (place < most_voices) × (at < 2 ^ 32) }
-    ensures { PlaceWritten (store voices.now settings.now) place out.old at result out.new }
+fn put_place(store: Store, place: usize, out: &mut [u8], at: usize) -> usize
+    requires { (place < most_voices) × (at < 2 ^ 32) }
+    ensures { PlaceWritten (lent store.entry) place out.old at result out.new }
 {
-    if !crate::holds(voices, place) {
+    if !crate::holds(store.voices, place) {
         return at;
     }
-    put_entry(out, at, voices[place], crate::settings_at(settings, place));
+    let given = crate::settings_at(store.settings, place);
+    put_entry(out, at, store.voices[place], given);
     at + ENTRY
 }
 
 // The records of all places that hold a voice, behind the heading.
-fn put_entries(voices: &[u32], settings: &[u64], out: &mut [u8])
-    requires { (length voices.now ≡ most_voices) × (length settings.now ≡ store_settings) }
-    ensures { out.new ≡ sets out.old head_bytes (bytes_of_entries 2 (entries_in (store voices.now settings.now))) }
+fn put_entries(store: Store, out: &mut [u8])
+    ensures { out.new ≡ sets out.old head_bytes (bytes_of_entries 2 (entries_in (lent store.entry))) }
 {
     let mut at = HEAD;
-    let mut i = 0;
-    while i < PLACES {
-        at = put_place(voices, settings, i, out, at);
-        i += 1;
+    for place in 0..PLACES {
+        at = put_place(store, place, out, at);
     }
 }
 
@@ -173,24 +161,26 @@ fn put_entries(voices: &[u32], settings: &[u64], out: &mut [u8])
 fn put_heading(out: &mut [u8], count: usize)
     ensures { out.new ≡ sets out.old 0 (bytes_of_heading 2 count) }
 {
-    lists::copy_u8(b"VST", 3, out);
+    lists::copy(b"VST", 3, out);
     lists::put_little_endian(out, 3, 2, 2);
     lists::put_little_endian(out, 5, 2, count as u64);
 }
 
 // The file of a store.
-pub fn write(voices: &[u32], settings: &[u64], out: &mut [u8]) -> Counted
+pub fn write(voices: &[u32], settings: &[u64], out: &mut [u8]) -> Result<u32, Refusal>
     ensures { WriteSays voices.now settings.now out.old result out.new }
 {
-    if crate::store_refusal(voices, settings) != 0 {
-        return Counted::Refused(6);
-    }
-    let count = crate::held(&voices[..PLACES]);
+    crate::check_store(voices, settings)?;
+    let store = Store {
+        voices: &voices[..PLACES],
+        settings: &settings[..SETTINGS],
+    };
+    let count = crate::held(store.voices);
     let length = HEAD + ENTRY * count;
     if out.len() < length {
-        return Counted::Refused(6);
+        return Err(Refusal::TooLittleRoom);
     }
     put_heading(out, count);
-    put_entries(&voices[..PLACES], &settings[..SETTINGS], out);
-    Counted::Number(length as u32)
+    put_entries(store, out);
+    Ok(length as u32)
 }

@@ -4,15 +4,17 @@
 ghost use Rattle.std.specs.Prelude.{◌≡◌, ◌*◌, ◌+◌, ◌<◌, ◌≤◌, length};
 ghost use Rattle.std.proofs.lemmas.List.Edits.{sets};
 ghost use Rattle.lists.specs.Sizes.{most_voices};
+ghost use Rattle.lists.specs.Ends.{refused};
+ghost use Rattle.lists.specs.Firsts.{first_at};
 ghost use Rattle.settings.specs.Store.{in_order, settings_at, holds_at, held_in, free_place};
 ghost use Rattle.settings.specs.Changes.{place_for};
-ghost use Rattle.lists.specs.Ends.{changed_number};
+ghost use Rattle.settings.specs.Inner.Steps.{PlaceGiven};
 ghost use Rattle.settings.specs.Promise.{store_refusal, voice_refusal, ClearSays, SetSays, GetSays, RemoveSays, CountSays};
 
-// Whether a store was changed, and how many voices are held or bytes written; or the number of why not.
-pub use lists::{Changed, Counted};
+use lists::Refusal;
 
 pub mod file;
+mod store;
 
 pub const PLACES: usize = 256;
 
@@ -25,38 +27,31 @@ const MOST_VOICE: u32 = 65_535;
 const FREE: u32 = 0xffff_ffff;
 
 // A voice's settings: the bits of three floats.
-#[derive(Clone, Copy)]
+#[derive(Clone, Copy, Debug, PartialEq, Eq)]
 pub struct Settings {
     pub speed: u64,
     pub weight: u64,
     pub threshold: u64,
 }
 
-// A voice's settings, or the number of why there are none.
-#[derive(Clone, Copy)]
-pub enum Got {
-    Held(Settings),
-    Refused(u8),
-}
-
-// Why a store can't be used: a list is too short.
-fn store_refusal(voices: &[u32], settings: &[u64]) -> u8
-    ensures { result ≡ store_refusal voices.now settings.now }
+// Whether a store can be used: neither list is too short.
+fn check_store(voices: &[u32], settings: &[u64]) -> Result<(), Refusal>
+    ensures { refused result ≡ store_refusal voices.now settings.now }
 {
     if (voices.len() < PLACES) | (settings.len() < SETTINGS) {
-        return 6;
+        return Err(Refusal::TooLittleRoom);
     }
-    0
+    Ok(())
 }
 
-// Why a voice can't be looked for: its number is too large, or the store can't be used.
-fn voice_refusal(voice: u32, voices: &[u32], settings: &[u64]) -> u8
-    ensures { result ≡ voice_refusal voice voices.now settings.now }
+// Whether a voice can be looked for: its number isn't too large, and the store can be used.
+fn check_voice(voice: u32, voices: &[u32], settings: &[u64]) -> Result<(), Refusal>
+    ensures { refused result ≡ voice_refusal voice voices.now settings.now }
 {
     if voice > MOST_VOICE {
-        return 3;
+        return Err(Refusal::BadSize);
     }
-    store_refusal(voices, settings)
+    check_store(voices, settings)
 }
 
 // Whether a place holds a voice: its number is a voice's, and no earlier place has it.
@@ -73,40 +68,42 @@ fn held(voices: &[u32]) -> usize
     ensures { result ≡ held_in voices.now }
 {
     let mut n = 0;
-    let mut i = 0;
-    while i < voices.len() {
-        let here = holds(voices, i);
-        i += 1;
-        if here {
+    for place in 0..voices.len() {
+        if holds(voices, place) {
             n += 1;
         }
     }
     n
 }
 
-// The first place that is free, or the number of places where none is.
-fn free_place(voices: &[u32]) -> usize
-    ensures { result ≡ free_place voices.now }
+// The first place that is free.
+fn free_place(voices: &[u32]) -> Option<usize>
+    ensures { PlaceGiven result (free_place voices.now) voices.now }
 {
-    let mut free = 0;
-    while free < voices.len() {
+    for free in 0..voices.len() {
         if !holds(voices, free) {
-            return free;
+            return Some(free);
         }
-        free += 1;
     }
-    free
+    None
+}
+
+// The place that a voice has.
+fn place_of(voices: &[u32], voice: u32) -> Option<usize>
+    ensures { PlaceGiven result (first_at voice voices.now) voices.now }
+{
+    let place = lists::first_u32(voices, voice);
+    (place < voices.len()).then_some(place)
 }
 
 // The place that a voice has, or where it isn't held gets.
-fn place_for(voices: &[u32], voice: u32) -> usize
-    ensures { result ≡ place_for voice voices.now }
+fn place_for(voices: &[u32], voice: u32) -> Option<usize>
+    ensures { PlaceGiven result (place_for voice voices.now) voices.now }
 {
-    let place = lists::first_u32(voices, voice);
-    if place < voices.len() {
-        return place;
+    match place_of(voices, voice) {
+        Some(place) => Some(place),
+        None => free_place(voices),
     }
-    free_place(voices)
 }
 
 // The settings of a place.
@@ -134,62 +131,46 @@ fn put_settings(settings: &mut [u64], place: usize, given: Settings)
 }
 
 // Makes every place free, whatever stood there.
-pub fn clear(voices: &mut [u32], settings: &mut [u64]) -> Changed
+pub fn clear(voices: &mut [u32], settings: &mut [u64]) -> Result<(), Refusal>
     ensures { ClearSays voices.old settings.old result voices.new settings.new }
 {
-    let number = store_refusal(voices, settings);
-    if number != 0 {
-        return Changed::Refused(number);
-    }
-    lists::fill_u32(voices, PLACES, FREE);
-    lists::fill_u64(settings, SETTINGS, 0);
-    Changed::Done
+    check_store(voices, settings)?;
+    voices[..PLACES].fill(FREE);
+    settings[..SETTINGS].fill(0);
+    Ok(())
 }
 
 // A voice's settings become these: in its place, or where it isn't held in the first that is free.
-pub fn set(voices: &mut [u32], settings: &mut [u64], voice: u32, given: Settings) -> Changed
+pub fn set(
+    voices: &mut [u32],
+    settings: &mut [u64],
+    voice: u32,
+    given: Settings,
+) -> Result<(), Refusal>
     ensures { SetSays voices.old settings.old voice given result voices.new settings.new }
 {
-    let number = voice_refusal(voice, voices, settings);
-    if number != 0 {
-        return Changed::Refused(number);
-    }
-    let place = place_for(&voices[..PLACES], voice);
-    if place == PLACES {
-        return Changed::Refused(17);
-    }
+    check_voice(voice, voices, settings)?;
+    let place = place_for(&voices[..PLACES], voice).ok_or(Refusal::StoreFull)?;
     voices[place] = voice;
     put_settings(settings, place, given);
-    Changed::Done
+    Ok(())
 }
 
 // A voice's settings.
-pub fn get(voices: &[u32], settings: &[u64], voice: u32) -> Got
+pub fn get(voices: &[u32], settings: &[u64], voice: u32) -> Result<Settings, Refusal>
     ensures { GetSays voices.now settings.now voice result }
 {
-    let number = voice_refusal(voice, voices, settings);
-    if number != 0 {
-        return Got::Refused(number);
-    }
-    let place = lists::first_u32(&voices[..PLACES], voice);
-    if place == PLACES {
-        return Got::Refused(19);
-    }
-    Got::Held(settings_at(settings, place))
+    check_voice(voice, voices, settings)?;
+    let place = place_of(&voices[..PLACES], voice).ok_or(Refusal::VoiceNotHeld)?;
+    Ok(settings_at(settings, place))
 }
 
 // Frees the place of a voice.
-pub fn remove(voices: &mut [u32], settings: &mut [u64], voice: u32) -> Changed
+pub fn remove(voices: &mut [u32], settings: &mut [u64], voice: u32) -> Result<(), Refusal>
     ensures { RemoveSays voices.old settings.old voice result voices.new settings.new }
 {
-    let number = voice_refusal(voice, voices, settings);
-    if number != 0 {
-        return Changed::Refused(number);
-    }
-    let place = lists::first_u32(&voices[..PLACES], voice);
-    if place == PLACES {
-        return Changed::Refused(19);
-    }
+    check_voice(voice, voices, settings)?;
+    let place = place_of(&voices[..PLACES], voice).ok_or(Refusal::VoiceNotHeld)?;
     lists::replace_u32(&mut voices[..PLACES], voice, FREE);
     let none = Settings {
         speed: 0,
@@ -197,15 +178,15 @@ pub fn remove(voices: &mut [u32], settings: &mut [u64], voice: u32) -> Changed
         threshold: 0,
     };
     put_settings(settings, place, none);
-    Changed::Done
+    Ok(())
 }
 
 // How many voices are held.
-pub fn count(voices: &[u32]) -> Counted
+pub fn count(voices: &[u32]) -> Result<u32, Refusal>
     ensures { CountSays voices.now result }
 {
     if voices.len() < PLACES {
-        return Counted::Refused(6);
+        return Err(Refusal::TooLittleRoom);
     }
-    Counted::Number(held(&voices[..PLACES]) as u32)
+    Ok(held(&voices[..PLACES]) as u32)
 }

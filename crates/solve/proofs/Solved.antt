@@ -16,7 +16,6 @@ use Rattle.region.specs.declared.Places.{Places}
 use Rattle.region.proofs.Flats.{read-sized, lists_are}
 use Rattle.region.proofs.Lanes.{region-long}
 use Rattle.region.proofs.Across.{across-then}
-use Rattle.region.proofs.Laying.{laid}
 use Rattle.solve.specs.Solve.{factor, forward, solution}
 use Rattle.solve.specs.Promise.{solved_in, SolveSays}
 use Rattle.solve.specs.Inner.Standing.{stood_in, backed_in, Forth, Back}
@@ -61,11 +60,7 @@ module _ (g : Layout) (lanes : ℕ) (work : List Float) where
       fit : lanes * size_of g ≤ length work
       fit = leb-true (lanes * size_of g) (length work) (sym test ∙ not-false t s)
 
-      -- the passes may go over the regions
-      pub solve_ready : (0 < w) × Spaced p n w p.size × (lanes * p.size ≤ length work)
-      solve_ready = rw (p-is, n-is, w-is) (pos, laid g, fit)
-
-      -- and have gone over all of them
+      -- the passes have gone over all of them
       pub solve_all : (a b : List Float) → Across (λ l. Forth p n w n) p.size lanes work a → Across (λ l. Back p n w 0) p.size lanes a b → SolveSays g lanes work b
       solve_all a b forth back =
           let both : Across (λ l x y. region_in g y ≡ solved_in g (region_in g x)) (size_of g) lanes work b =

@@ -1,8 +1,9 @@
 // Normal equations that lie in regions of the work space, factored and solved in place: a row of each component at a time, so that several go side by side.
 #![tactic(auto)]
 
-ghost use Rattle.std.specs.Prelude.{◌≡◌, ◌+◌, ◌*◌, ◌<◌, ◌≤◌, length};
+ghost use Rattle.std.specs.Prelude.{ℕ, ◌≡◌, ◌+◌, ◌*◌, ◌<◌, ◌≤◌, List, length, Float};
 ghost use Rattle.std.proofs.lemmas.List.Edits.{sets};
+ghost use Rattle.std.specs.Fork.{AcceptsAt, ChangesAt};
 ghost use Rattle.lists.specs.Build.{build};
 ghost use Rattle.lists.specs.Parts.{part};
 ghost use Rattle.region.specs.Inner.Passes.{Spaced, Across};
@@ -25,134 +26,115 @@ fn factor_row(m: &mut [f64], rows: usize, factors: usize, w: usize, t: usize)
     let a = rows + t * w;
     let e = factors + t * w;
     let d = reduced_at(m[a], &m[factors..e], w, t, 0);
-    let mut i = 1;
-    while i < w {
+    for i in 1..w {
         let x = reduced_at(m[a + i], &m[factors..e], w, t, i);
         m[e + i] = x / d;
-        i += 1;
     }
     m[e] = d;
 }
 
-// Row t of one component: its right side is put forward, and the row factored.
-fn eliminate_row(m: &mut [f64], p: Places, n: usize, w: usize, t: usize)
-    requires { (t < n) × (0 < w) × Spaced p n w (length m.old) }
-    ensures { m.new ≡ row_done p w t m.old }
+// Does f to the region of each of so many components; it is told which.
+fn each_lane<F: Fn(usize, &mut [f64])>(work: &mut [f64], size: usize, lanes: usize, f: F)
+    requires room { lanes * size ≤ length work.old }
+    requires takes { (l : ℕ) (m : List Float) → l < lanes → length m ≡ size → AcceptsAt F.Fn f l m }
+    ensures { Across (ChangesAt F.Fn f) size lanes work.old work.new }
 {
-    let factors = p.factors;
-    let factors_end = factors + t * w;
-    let values = p.values;
-    let values_end = values + t;
-    let x = m[p.right + t];
-    let g = forward_at(&m[factors..factors_end], x, &m[values..values_end], w, t);
-    factor_row(m, p.rows, factors, w, t);
-    m[values_end] = g;
-}
-
-// The value at t of one component is put backward, in place.
-fn backward_row(m: &mut [f64], p: Places, n: usize, w: usize, t: usize)
-    requires { (t < n) × (0 < w) × Spaced p n w (length m.old) }
-    ensures { m.new ≡ value_back p n w t m.old }
-{
-    let factors = p.factors;
-    let factors_end = factors + n * w;
-    let values = p.values;
-    let values_end = values + n;
-    let x = backward_at(&m[factors..factors_end], &m[values..values_end], w, t);
-    m[values + t] = x;
-}
-
-// Row t of one component, whichever its width.
-fn eliminate_lane(m: &mut [f64], p: Places, n: usize, w: usize, t: usize)
-    requires { (t < n) × (0 < w) × Spaced p n w (length m.old) }
-    ensures { m.new ≡ row_done p w t m.old }
-{
-    if w == 3 && 2 <= t {
-        eliminate_three(m, p, n, t - 2);
-    } else {
-        eliminate_row(m, p, n, w, t);
+    for l in 0..lanes {
+        let o = l * size;
+        f(l, &mut work[o..o + size]);
     }
 }
 
-// Row t of each component.
-fn eliminate_rows(
-    work: &mut [f64],
+// The equations of a component: n rows, w numbers each, at these places of its region.
+#[derive(Clone, Copy)]
+struct Equations {
     p: Places,
     n: usize,
     w: usize,
-    t: usize,
-    size: usize,
-    lanes: usize,
-)
-    requires { (t < n) × (0 < w) × Spaced p n w size × (lanes * size ≤ length work.old) }
-    ensures { Across (λ l b e. e ≡ row_done p w t b) size lanes work.old work.new }
-{
-    let mut l = 0;
-    let mut o = 0;
-    while l < lanes {
-        let e = o + size;
-        eliminate_lane(&mut work[o..e], p, n, w, t);
-        o = e;
-        l += 1;
-    }
 }
 
-// The factors of each component, and its right side put forward.
-fn eliminate(work: &mut [f64], p: Places, n: usize, w: usize, size: usize, lanes: usize)
-    requires { (0 < w) × Spaced p n w size × (lanes * size ≤ length work.old) }
-    ensures { Across (λ l. Forth p n w n) size lanes work.old work.new }
-{
-    let mut t = 0;
-    while t < n {
-        eliminate_rows(work, p, n, w, t, size, lanes);
-        t += 1;
+impl Equations {
+    // Row t: its right side is put forward, and the row factored.
+    #[tactic(auto, using(lists::proofs::Rows::row_fits))]
+    fn eliminate_row(self, m: &mut [f64], t: usize)
+        requires { (t < self.n) × (0 < self.w) × Spaced self.p self.n self.w (length m.old) }
+        ensures { m.new ≡ row_done self.p self.w t m.old }
+    {
+        let p = self.p;
+        let factors_end = p.factors + t * self.w;
+        let values_end = p.values + t;
+        let x = m[p.right + t];
+        let g = forward_at(
+            &m[p.factors..factors_end],
+            x,
+            &m[p.values..values_end],
+            self.w,
+            t,
+        );
+        factor_row(m, p.rows, p.factors, self.w, t);
+        m[values_end] = g;
     }
-}
 
-// The value at t of one component is put backward, whichever its width.
-fn backward_lane(m: &mut [f64], p: Places, n: usize, w: usize, t: usize)
-    requires { (t < n) × (0 < w) × Spaced p n w (length m.old) }
-    ensures { m.new ≡ value_back p n w t m.old }
-{
-    if w == 3 && 2 < n - t {
-        backward_three(m, p, n, t);
-    } else {
-        backward_row(m, p, n, w, t);
+    // The value at t is put backward, in place.
+    #[tactic(auto, using(lists::proofs::Rows::row_fits))]
+    fn backward_row(self, m: &mut [f64], t: usize)
+        requires { (t < self.n) × (0 < self.w) × Spaced self.p self.n self.w (length m.old) }
+        ensures { m.new ≡ value_back self.p self.n self.w t m.old }
+    {
+        let p = self.p;
+        let factors_end = p.factors + self.n * self.w;
+        let values_end = p.values + self.n;
+        let x = backward_at(
+            &m[p.factors..factors_end],
+            &m[p.values..values_end],
+            self.w,
+            t,
+        );
+        m[p.values + t] = x;
     }
-}
 
-// The value at t of each component is put backward.
-fn backward_rows(
-    work: &mut [f64],
-    p: Places,
-    n: usize,
-    w: usize,
-    t: usize,
-    size: usize,
-    lanes: usize,
-)
-    requires { (t < n) × (0 < w) × Spaced p n w size × (lanes * size ≤ length work.old) }
-    ensures { Across (λ l b e. e ≡ value_back p n w t b) size lanes work.old work.new }
-{
-    let mut l = 0;
-    let mut o = 0;
-    while l < lanes {
-        let e = o + size;
-        backward_lane(&mut work[o..e], p, n, w, t);
-        o = e;
-        l += 1;
+    // Row t, whichever the width.
+    fn eliminate_lane(self, m: &mut [f64], t: usize)
+        requires { (t < self.n) × (0 < self.w) × Spaced self.p self.n self.w (length m.old) }
+        ensures { m.new ≡ row_done self.p self.w t m.old }
+    {
+        if self.w == 3 && 2 <= t {
+            eliminate_three(m, self.p, self.n, t - 2);
+        } else {
+            self.eliminate_row(m, t);
+        }
     }
-}
 
-// The values of each component are put backward.
-fn backward(work: &mut [f64], p: Places, n: usize, w: usize, size: usize, lanes: usize)
-    requires { (0 < w) × Spaced p n w size × (lanes * size ≤ length work.old) }
-    ensures { Across (λ l. Back p n w 0) size lanes work.old work.new }
-{
-    let mut t = n;
-    while 0 < t {
-        t -= 1;
-        backward_rows(work, p, n, w, t, size, lanes);
+    // The value at t is put backward, whichever the width.
+    fn backward_lane(self, m: &mut [f64], t: usize)
+        requires { (t < self.n) × (0 < self.w) × Spaced self.p self.n self.w (length m.old) }
+        ensures { m.new ≡ value_back self.p self.n self.w t m.old }
+    {
+        if self.w == 3 && 2 < self.n - t {
+            backward_three(m, self.p, self.n, t);
+        } else {
+            self.backward_row(m, t);
+        }
+    }
+
+    // The factors of each component, and its right side put forward: row by row, each in all components.
+    fn eliminate(self, work: &mut [f64], lanes: usize)
+        requires { (0 < self.w) × Spaced self.p self.n self.w self.p.size × (lanes * self.p.size ≤ length work.old) }
+        ensures { Across (λ l. Forth self.p self.n self.w self.n) self.p.size lanes work.old work.new }
+    {
+        for t in 0..self.n {
+            each_lane(work, self.p.size, lanes, |_, m| self.eliminate_lane(m, t));
+        }
+    }
+
+    // The values of each component are put backward.
+    fn backward(self, work: &mut [f64], lanes: usize)
+        requires { (0 < self.w) × Spaced self.p self.n self.w self.p.size × (lanes * self.p.size ≤ length work.old) }
+        ensures { Across (λ l. Back self.p self.n self.w 0) self.p.size lanes work.old work.new }
+    {
+        for t in (0..self.n).rev() {
+            each_lane(work, self.p.size, lanes, |_, m| self.backward_lane(m, t));
+        }
     }
 }
 
@@ -160,15 +142,14 @@ fn backward(work: &mut [f64], p: Places, n: usize, w: usize, size: usize, lanes:
 pub fn solve(g: Layout, lanes: usize, work: &mut [f64])
     ensures { SolveSays g lanes work.old work.new }
 {
-    if g.w < 1 {
+    if g.w < 1 || !g.fits(lanes, work.len()) {
         return;
     }
-    if !g.fits(lanes, work.len()) {
-        return;
-    }
-    let p = g.places();
-    let n = lists::wide(g.n);
-    let w = lists::small(g.w);
-    eliminate(work, p, n, w, p.size, lanes);
-    backward(work, p, n, w, p.size, lanes);
+    let e = Equations {
+        p: g.places(),
+        n: g.n as usize,
+        w: usize::from(g.w),
+    };
+    e.eliminate(work, lanes);
+    e.backward(work, lanes);
 }

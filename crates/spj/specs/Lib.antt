@@ -1,3 +1,2 @@
 -- What the contracts of src/ cite.
 pub mod Reading
-pub mod Printing

@@ -12,8 +12,9 @@ use Rattle.lists.proofs.Rows.{row_in}
 use Rattle.lists.proofs.Answers.{accepted_is}
 use Rattle.spool.specs.Place.{place_of}
 use Rattle.spool.specs.Refusal.{place_refusal}
-use Rattle.spool.specs.Promise.{placed, PlaceSays}
-use Rattle.spool.specs.declared.Placed.TheVariants.{At}
+use Rattle.std.proofs.Common.{Ok}
+use Rattle.lists.specs.Ends.{counted}
+use Rattle.spool.specs.Promise.{PlaceSays}
 use Rattle.spool.specs.Refusal.Laws.{place_accepts}
 use Rattle.spool.proofs.Sums.{product-fits}
 
@@ -43,14 +44,14 @@ places_differ v frame component frame' component' w w' e = ⊎_elim
     (le_or_lt frame frame')
 
 -- so two calls that give one place were asked for one frame and one component
-pub answers_differ : (v frame component frame' component' place : ℕ) → PlaceSays frame component v (At place) → PlaceSays frame' component' v (At place) → (frame ≡ frame') × (component ≡ component')
+pub answers_differ : (v frame component frame' component' place : ℕ) → PlaceSays frame component v (Ok place) → PlaceSays frame' component' v (Ok place) → (frame ≡ frame') × (component ≡ component')
 answers_differ v frame component frame' component' place a b =
     places_differ v frame component frame' component' (place_accepts component v (given-at frame component a).0).1 (place_accepts component' v (given-at frame' component' b).0).1 (sym (given-place frame component a) ∙ given-place frame' component' b)
   where
-    given-at : (frame component : ℕ) → PlaceSays frame component v (At place) → (place_refusal component v ≡ 0) × (place ∷ [] ≡ place_of frame component v ∷ [])
-    given-at frame component s = accepted_is (placed (At place)) _ _ s refl
+    given-at : (frame component : ℕ) → PlaceSays frame component v (Ok place) → (place_refusal component v ≡ 0) × (place ∷ [] ≡ place_of frame component v ∷ [])
+    given-at frame component s = accepted_is (counted (Ok place)) _ _ s refl
 
-    given-place : (frame component : ℕ) → PlaceSays frame component v (At place) → place ≡ place_of frame component v
+    given-place : (frame component : ℕ) → PlaceSays frame component v (Ok place) → place ≡ place_of frame component v
     given-place frame component s = let e : place ∷ [] ≡ place_of frame component v ∷ [] = (given-at frame component s).1 in cc e
 
 -- no frame of 32 bits has a place past that of frame 4,294,967,295, component 63 of 64

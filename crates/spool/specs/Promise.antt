@@ -1,31 +1,20 @@
 -- What the calls promise.
-use Rattle.std.specs.Prelude.{◌≡◌, List, [], ◌∷◌, ℕ, ◌+◌, ◌*◌, Float, length}
+use Rattle.std.specs.Prelude.{◌≡◌, Result, List, [], ◌∷◌, ℕ, ◌+◌, ◌*◌, Float, length}
 use Rattle.std.specs.Borrow.{Bor}
-use Rattle.lists.specs.Answers.{Answer, accepting, refusing, given, answer_of}
+use Rattle.lists.specs.Answers.{given, answer_of}
 use Rattle.spool.specs.Place.{place_of}
 use Rattle.spool.specs.Excerpt.{excerpt_start, excerpt_count, excerpt_of}
 use Rattle.spool.specs.Refusal.{place_refusal, excerpt_refusal}
-use Rattle.spool.specs.declared.Placed.{Placed}
-use Rattle.spool.specs.declared.Placed.TheVariants as place
-use Rattle.spool.specs.declared.Span.{Span}
-use Rattle.spool.specs.declared.Span.TheVariants as span
-
--- RULES, Forms: the number and the values of a place
-abbrev pub placed : Placed → Answer
-placed (place.At at) = accepting (at ∷ [])
-placed (place.Refused number) = refusing number
-
--- and of a span
-abbrev pub spanned : Span → Answer
-spanned (span.Numbers first count) = accepting (first ∷ count ∷ [])
-spanned (span.Refused number) = refusing number
+use Rattle.lists.specs.Ends.{counted, spanned}
+use Rattle.lists.specs.declared.Refusal.{Refusal}
+use Rattle.lists.specs.declared.Span.{Span}
 
 -- RULES, Places: what `place` answers
-abbrev pub PlaceSays : ℕ → ℕ → ℕ → Placed → Type 0
-PlaceSays frame component v r = placed r ≡ answer_of (place_refusal component v) (place_of frame component v ∷ [])
+abbrev pub PlaceSays : ℕ → ℕ → ℕ → Result ℕ Refusal → Type 0
+PlaceSays frame component v r = counted r ≡ answer_of (place_refusal component v) (place_of frame component v ∷ [])
 
 -- RULES, Places: what `excerpt_span` answers, the excerpt's first number and how many there are
-abbrev pub SpanSays : List Float → List ℕ → ℕ → ℕ → Span → Type 0
+abbrev pub SpanSays : List Float → List ℕ → ℕ → ℕ → Result Span Refusal → Type 0
 SpanSays trajectory durations v state r =
     spanned r ≡ answer_of (excerpt_refusal (length trajectory) durations v state) (excerpt_start durations v state ∷ excerpt_count durations v state ∷ [])
 

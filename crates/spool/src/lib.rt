@@ -4,147 +4,132 @@
 ghost use Rattle.std.specs.Prelude.{◌≡◌, ◌*◌, ◌^◌, ◌≤◌, ◌<◌, length};
 ghost use Rattle.spool.specs.Place.{number_of};
 ghost use Rattle.lists.specs.Sizes.{outside};
+ghost use Rattle.lists.specs.Ends.{refused};
 ghost use Rattle.spool.specs.Refusal.{states_refusal, counts_refusal, frames_refusal, shape_refusal, durations_refusal, trajectory_refusal, excerpt_refusal};
 ghost use Rattle.spool.specs.Promise.{PlaceSays, SpanSays, ExcerptSays};
 ghost use Rattle.spool.specs.Inner.Sums.{Summed};
 
-// A byte place in the spool, or why there is none.
-#[derive(Clone, Copy)]
-pub enum Placed {
-    At(u64),
-    Refused(u8),
-}
-
-// The place of an excerpt's first number in the trajectory and how many numbers it has, or why there is none.
-#[derive(Clone, Copy)]
-pub enum Span {
-    Numbers(u64, u64),
-    Refused(u8),
-}
+use lists::{Refusal, Span};
 
 // The byte place of a frame's component. In 32 bits it would wrap after 4 GiB.
-pub fn place(frame: u32, component: u32, v: u32) -> Placed
+pub fn place(frame: u32, component: u32, v: u32) -> Result<u64, Refusal>
     ensures { PlaceSays frame component v result }
 {
     if out_of_range(v) {
-        return Placed::Refused(3);
+        return Err(Refusal::BadSize);
     }
     if v <= component {
-        return Placed::Refused(10);
+        return Err(Refusal::NoSuchPlace);
     }
-    Placed::At(number_of(lists::long(frame), lists::long(component), lists::long(v)) * 8)
+    Ok(number_of(u64::from(frame), u64::from(component), u64::from(v)) * 8)
 }
 
 // The part of the lent trajectory that a state has; the empty part of it on a refusal.
 pub fn excerpt<'a>(trajectory: &'a [f64], durations: &[u32], v: u32, state: u32) -> &'a [f64]
     ensures { ExcerptSays trajectory.entry durations.now v state result }
 {
-    let Span::Numbers(first, count) = excerpt_span(trajectory, durations, v, state) else {
+    let Ok(span) = excerpt_span(trajectory, durations, v, state) else {
         return &trajectory[..0];
     };
-    let start = first as usize;
-    let end = start + count as usize;
+    let start = span.first as usize;
+    let end = start + span.count as usize;
     &trajectory[start..end]
 }
 
-// Why `excerpt` refuses the same inputs, 0 where it doesn't: a state of 0 frames has the empty part too.
-pub fn excerpt_refusal(trajectory: &[f64], durations: &[u32], v: u32, state: u32) -> u8
-    ensures { result ≡ excerpt_refusal (length trajectory.now) durations.now v state }
+// Why `excerpt` refuses the same inputs, if it does: a state of 0 frames has the empty part too.
+pub fn check_excerpt(
+    trajectory: &[f64],
+    durations: &[u32],
+    v: u32,
+    state: u32,
+) -> Result<(), Refusal>
+    ensures { refused result ≡ excerpt_refusal (length trajectory.now) durations.now v state }
 {
-    let Span::Refused(number) = excerpt_span(trajectory, durations, v, state) else {
-        return 0;
-    };
-    number
+    excerpt_span(trajectory, durations, v, state).map(|_span| ())
 }
 
 // The excerpt by its numbers' places, for callers that can't be handed a part of a list.
-pub fn excerpt_span(trajectory: &[f64], durations: &[u32], v: u32, state: u32) -> Span
+pub fn excerpt_span(
+    trajectory: &[f64],
+    durations: &[u32],
+    v: u32,
+    state: u32,
+) -> Result<Span, Refusal>
     ensures { SpanSays trajectory.now durations.now v state result }
 {
     let states = durations.len();
-    let sizes = counts_refusal(states, v);
-    if sizes != 0 {
-        return Span::Refused(sizes);
-    }
+    check_counts(states, v)?;
     // One scan in two parts: the frames before the state, and those from it on.
-    let at = lists::least(state as usize, states);
+    let at = states.min(state as usize);
     let first = frames_of(&durations[..at]);
     let frames = first + frames_of(&durations[at..]);
-    let shape = shape_refusal(trajectory.len(), frames, v);
-    if shape != 0 {
-        return Span::Refused(shape);
-    }
+    check_shape(trajectory.len(), frames, v)?;
     if states <= at {
-        return Span::Refused(10);
+        return Err(Refusal::NoSuchPlace);
     }
-    let width = lists::long(v);
-    Span::Numbers(
-        number_of(first, 0, width),
-        lists::long(durations[at]) * width,
-    )
+    let width = u64::from(v);
+    Ok(Span {
+        first: number_of(first, 0, width),
+        count: u64::from(durations[at]) * width,
+    })
 }
 
-// Why durations are refused, whatever is made of them; 0 where they aren't.
-pub fn durations_refusal(durations: &[u32]) -> u8
-    ensures { result ≡ durations_refusal durations.now }
+// Why durations are refused, if they are, whatever is made of them.
+pub fn check_durations(durations: &[u32]) -> Result<(), Refusal>
+    ensures { refused result ≡ durations_refusal durations.now }
 {
-    let sizes = states_refusal(durations.len());
-    if sizes != 0 {
-        return sizes;
-    }
-    frames_refusal(frames_of(durations))
+    check_states(durations.len())?;
+    check_frames(frames_of(durations))
 }
 
-// Why a trajectory is refused with its durations, whatever part of it is asked for; 0 where it isn't.
-pub fn trajectory_refusal(trajectory: &[f64], durations: &[u32], v: u32) -> u8
-    ensures { result ≡ trajectory_refusal (length trajectory.now) durations.now v }
+// Why a trajectory is refused with its durations, if it is, whatever part of it is asked for.
+pub fn check_trajectory(trajectory: &[f64], durations: &[u32], v: u32) -> Result<(), Refusal>
+    ensures { refused result ≡ trajectory_refusal (length trajectory.now) durations.now v }
 {
-    let sizes = counts_refusal(durations.len(), v);
-    if sizes != 0 {
-        return sizes;
-    }
-    shape_refusal(trajectory.len(), frames_of(durations), v)
+    check_counts(durations.len(), v)?;
+    check_shape(trajectory.len(), frames_of(durations), v)
 }
 
-// 3 where there are too many states, 0 else.
-fn states_refusal(states: usize) -> u8
-    ensures { result ≡ states_refusal states }
+// There may be too many states.
+fn check_states(states: usize) -> Result<(), Refusal>
+    ensures { refused result ≡ states_refusal states }
 {
     if 4096 < states {
-        return 3;
+        return Err(Refusal::BadSize);
     }
-    0
+    Ok(())
 }
 
-// The same, and 3 where v is out of range.
-fn counts_refusal(states: usize, v: u32) -> u8
-    ensures { result ≡ counts_refusal states v }
+// Or v may be out of range.
+fn check_counts(states: usize, v: u32) -> Result<(), Refusal>
+    ensures { refused result ≡ counts_refusal states v }
 {
+    check_states(states)?;
     if out_of_range(v) {
-        return 3;
+        return Err(Refusal::BadSize);
     }
-    states_refusal(states)
+    Ok(())
 }
 
-// 5 where there are too many frames, 0 else.
-fn frames_refusal(frames: u64) -> u8
-    ensures { result ≡ frames_refusal frames }
+// There may be too many frames.
+fn check_frames(frames: u64) -> Result<(), Refusal>
+    ensures { refused result ≡ frames_refusal frames }
 {
     if 65_536 < frames {
-        return 5;
+        return Err(Refusal::TooManyFrames);
     }
-    0
+    Ok(())
 }
 
-// The same, and before it 4 where a trajectory has another count of numbers than so many frames have.
-fn shape_refusal(numbers: usize, frames: u64, v: u32) -> u8
+// And before it a trajectory may have another count of numbers than so many frames have.
+fn check_shape(numbers: usize, frames: u64, v: u32) -> Result<(), Refusal>
     requires { frames * v < 2 ^ 64 }
-    ensures { result ≡ shape_refusal numbers frames v }
+    ensures { refused result ≡ shape_refusal numbers frames v }
 {
-    if numbers as u64 != frames * lists::long(v) {
-        return 4;
+    if numbers as u64 != frames * u64::from(v) {
+        return Err(Refusal::ListsDisagree);
     }
-    frames_refusal(frames)
+    check_frames(frames)
 }
 
 // The place of a frame's component in a trajectory.
@@ -159,10 +144,7 @@ fn number_of(frame: u64, component: u64, v: u64) -> u64
 fn out_of_range(v: u32) -> bool
     ensures { result ≡ outside v }
 {
-    if v < 1 {
-        return true;
-    }
-    64 < v
+    (v < 1) | (64 < v)
 }
 
 // The frames of a part of the states: two such sums, times 64, fit 64 bits.

@@ -1,16 +1,16 @@
 -- Where one state alone is above its shortest, it gives all the frames.
-use mathlib.Core.Path.{◌≡◌, ap, ◌∙◌, subst}
+use mathlib.Core.Path.{◌≡◌, ap, ◌∙◌}
 use mathlib.Core.Bool.{false}
 use mathlib.Core.List.{List}
 use mathlib.Core.Logic.{⊎_elim}
 use Prim.Native.Nat.{ℕ, zero, suc, ◌+◌, ◌-◌, ◌≤◌, ◌<◌, zero-le}
 use native.Mathlib.Omega.{arith}
-use lib.ListN.{length, get_or, set, length-set, get_or-eq_default}
+use Rattle.std.proofs.Common.{Option, None, Some}
+use lib.ListN.{length, get_or, set, length-set}
 use lib.Seq.{get_or-set_same, get_or-set_other, set-get_or, set-set}
 use lib.Ieee.{Float}
 use Rattle.lists.specs.Sizes.{most_frames}
 use Rattle.lists.specs.Totals.{total, gap}
-use Rattle.lists.proofs.Numbers.{le_or_lt}
 use Rattle.steps.specs.Steps.{States, size, least, keys, least_of, step, Settles, Outcome, settle}
 use Rattle.steps.specs.Steps.Settles.{there, above}
 use Rattle.steps.specs.Inner.Asked.{Ready, Aim, Lone}
@@ -19,22 +19,11 @@ use Rattle.steps.proofs.Nodes.{same}
 use Rattle.steps.proofs.Stepping.{total-down}
 use Rattle.steps.proofs.Settling.{settles_one, settle_settles}
 
--- ---- the loop that looks for it has passed i states
+-- ---- the loop that looks for it has passed i states: none is longer, or one is
 
-abbrev pub Passed : List ℕ → List ℕ → ℕ → ℕ → Type 0
-Passed ls ds i p = (j : ℕ) → j < i → (j ≡ p → ⊥) → get_or ds j 0 ≤ get_or ls j 0
-
-pub passed_none : (ls ds : List ℕ) (p : ℕ) → Passed ls ds 0 p
-passed_none ls ds p j h ne = absurd (omega arith)
-
-pub passed-short : (ls ds : List ℕ) (i p : ℕ) → Passed ls ds i p → get_or ds i 0 ≤ get_or ls i 0 → Passed ls ds (i + 1) p
-passed-short ls ds i p f h j l ne = ⊎_elim (λ (g : i ≤ j). let e : i ≡ j = omega arith in subst (λ (k : ℕ). get_or ds k 0 ≤ get_or ls k 0) e h) (λ (g : j < i). f j g ne) (le_or_lt i j)
-
-pub passed-long : (ls ds : List ℕ) (i p : ℕ) → Passed ls ds i p → i < length ds → length ds ≤ p → Passed ls ds (i + 1) i
-passed-long ls ds i p f h k j l ne = f j (omega arith) (λ e. omega arith)
-
-pub passed-all : (ls ds : List ℕ) (i p : ℕ) → Passed ls ds i p → length ds ≤ i → Lone ls ds p
-passed-all ls ds i p f h j ne = ⊎_elim (λ (g : length ds ≤ j). rw (get_or-eq_default ds 0 g) zero-le) (λ (g : j < length ds). f j (omega arith) ne) (le_or_lt (length ds) j)
+abbrev pub Passed : List ℕ → List ℕ → ℕ → Option ℕ → Type 0
+Passed ls ds i None = (j : ℕ) → j < i → get_or ds j 0 ≤ get_or ls j 0
+Passed ls ds i (Some p) = (p < i) × ((j : ℕ) → j < i → (j ≡ p → ⊥) → get_or ds j 0 ≤ get_or ls j 0)
 
 -- ---- its steps
 

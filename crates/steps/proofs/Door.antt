@@ -4,13 +4,12 @@ use mathlib.Core.Bool.{Bool, true, false, not, ◌&&◌, and-eq-true_iff}
 use mathlib.Core.List.{List}
 use Prim.Native.Nat.{ℕ, ◌≤◌, ◌<◌}
 use native.Mathlib.Omega.{arith}
+use Rattle.std.proofs.Common.{Option, None, Some}
 use lib.ListN.{length}
 use lib.Ieee.{Float}
 use borrow.Author.Tests.{ltb-true, ltb-false, leb-true, eqb-true, lt-ltb, le-ltb, le-leb, eq-eqb, not-true, not-false}
 use Rattle.lists.specs.Sizes.{most_states, most_frames}
 use Rattle.lists.specs.Totals.{total}
-use Rattle.steps.specs.declared.Settled.{Settled}
-use Rattle.steps.specs.declared.Settled.TheVariants.{Done, Over}
 use Rattle.steps.specs.Steps.{States, size, least, Outcome, settle}
 use Rattle.steps.specs.Promise.{fit_together, in_reach, opens, too_long, SettleSays}
 use Rattle.steps.specs.Inner.Asked.{Ready, Aim}
@@ -50,7 +49,7 @@ in_reach_lem sum t e = let r = (and-eq-true_iff _ _).0 e in (ltb-true sum t r.0,
 pub stands_open : (ss : States) (ds : List ℕ) (t : ℕ) → Together (size ss) (length ss.varis) (length ss.shortest) (length ds) → least ss < t → t ≤ most_frames → opens ss ds t ≡ true
 stands_open ss ds t o a b = rw (fit-together _ _ _ _ o, lt-ltb (least ss) t a, le-leb t most_frames b)
 
-outcome_is : (o : Outcome) (k : ℕ) (es : List ℕ) → Done k ≡ Done o.changes → es ≡ o.durations → o ≡ record { durations = es; changes = k }
+outcome_is : (o : Outcome) (k : ℕ) (es : List ℕ) → Some k ≡ Some o.changes → es ≡ o.durations → o ≡ record { durations = es; changes = k }
 outcome_is o k es e f = let n : k ≡ o.changes = cc in rw (n, f)
 
 module _ (rho : Float) (t : ℕ) (ss : States) (ds : List ℕ) where
@@ -59,11 +58,11 @@ module _ (rho : Float) (t : ℕ) (ss : States) (ds : List ℕ) where
 
   -- ---- the ways through the call
 
-  shut : opens ss ds t ≡ false → SettleSays rho t ss ds (Done 0) ds
+  shut : opens ss ds t ≡ false → SettleSays rho t ss ds (Some 0) ds
   shut o = record { answer = rw o; durations = rw o }
 
   module _ (b : Bool) (e : b ≡ fit_together (size ss) (length ss.varis) (length ss.shortest) (length ds)) where
-    pub settles_none : not b ≡ true → SettleSays rho t ss ds (Done 0) ds
+    pub settles_none : not b ≡ true → SettleSays rho t ss ds (Some 0) ds
     settles_none h = shut (ap (λ (c : Bool). c && in_reach (least ss) t) (sym e ∙ not-true b h))
 
     -- the lists fit together, and their totals are taken
@@ -72,7 +71,7 @@ module _ (rho : Float) (t : ℕ) (ss : States) (ds : List ℕ) where
       fit = lists-fit _ _ _ _ b e h
 
       module _ (low sum : ℕ) (p : low ≡ least ss) (q : sum ≡ total ds) (c : Bool) (r : c ≡ in_reach low t) where
-        pub settles_low : not c ≡ true → SettleSays rho t ss ds (Done 0) ds
+        pub settles_low : not c ≡ true → SettleSays rho t ss ds (Some 0) ds
         settles_low g = shut (rw (sym e ∙ not-false b h, ← p, ← r, not-true c g))
 
         module _ (g : not c ≡ false) where
@@ -82,7 +81,7 @@ module _ (rho : Float) (t : ℕ) (ss : States) (ds : List ℕ) where
           is_open : Open
           is_open = stands_open ss ds t fit (rw (← p) reached.0) reached.1
 
-          pub settles_over : most_frames < sum → SettleSays rho t ss ds Over ds
+          pub settles_over : most_frames < sum → SettleSays rho t ss ds None ds
           settles_over l = let long : too_long ds ≡ true = lt-ltb most_frames (total ds) (omega arith) in record { answer = rw (is_open, long); durations = rw (is_open, long) }
 
           module _ (l : sum ≤ most_frames) where
@@ -92,24 +91,24 @@ module _ (rho : Float) (t : ℕ) (ss : States) (ds : List ℕ) where
             pub aimed : Aim ss ds sum t
             aimed = record { known = q; above = rw (← p) reached.0; within = reached.1 }
 
-            pub settles_all : (k : ℕ) (es : List ℕ) → settle most_frames rho ss t ds ≡ record { durations = es; changes = k } → SettleSays rho t ss ds (Done k) es
+            pub settles_all : (k : ℕ) (es : List ℕ) → settle most_frames rho ss t ds ≡ record { durations = es; changes = k } → SettleSays rho t ss ds (Some k) es
             settles_all k es f = let short : too_long ds ≡ false = le-ltb most_frames (total ds) (omega arith) in record { answer = rw (is_open, short, f); durations = rw (is_open, short, f) }
 
   -- ---- what a caller learns, whose lists fit
 
-  module _ (o : Open) (r : Settled) (es : List ℕ) (s : SettleSays rho t ss ds r es) where
-    pub was-over : r ≡ Over → most_frames < total ds
+  module _ (o : Open) (r : Option ℕ) (es : List ℕ) (s : SettleSays rho t ss ds r es) where
+    pub was-over : r ≡ None → most_frames < total ds
     was-over e =
         (elim (too_long ds) as (λ b. too_long ds ≡ b → most_frames < total ds) [
           | true ↦ λ q. ltb-true most_frames (total ds) q
-          | false ↦ λ q. absurd (let p : Over ≡ Done (settle most_frames rho ss t ds).changes = sym e ∙ s.answer ∙ rw (o, q) in let z : ◌≡◌ {A = ℕ} 0 1 = cc in omega arith)
+          | false ↦ λ q. absurd (let p : None ≡ Some (settle most_frames rho ss t ds).changes = sym e ∙ s.answer ∙ rw (o, q) in let z : ◌≡◌ {A = ℕ} 0 1 = cc in omega arith)
         ])
         refl
 
-    pub was_settled : (k : ℕ) → r ≡ Done k → (total ds ≤ most_frames) × (settle most_frames rho ss t ds ≡ record { durations = es; changes = k })
+    pub was_settled : (k : ℕ) → r ≡ Some k → (total ds ≤ most_frames) × (settle most_frames rho ss t ds ≡ record { durations = es; changes = k })
     was_settled k e =
         (elim (too_long ds) as (λ b. too_long ds ≡ b → (total ds ≤ most_frames) × (settle most_frames rho ss t ds ≡ record { durations = es; changes = k })) [
-          | true ↦ λ q. absurd (let p : Done k ≡ Over = sym e ∙ s.answer ∙ rw (o, q) in let z : ◌≡◌ {A = ℕ} 0 1 = cc in omega arith)
+          | true ↦ λ q. absurd (let p : Some k ≡ None = sym e ∙ s.answer ∙ rw (o, q) in let z : ◌≡◌ {A = ℕ} 0 1 = cc in omega arith)
           | false ↦ λ q. (ltb-false most_frames (total ds) q, outcome_is (settle most_frames rho ss t ds) k es (sym e ∙ s.answer ∙ rw (o, q)) (s.durations ∙ rw (o, q)))
         ])
         refl

@@ -61,10 +61,6 @@ score_tie k l p q e = ltb-same p q (score k p) (score l q) (λ h. omega arith) (
 pub score_key : (k l p q : ℕ) → (k ≡ l → ⊥) → p < most_states → q < most_states → ltb k l ≡ ltb (score k p) (score l q)
 score_key k l p q ne f g = ltb-same k l (score k p) (score l q) (λ h. omega arith) (λ h. omega arith)
 
--- a fixed state comes after those before it
-pub score-fixed : (k l p q : ℕ) → l ≡ rank Fixed → k ≤ rank Fixed → p < q → ltb (score l q) (score k p) ≡ false
-score-fixed k l p q e f h = le-ltb (score l q) (score k p) (omega arith)
-
 -- of the entries of two places, that of the lesser score
 pub sooner_lesser : (K : ℕ → ℕ) (a b : ℕ) (x y r : Entry) → x ≡ keyed K a → y ≡ keyed K b → r ≡ sooner_of x y → (r ≡ keyed K r.place) × Lesser (scores K) a b r.place
 sooner_lesser K a b x y r p q e =

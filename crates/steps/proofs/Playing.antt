@@ -6,22 +6,22 @@ use Prim.Native.Nat.{ℕ, ◌+◌, ◌-◌, ◌*◌, ◌/◌, ◌%◌, ◌≤◌
 use native.Mathlib.Omega.{arith}
 use lib.ListN.{length, get_or}
 use lib.Seq.{get_or-set_other}
-use lib.Dec.{ltb}
 use lib.Ieee.{Float}
 use Rattle.lists.specs.Sizes.{most_frames, most_states}
 use Rattle.lists.specs.Totals.{total}
 use Rattle.lists.proofs.Sums.{get_or-le-total}
 use Rattle.steps.specs.declared.costs.Entry.{Entry}
-use Rattle.steps.specs.Steps.{States, size, least, moved, keys, least_of, step, settle}
+use Rattle.steps.specs.Steps.{States, size, least, moved, keys, least_of, step}
 use Rattle.steps.specs.Inner.Scores.{key_at, scores, keyed, sooner_of}
 use Rattle.steps.specs.Inner.Tree.{node, Kept, Path}
 use Rattle.steps.specs.Inner.Pack.{width, lows, highs}
-use Rattle.steps.specs.Inner.Asked.{Ready, RoomFor, MayMove, Aim, PutsDuration, PutsPlace, Standing, Plays, Stepped}
+use Rattle.steps.specs.Inner.Asked.{Ready, RoomFor, MayMove, PutsDuration, PutsPlace, Standing, Plays, Stepped}
+use Rattle.steps.specs.Inner.Rounds.{RoomForAll, stepped}
 use Rattle.steps.proofs.Order.{sooner_lesser}
 use Rattle.steps.proofs.Keys.{least-place}
 use Rattle.steps.proofs.Nodes.{node-leaf, node_in, kept-none, kept_next, Climbing, climb-start, climb_in, other_in, climb-next, climb-end, root_least, root_in, path-start}
 use Rattle.steps.proofs.Packs.{length-lows, length-highs, lows-plain}
-use Rattle.steps.proofs.Stepping.{found_in, found-may, found-step, step-ready, Going, going, going_again, going_done}
+use Rattle.steps.proofs.Stepping.{found_in, found-may, found-step, step-ready, stepped-more, round-ready}
 
 place_of : (p k : ℕ) (x : Entry) → x ≡ record { place = p; key = k } → x.place ≡ p
 place_of p k x e = ap (λ (y : Entry). y.place) e
@@ -173,11 +173,11 @@ module _ (up : Bool) (rho : Float) (ss : States) (w : List ℕ) (r : Ready ss (l
       root-small = let h : moved up (get_or (lows w) p 0) ≤ most_frames = moved-small up (lows w) p (least ss) r.small room in let e : m ≡ moved up (get_or (lows w) p 0) = s ∙ ap (moved up) q in omega arith
 
       module _ (w' : List ℕ) (t : PutsDuration w p m w') where
-        stepped : lows w' ≡ step up rho ss (lows w)
-        stepped = t.durations ∙ found-step up rho ss (lows w) r p root_is m (s ∙ ap (moved up) q)
+        root-steps : lows w' ≡ step up rho ss (lows w)
+        root-steps = t.durations ∙ found-step up rho ss (lows w) r p root_is m (s ∙ ap (moved up) q)
 
         pub root-ready : Ready ss (lows w')
-        root-ready = subst (Ready ss) (sym stepped) (step-ready rho ss up (lows w) r room)
+        root-ready = subst (Ready ss) (sym root-steps) (step-ready rho ss up (lows w) r room)
 
         others : (j : ℕ) → (j ≡ p → ⊥) → scores (key_at up rho ss (lows w')) j ≡ scores (key_at up rho ss (lows w)) j
         unfolding key_at
@@ -189,36 +189,22 @@ module _ (up : Bool) (rho : Float) (ss : States) (w : List ℕ) (r : Ready ss (l
             rw t.tree (subst (λ (i : ℕ). Path (scores (key_at up rho ss (lows w'))) (highs w) ((i + p) / 2)) n (path-start (scores (key_at up rho ss (lows w))) (highs w) k (scores (key_at up rho ss (lows w'))) p others))
 
         pub root-stepped : (w'' : List ℕ) → Plays up rho ss w' w'' → Stepped up rho ss w w''
-        root-stepped w'' g = record { durations = g.durations ∙ stepped; tree = g.tree }
+        root-stepped w'' g = record { durations = g.durations ∙ root-steps; tree = g.tree }
 
--- ---- the loop of steps, from a tree that is played
+-- ---- so many steps, from a tree that is played over durations alone
 
-module _ (rho : Float) (ss : States) (t : ℕ) (start : List ℕ) where
-  pub record Tended (up : Bool) (w : List ℕ) (sum changes : ℕ) : Type 0 where
-    pub way : Going rho ss t (lows start) up (lows w) sum changes
+module _ (up : Bool) (rho : Float) (ss : States) (plain : List ℕ) where
+  pub record Tended (w : List ℕ) (k : ℕ) : Type 0 where
+    pub durations : lows w ≡ stepped up rho ss plain k
     pub tree : Standing up rho ss w
-    pub long : length w ≡ length start
 
-  -- the list before it was played has durations alone
-  module _ (up : Bool) (plain : List ℕ) (r : Ready ss plain) (g : Plays up rho ss plain start) where
-    same_start : lows start ≡ plain
-    same_start = g.durations ∙ lows-plain plain r.small
+  pub tended : (w : List ℕ) → Ready ss plain → Plays up rho ss plain w → Tended w 0
+  unfolding stepped
+  tended w r g = record { durations = g.durations ∙ lows-plain plain r.small; tree = g.tree }
 
-    pub tended : (sum : ℕ) → up ≡ ltb sum t → Aim ss plain sum t → Tended up start sum 0
-    tended sum e a =
-        record {
-          way = rw e (going rho ss t (lows start) sum (subst (Ready ss) (sym same_start) r) (subst (λ (ds : List ℕ). Aim ss ds sum t) (sym same_start) a));
-          tree = g.tree;
-          long = refl;
-        }
+  -- another may be taken
+  pub tended-asks : (w : List ℕ) (n k : ℕ) → Ready ss plain → RoomForAll up (least ss) (total plain) n → k < n → Tended w k → Ready ss (lows w) × RoomFor up (least ss) (total (lows w))
+  tended-asks w n k r h l g = rw g.durations (round-ready up rho ss plain r n k h l)
 
-    pub tended-done : (w w' : List ℕ) (sum changes : ℕ) → sum ≡ t → Tended up w sum changes → w' ≡ lows w → settle most_frames rho ss t plain ≡ record { durations = w'; changes = changes }
-    tended-done w w' sum changes d h e = rw (e, ← same_start) (going_done rho ss t (lows start) up (lows w) sum changes d h.way)
-
-  pub tended-next : (up : Bool) (w w' : List ℕ) (sum sum' changes : ℕ) → (sum ≡ t → ⊥) → Tended up w sum changes → length w' ≡ length w → Stepped up rho ss w w' → sum' ≡ moved up sum → Tended up w' sum' (changes + 1)
-  tended-next up w w' sum sum' changes d h l s e =
-      record {
-        way = going_again rho ss t (lows start) (lows w) sum changes d up (lows w') sum' h.way s.durations e;
-        tree = s.tree;
-        long = l ∙ h.long;
-      }
+  pub tended-next : (w w' : List ℕ) (k : ℕ) → Tended w k → Stepped up rho ss w w' → Tended w' (k + 1)
+  tended-next w w' k g s = record { durations = s.durations ∙ ap (step up rho ss) g.durations ∙ stepped-more up rho ss plain k; tree = s.tree }

@@ -1,8 +1,9 @@
--- Steps: what one does to the total, and a loop of them.
+-- Steps: what one does to the total, and so many of them.
 use mathlib.Core.Path.{◌≡◌, refl, sym, ap, ◌∙◌}
 use mathlib.Core.Bool.{Bool, true, false}
 use mathlib.Core.List.{List}
 use Prim.Native.Nat.{ℕ, zero, suc, ◌+◌, ◌-◌, ◌≤◌, ◌<◌, zero-le}
+use native.Mathlib.Numerals.{add-one}
 use native.Mathlib.Omega.{arith}
 use lib.Dec.{ltb, eqb}
 use lib.ListN.{length, get_or, set, length-set}
@@ -11,8 +12,9 @@ use borrow.Author.Tests.{ltb-true, ltb-false, lt-ltb, le-ltb, eqb-true, eqb-fals
 use Rattle.lists.specs.Sizes.{most_frames}
 use Rattle.lists.specs.Totals.{total, gap}
 use Rattle.lists.proofs.Sums.{get_or-le-total, total-set}
-use Rattle.steps.specs.Steps.{States, size, least, moved, keys, least_of, step, Outcome, unchanged, once_more, settle}
+use Rattle.steps.specs.Steps.{States, size, least, moved, keys, least_of, step, unchanged, once_more, settle}
 use Rattle.steps.specs.Inner.Asked.{Ready, RoomFor, MayMove, Aim}
+use Rattle.steps.specs.Inner.Rounds.{RoomForAll, stepped}
 use Rattle.steps.proofs.Keys.{place_in, place-long}
 
 -- ---- one step
@@ -80,100 +82,120 @@ module _ (rho : Float) (ss : States) (t : ℕ) where
       ])
       refl
 
--- ---- the loop: changes so far, and what is left of the rule
+-- ---- so many steps
 
-abbrev after : ℕ → Outcome → Outcome
-after c o = record { durations = o.durations; changes = c + o.changes }
+-- how a total goes to its end by k steps up (true) or down (false)
+abbrev pub Counted : Bool → ℕ → ℕ → ℕ → Type 0
+Counted true sum k end = end ≡ sum + k
+Counted false sum k end = end + k ≡ sum
 
--- not past the target, on the way up (true) or down (false)
-abbrev Toward : Bool → ℕ → ℕ → Type 0
-Toward true sum t = sum ≤ t
-Toward false sum t = t ≤ sum
+module _ (up : Bool) (rho : Float) (ss : States) (ds : List ℕ) where
+  -- one more
+  pub stepped-more : (k : ℕ) → step up rho ss (stepped up rho ss ds k) ≡ stepped up rho ss ds (k + 1)
+  unfolding stepped
+  stepped-more k = rw add-one refl
 
-toward : (sum t : ℕ) → Toward (ltb sum t) sum t
-toward sum t =
-    (elim (ltb sum t) as (λ up. ltb sum t ≡ up → Toward up sum t) [
-      | true ↦ λ e. (let h : sum < t = ltb-true sum t e in omega arith)
-      | false ↦ λ e. ltb-false sum t e
-    ])
-    refl
+  pub stepped_all : (j k : ℕ) → j ≡ k → stepped up rho ss ds j ≡ stepped up rho ss ds k
+  stepped_all j k e = ap (stepped up rho ss ds) e
 
-module _ (rho : Float) (ss : States) (t : ℕ) (start : List ℕ) where
-  pub record Going (up : Bool) (ds : List ℕ) (sum changes : ℕ) : Type 0 where
-    pub ready : Ready ss ds
-    pub aim : Aim ss ds sum t
-    pub way : Toward up sum t
-    pub enough : changes + gap sum t ≤ most_frames
-    pub rest : after changes (settle (most_frames - changes) rho ss t ds) ≡ settle most_frames rho ss t start
-    pub long : length ds ≡ length start
+  -- the first goes before the rest
+  stepped-first : (k : ℕ) → stepped up rho ss (step up rho ss ds) k ≡ stepped up rho ss ds (suc k)
+  unfolding stepped
+  stepped-first zero = refl
+  stepped-first (suc k) = ap (step up rho ss) (stepped-first k)
 
-  pub going : (sum : ℕ) → Ready ss start → Aim ss start sum t → Going (ltb sum t) start sum 0
-  going sum r a =
-      record {
-        ready = r;
-        aim = a;
-        way = toward sum t;
-        enough = omega (arith, r.small, a.known, a.within);
-        rest = ap (λ (n : ℕ). record { durations = (settle most_frames rho ss t start).durations; changes = n }) (let z : 0 + (settle most_frames rho ss t start).changes ≡ (settle most_frames rho ss t start).changes = omega arith in z);
-        long = refl;
-      }
+  pub record Rounds (k : ℕ) : Type 0 where
+    pub ready : Ready ss (stepped up rho ss ds k)
+    pub sum : Counted up (total ds) k (total (stepped up rho ss ds k))
 
-  module _ (ds : List ℕ) (sum changes : ℕ) (d : sum ≡ t → ⊥) where
-    pub going-room : (up : Bool) → Going up ds sum changes → RoomFor up (least ss) (total ds)
-    going-room true g = omega (arith, g.way, g.aim.known, g.aim.within)
-    going-room false g = omega (arith, g.way, g.aim.known, g.aim.above)
+  room_next : (n k : ℕ) → RoomForAll up (least ss) (total ds) n → k < n → Rounds k → RoomFor up (least ss) (total (stepped up rho ss ds k))
+  room_next n k h l g =
+      (elim up as (λ u. RoomForAll u (least ss) (total ds) n → Counted u (total ds) k (total (stepped up rho ss ds k)) → RoomFor u (least ss) (total (stepped up rho ss ds k))) [
+        | true ↦ λ a b. omega arith
+        | false ↦ λ a b. omega arith
+      ])
+      h g.sum
 
-    pub going-may : (up : Bool) → Going up ds sum changes → MayMove up sum
-    going-may true g = omega (arith, g.way, g.aim.within)
-    going-may false g = omega (arith, g.way)
+pub rounds : (up : Bool) (rho : Float) (ss : States) (ds : List ℕ) → Ready ss ds → (n k : ℕ) → RoomForAll up (least ss) (total ds) n → k ≤ n → Rounds up rho ss ds k
+unfolding stepped
+rounds true rho ss ds r n zero h l = record { ready = r; sum = omega arith }
+rounds false rho ss ds r n zero h l = record { ready = r; sum = omega arith }
+rounds true rho ss ds r n (suc k) h l =
+    let g = rounds true rho ss ds r n k h (omega arith) in
+    let es : List ℕ = stepped true rho ss ds k in
+    record {
+      ready = step-ready rho ss true es g.ready (room_next true rho ss ds n k h (omega arith) g);
+      sum = omega (arith, g.sum, total-up rho ss r.some es g.ready.work);
+    }
+rounds false rho ss ds r n (suc k) h l =
+    let g = rounds false rho ss ds r n k h (omega arith) in
+    let es : List ℕ = stepped false rho ss ds k in
+    let room : RoomFor false (least ss) (total es) = room_next false rho ss ds n k h (omega arith) g in
+    record {
+      ready = step-ready rho ss false es g.ready room;
+      sum = omega (arith, g.sum, total-down rho ss r.some es g.ready.work r.shortest room);
+    }
 
-    pub going-few : (up : Bool) → Going up ds sum changes → changes < most_frames
-    going-few true g = omega (arith, g.enough, g.way)
-    going-few false g = omega (arith, g.enough, g.way)
+-- the durations are ready for each of them
+pub round-ready : (up : Bool) (rho : Float) (ss : States) (ds : List ℕ) → Ready ss ds → (n k : ℕ) → RoomForAll up (least ss) (total ds) n → k < n → Ready ss (stepped up rho ss ds k) × RoomFor up (least ss) (total (stepped up rho ss ds k))
+round-ready up rho ss ds r n k h l = let g : Rounds up rho ss ds k = rounds up rho ss ds r n k h (omega arith) in (g.ready, room_next up rho ss ds n k h l g)
 
-    turned : (up : Bool) → ltb sum t ≡ up → Going up ds sum changes → changes < most_frames → after (changes + 1) (settle (most_frames - (changes + 1)) rho ss t (step up rho ss ds)) ≡ settle most_frames rho ss t start
-    turned up e g f =
-        let k : ℕ = most_frames - (changes + 1) in
-        let o : Outcome = settle k rho ss t (step up rho ss ds) in
-        let n : most_frames - changes ≡ suc k = omega arith in
-        let c : changes + 1 + o.changes ≡ changes + suc o.changes = omega arith in
-        ap (λ (m : ℕ). record { durations = o.durations; changes = m }) c
-        ∙ ap (after changes) (sym (ap (λ (m : ℕ). settle m rho ss t ds) n ∙ settle-turn rho ss t k ds up (λ q. d (g.aim.known ∙ q)) (ap (λ (m : ℕ). ltb m t) (sym g.aim.known) ∙ e)))
-        ∙ g.rest
+-- ---- the rule takes as many as the total is away from the target
 
-    pub going_next : (up : Bool) → Going up ds sum changes → Going up (step up rho ss ds) (moved up sum) (changes + 1)
-    going_next true g =
-        let u : total (step true rho ss ds) ≡ total ds + 1 = total-up rho ss g.ready.some ds g.ready.work in
-        let l : sum < t = omega (arith, g.way) in
-        record {
-          ready = step-ready rho ss true ds g.ready (going-room true g);
-          aim = record { known = omega (arith, g.aim.known); above = g.aim.above; within = g.aim.within };
-          way = omega arith;
-          enough = omega (arith, g.enough);
-          rest = turned true (lt-ltb sum t l) g (going-few true g);
-          long = length-step rho ss true ds ∙ g.long;
-        }
-    going_next false g =
-        let l : t < sum = omega (arith, g.way) in
-        let u : total (step false rho ss ds) + 1 ≡ total ds = total-down rho ss g.ready.some ds g.ready.work g.ready.shortest (omega (arith, g.aim.known, g.aim.above)) in
-        record {
-          ready = step-ready rho ss false ds g.ready (going-room false g);
-          aim = record { known = omega (arith, g.aim.known); above = g.aim.above; within = g.aim.within };
-          way = omega arith;
-          enough = omega (arith, g.enough);
-          rest = turned false (le-ltb sum t (omega arith)) g (going-few false g);
-          long = length-step rho ss false ds ∙ g.long;
-        }
+module _ (rho : Float) (ss : States) (t : ℕ) where
+  way_is : (up : Bool) (sum k : ℕ) → Counted up sum (suc k) t → ltb sum t ≡ up
+  way_is true sum k c = lt-ltb sum t (omega arith)
+  way_is false sum k c = le-ltb sum t (omega arith)
 
-    -- the same of the work space and the total as a turn leaves them
-    pub going_again : (up : Bool) (ds' : List ℕ) (sum' : ℕ) → Going up ds sum changes → ds' ≡ step up rho ss ds → sum' ≡ moved up sum → Going up ds' sum' (changes + 1)
-    going_again up ds' sum' g e f = rw (e, f) (going_next up g)
+  apart : (up : Bool) (sum k : ℕ) → Counted up sum (suc k) t → sum ≡ t → ⊥
+  apart true sum k c e = omega arith
+  apart false sum k c e = omega arith
 
-    pub going_less : (up : Bool) (sum' : ℕ) → Going up ds sum changes → sum' ≡ moved up sum → gap sum' t < gap sum t
-    going_less true sum' g f = omega (arith, g.way)
-    going_less false sum' g f = omega (arith, g.way)
+  first_room : (up : Bool) (sum k : ℕ) → RoomForAll up (least ss) sum (suc k) → RoomFor up (least ss) sum
+  first_room true sum k h = omega arith
+  first_room false sum k h = omega arith
 
-  pub going_done : (up : Bool) (ds : List ℕ) (sum changes : ℕ) → sum ≡ t → Going up ds sum changes → settle most_frames rho ss t start ≡ record { durations = ds; changes = changes }
-  going_done up ds sum changes d g =
-      sym g.rest ∙ ap (after changes) (settle-there rho ss t (most_frames - changes) ds (sym g.aim.known ∙ d))
-      ∙ ap (λ (m : ℕ). record { durations = ds; changes = m }) (let z : changes + 0 ≡ changes = omega arith in z)
+  record Left (up : Bool) (ds : List ℕ) (k : ℕ) : Type 0 where
+    ready : Ready ss ds
+    room : RoomForAll up (least ss) (total ds) k
+    count : Counted up (total ds) k t
+
+  left-next : (up : Bool) (ds : List ℕ) (k : ℕ) → Left up ds (suc k) → Left up (step up rho ss ds) k
+  left-next true ds k g =
+      let u = total-up rho ss g.ready.some ds g.ready.work in
+      record { ready = step-ready rho ss true ds g.ready (first_room true (total ds) k g.room); room = omega (arith, u, g.room); count = omega (arith, u, g.count) }
+  left-next false ds k g =
+      let room : RoomFor false (least ss) (total ds) = first_room false (total ds) k g.room in
+      let d = total-down rho ss g.ready.some ds g.ready.work g.ready.shortest room in
+      record { ready = step-ready rho ss false ds g.ready room; room = omega (arith, d, g.room); count = omega (arith, d, g.count) }
+
+  there-already : (up : Bool) (ds : List ℕ) → Left up ds 0 → total ds ≡ t
+  there-already true ds g = omega (arith, g.count)
+  there-already false ds g = omega (arith, g.count)
+
+  settle_stepped : (up : Bool) (most k : ℕ) (ds : List ℕ) → k ≤ most → Left up ds k → settle most rho ss t ds ≡ record { durations = stepped up rho ss ds k; changes = k }
+  unfolding stepped
+  settle_stepped up most zero ds l g = settle-there rho ss t most ds (there-already up ds g)
+  settle_stepped up zero (suc k) ds l g = absurd (omega arith)
+  settle_stepped up (suc m) (suc k) ds l g =
+      settle-turn rho ss t m ds up (apart up (total ds) k g.count) (way_is up (total ds) k g.count)
+      ∙ ap once_more (settle_stepped up m k (step up rho ss ds) (omega arith) (left-next up ds k g))
+      ∙ ap (λ (es : List ℕ). record { durations = es; changes = suc k }) (stepped-first up rho ss ds k)
+
+  module _ (sum : ℕ) (ds : List ℕ) (r : Ready ss ds) (a : Aim ss ds sum t) where
+    aimed-at : RoomForAll (ltb sum t) (least ss) (total ds) (gap sum t) × Counted (ltb sum t) (total ds) (gap sum t) t
+    aimed-at =
+        (elim (ltb sum t) as (λ up. ltb sum t ≡ up → RoomForAll up (least ss) (total ds) (gap sum t) × Counted up (total ds) (gap sum t) t) [
+          | true ↦ λ e. let h : sum < t = ltb-true sum t e in (omega (arith, a.known, a.within), omega (arith, a.known))
+          | false ↦ λ e. let h : t ≤ sum = ltb-false sum t e in (omega (arith, a.known, a.above), omega (arith, a.known))
+        ])
+        refl
+
+    -- there is room for them
+    pub settle-room : (k : ℕ) → k ≡ gap sum t → RoomForAll (ltb sum t) (least ss) (total ds) k
+    settle-room k q = rw q aimed-at.0
+
+    pub settle-steps : (k : ℕ) (es : List ℕ) → k ≡ gap sum t → es ≡ stepped (ltb sum t) rho ss ds k → settle most_frames rho ss t ds ≡ record { durations = es; changes = k }
+    settle-steps k es q e =
+        settle_stepped (ltb sum t) most_frames k ds (omega (arith, r.small, a.known, a.within, q)) (record { ready = r; room = rw q aimed-at.0; count = rw q aimed-at.1 })
+        ∙ ap (λ (xs : List ℕ). record { durations = xs; changes = k }) (sym e)

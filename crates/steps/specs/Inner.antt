@@ -3,3 +3,4 @@ pub mod Scores
 pub mod Tree
 pub mod Pack
 pub mod Asked
+pub mod Rounds

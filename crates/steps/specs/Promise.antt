@@ -1,9 +1,7 @@
 -- What the call promises.
-use Rattle.std.specs.Prelude.{◌≡◌, Bool, cond, ◌&&◌, List, ℕ, ltb, leb, eqb, length, Float}
+use Rattle.std.specs.Prelude.{◌≡◌, Bool, cond, ◌&&◌, List, Option, None, Some, ℕ, ltb, leb, eqb, length, Float}
 use Rattle.lists.specs.Sizes.{most_states, most_frames}
 use Rattle.lists.specs.Totals.{total}
-use Rattle.steps.specs.declared.Settled.{Settled}
-use Rattle.steps.specs.declared.Settled.TheVariants.{Done, Over}
 use Rattle.steps.specs.Steps.{States, size, least, settle}
 
 -- 1 to 4,096 states, of which v have a variance, l a shortest and d a duration
@@ -22,8 +20,8 @@ opens ss ds t = fit_together (size ss) (length ss.varis) (length ss.shortest) (l
 abbrev pub too_long : List ℕ → Bool
 too_long ds = ltb most_frames (total ds)
 
--- `settle`: the steps that the rule takes, and where it ends; with a start that is too long, or where the lists don't fit, no step is taken. The rule starts
+-- `settle`: the steps that the rule takes, and where it ends; with a start that is too long it has none, and where the lists don't fit no step is taken. The rule starts
 -- and ends within 65,536 frames, so it takes no more steps.
-pub record SettleSays (rho : Float) (t : ℕ) (ss : States) (ds : List ℕ) (r : Settled) (ds' : List ℕ) : Type 0 where
-  pub answer : r ≡ cond (opens ss ds t) (cond (too_long ds) Over (Done (settle most_frames rho ss t ds).changes)) (Done 0)
+pub record SettleSays (rho : Float) (t : ℕ) (ss : States) (ds : List ℕ) (r : Option ℕ) (ds' : List ℕ) : Type 0 where
+  pub answer : r ≡ cond (opens ss ds t) (cond (too_long ds) None (Some (settle most_frames rho ss t ds).changes)) (Some 0)
   pub durations : ds' ≡ cond (opens ss ds t) (cond (too_long ds) ds (settle most_frames rho ss t ds).durations) ds

@@ -1,23 +1,27 @@
 // The step rule: one frame at a time, to the state of least cost, until the states' total is the target.
 #![tactic(auto)]
 
-ghost use Rattle.std.specs.Prelude.{◌≡◌, ◌≤◌, ◌<◌, length};
+ghost use Rattle.std.specs.Prelude.{◌≡◌, ◌≤◌, ◌<◌, length, MatchOption};
 ghost use Rattle.lists.specs.Sizes.{most_frames, most_states};
-ghost use Rattle.lists.specs.Totals.{total, gap};
+ghost use Rattle.lists.specs.Totals.{total};
 ghost use Rattle.steps.specs.Steps.{states, moved, settle};
+ghost use Rattle.steps.specs.Lent.{lent};
 ghost use Rattle.steps.specs.Promise.{fit_together, in_reach, SettleSays};
-ghost use Rattle.steps.specs.Inner.Asked.{Ready, MayMove, Aim, Lone};
+ghost use Rattle.steps.specs.Inner.Asked.{Ready, MayMove, Aim, FoundLone};
+
+use costs::Way;
 
 mod costs;
 mod pack;
 mod scan;
 mod tree;
 
-// How many steps were taken, or that there were more than 65,536 frames to start from.
+// States as they are lent: a list of each.
 #[derive(Clone, Copy)]
-pub enum Settled {
-    Done(u32),
-    Over,
+pub struct States<'a> {
+    pub means: &'a [f64],
+    pub varis: &'a [f64],
+    pub shortest: &'a [u32],
 }
 
 fn moved_one(up: bool, d: u32) -> u32
@@ -30,30 +34,18 @@ fn moved_one(up: bool, d: u32) -> u32
     d - 1
 }
 
-fn distance(a: u32, b: u32) -> u32
-    ensures { result ≡ gap a b }
-{
-    if a < b {
-        return b - a;
-    }
-    a - b
-}
-
-// The only state above its shortest, or the number of states where there is none or more than one.
-fn lone(shortest: &[u32], work: &[u32]) -> usize
+// The only state above its shortest; none where there is no such state, or more than one.
+fn lone(shortest: &[u32], work: &[u32]) -> Option<usize>
     requires { length shortest.now ≡ length work.now }
-    ensures { result < length work.now → Lone shortest.now work.now result }
+    ensures { FoundLone shortest.now work.now result }
 {
-    let mut place = work.len();
-    let mut i = 0;
-    while i < work.len() {
-        let here = i;
-        i += 1;
-        if work[here] > shortest[here] {
-            if place < work.len() {
-                return work.len();
+    let mut place = None;
+    for i in 0..work.len() {
+        if work[i] > shortest[i] {
+            if place.is_some() {
+                return None;
             }
-            place = here;
+            place = Some(i);
         }
     }
     place
@@ -71,31 +63,29 @@ fn is_short(steps: u32, states: usize) -> bool {
 }
 
 // Steps until the total is the target, and how many.
-fn settle_from(
-    sum: u32,
-    target: u32,
-    rho: f64,
-    means: &[f64],
-    varis: &[f64],
-    shortest: &[u32],
-    work: &mut [u32],
-) -> u32
-    requires ready { Ready (states means.now varis.now shortest.now) work.old }
-    requires aim { Aim (states means.now varis.now shortest.now) work.old sum target }
-    ensures { settle most_frames rho (states means.now varis.now shortest.now) target work.old ≡ record { durations = work.new; changes = result } }
+fn settle_from(sum: u32, target: u32, rho: f64, states: States, work: &mut [u32]) -> u32
+    requires ready { Ready (lent states) work.old }
+    requires aim { Aim (lent states) work.old sum target }
+    ensures { settle most_frames rho (lent states.entry) target work.old ≡ record { durations = work.new; changes = result } }
 {
-    let steps = distance(sum, target);
+    let steps = sum.abs_diff(target);
     if sum > target {
-        let p = lone(shortest, work);
-        if p < work.len() {
+        if let Some(p) = lone(states.shortest, work) {
             work[p] -= steps;
             return steps;
         }
     }
-    if is_short(steps, means.len()) {
-        return scan::settle(sum, target, rho, means, varis, shortest, work);
+    let way = Way {
+        up: sum < target,
+        rho,
+        states,
+    };
+    if is_short(steps, work.len()) {
+        scan::take_steps(way, steps, work);
+        return steps;
     }
-    tree::settle(sum, target, rho, means, varis, shortest, work)
+    tree::take_steps(way, steps, work);
+    steps
 }
 
 // Whether the lists fit together: all but the first are lengths too.
@@ -125,11 +115,9 @@ fn totals_of(shortest: &[u32], work: &[u32]) -> Totals
 {
     let mut least = 0;
     let mut sum = 0;
-    let mut i = 0;
-    while i < work.len() {
-        least += shortest[i] as u64;
-        sum += work[i] as u64;
-        i += 1;
+    for i in 0..work.len() {
+        least += u64::from(shortest[i]);
+        sum += u64::from(work[i]);
     }
     Totals {
         shortest: least,
@@ -137,7 +125,7 @@ fn totals_of(shortest: &[u32], work: &[u32]) -> Totals
     }
 }
 
-// Steps until the states' total is the target, and how many; none from more than 65,536 frames, and none where the lists and the target don't fit.
+// Steps until the states' total is the target, and how many: `None` from more than 65,536 frames. No step is taken where the lists and the target don't fit.
 pub fn settle(
     rho: f64,
     target: u32,
@@ -145,26 +133,23 @@ pub fn settle(
     varis: &[f64],
     shortest: &[u32],
     work: &mut [u32],
-) -> Settled
+) -> Option<u32>
     ensures { SettleSays rho target (states means.now varis.now shortest.now) work.old result work.new }
 {
     if !fit_together(means.len(), varis.len(), shortest.len(), work.len()) {
-        return Settled::Done(0);
+        return Some(0);
     }
     let totals = totals_of(shortest, work);
     if !in_reach(totals.shortest, target) {
-        return Settled::Done(0);
+        return Some(0);
     }
     if totals.work > 65_536 {
-        return Settled::Over;
+        return None;
     }
-    Settled::Done(settle_from(
-        totals.work as u32,
-        target,
-        rho,
+    let states = States {
         means,
         varis,
         shortest,
-        work,
-    ))
+    };
+    Some(settle_from(totals.work as u32, target, rho, states, work))
 }

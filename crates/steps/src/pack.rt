@@ -40,9 +40,7 @@ pub(crate) fn put_place(work: &mut [u32], i: usize, p: usize)
 pub(crate) fn unpack(work: &mut [u32])
     ensures { work.new ≡ lows work.old }
 {
-    let mut i = 0;
-    while i < work.len() {
-        work[i] = work[i] % 131_072;
-        i += 1;
+    for x in work.iter_mut() {
+        *x = *x % 131_072;
     }
 }

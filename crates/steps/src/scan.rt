@@ -1,85 +1,52 @@
 // The step rule by scans of all states: the way for few steps or few states.
-ghost use Rattle.std.specs.Prelude.{◌≡◌, ◌<◌, length};
-ghost use Rattle.lists.specs.Sizes.{most_frames};
+ghost use Rattle.std.specs.Prelude.{◌≡◌, ◌<◌};
 ghost use Rattle.lists.specs.Totals.{total};
-ghost use Rattle.steps.specs.Steps.{states, keys, least_of, step, settle};
+ghost use Rattle.steps.specs.Steps.{size, least, keys, least_of, step};
+ghost use Rattle.steps.specs.Lent.{lent};
 ghost use Rattle.steps.specs.Inner.Scores.{key_at, keyed};
-ghost use Rattle.steps.specs.Inner.Asked.{Ready, RoomFor, Aim};
+ghost use Rattle.steps.specs.Inner.Asked.{Ready, RoomFor};
+ghost use Rattle.steps.specs.Inner.Rounds.{RoomForAll, stepped};
 
-use crate::costs::Entry;
+use crate::costs::{Entry, Way, better_of};
 
 // The state at a place, with its key.
-fn entry_of(
-    up: bool,
-    rho: f64,
-    means: &[f64],
-    varis: &[f64],
-    shortest: &[u32],
-    work: &[u32],
-    p: usize,
-) -> Entry
-    requires ready { Ready (states means.now varis.now shortest.now) work.now }
-    requires p_in_bounds { p < length means.now }
-    ensures { result ≡ keyed (key_at up rho (states means.now varis.now shortest.now) work.now) p }
+fn entry_of(way: Way, work: &[u32], p: usize) -> Entry
+    requires ready { Ready (lent way.states) work.now }
+    requires p_in_bounds { p < size (lent way.states) }
+    ensures { result ≡ keyed (key_at way.entry.up way.entry.rho (lent way.entry.states) work.now) p }
 {
-    Entry {
-        place: p,
-        key: crate::costs::key_of(up, rho, means[p], varis[p], shortest[p], work[p]),
-    }
+    way.entry(p, work[p])
 }
 
 // The place of the state that a step changes.
-fn least_of(
-    up: bool,
-    rho: f64,
-    means: &[f64],
-    varis: &[f64],
-    shortest: &[u32],
-    work: &[u32],
-) -> usize
-    requires { Ready (states means.now varis.now shortest.now) work.now }
-    ensures { result ≡ least_of (keys up rho (states means.now varis.now shortest.now) work.now) }
+fn least_of(way: Way, work: &[u32]) -> usize
+    requires { Ready (lent way.states) work.now }
+    ensures { result ≡ least_of (keys way.entry.up way.entry.rho (lent way.entry.states) work.now) }
 {
-    let mut best = entry_of(up, rho, means, varis, shortest, work, 0);
-    let mut i = 1;
-    while i < means.len() {
-        let next = entry_of(up, rho, means, varis, shortest, work, i);
-        best = crate::costs::better_of(best, next);
-        i += 1;
+    let mut best = entry_of(way, work, 0);
+    for i in 1..work.len() {
+        let next = entry_of(way, work, i);
+        best = better_of(best, next);
     }
     best.place
 }
 
-fn step_once(up: bool, rho: f64, means: &[f64], varis: &[f64], shortest: &[u32], work: &mut [u32])
-    requires ready { Ready (states means.now varis.now shortest.now) work.old }
-    requires room_for { RoomFor up (total shortest.now) (total work.old) }
-    ensures { work.new ≡ step up rho (states means.now varis.now shortest.now) work.old }
+fn step_once(way: Way, work: &mut [u32])
+    requires ready { Ready (lent way.states) work.old }
+    requires room_for { RoomFor way.up (least (lent way.states)) (total work.old) }
+    ensures { work.new ≡ step way.entry.up way.entry.rho (lent way.entry.states) work.old }
 {
-    let i = least_of(up, rho, means, varis, shortest, work);
-    work[i] = crate::moved_one(up, work[i]);
+    let i = least_of(way, work);
+    work[i] = crate::moved_one(way.up, work[i]);
 }
 
-// Steps until the total is the target, and how many.
-pub(crate) fn settle(
-    sum: u32,
-    target: u32,
-    rho: f64,
-    means: &[f64],
-    varis: &[f64],
-    shortest: &[u32],
-    work: &mut [u32],
-) -> u32
-    requires ready { Ready (states means.now varis.now shortest.now) work.old }
-    requires aim { Aim (states means.now varis.now shortest.now) work.old sum target }
-    ensures { settle most_frames rho (states means.now varis.now shortest.now) target work.old ≡ record { durations = work.new; changes = result } }
+// Takes so many steps.
+pub(crate) fn take_steps(way: Way, steps: u32, work: &mut [u32])
+    requires ready { Ready (lent way.states) work.old }
+    requires room { RoomForAll way.up (least (lent way.states)) (total work.old) steps }
+    ensures { work.new ≡ stepped way.entry.up way.entry.rho (lent way.entry.states) work.old steps }
 {
-    let up = sum < target;
-    let mut now_at = sum;
-    let mut changes = 0;
-    while now_at != target {
-        step_once(up, rho, means, varis, shortest, work);
-        now_at = crate::moved_one(up, now_at);
-        changes += 1;
+    for _ in 0..steps {
+        step_once(way, work);
     }
-    changes
 }

@@ -1,12 +1,11 @@
 // Prints the settings file that its argument names, or standard input, as a table.
 #![tactic(auto)]
 
-ghost use Rattle.std.specs.Prelude.{◌<◌, ◌≤◌, ◌≡◌, length};
+ghost use Rattle.std.specs.Prelude.{◌<◌, ◌≤◌, ◌≡◌, length, IfSome};
 ghost use Rattle.voices.specs.Scales.{most_scale};
 ghost use Rattle.voices.specs.Reading.{file_room};
 
-use files::{Input, WORD};
-use settings::Got;
+use files::WORD;
 use std::io;
 use std::io::{Print, Read, Write};
 
@@ -15,11 +14,6 @@ const ROOM: usize = 1_703_918;
 
 // The scale of 15 decimals, and one more than the largest number of 15 digits.
 const MOST: u64 = 1_000_000_000_000_000;
-
-// Each print answers whether all of it could be written.
-fn print(to: &impl Print, text: &[u8]) -> io::Result<()> {
-    to.write_all(text)
-}
 
 // The whole number nearest to a float of these bits, a half upward; 0 from 2 ^ 53 on, which no decimals of 0 say.
 fn nearest(bits: u64) -> u64 {
@@ -52,18 +46,19 @@ fn is_said(size: f64, scale: u64) -> bool
     n as f64 / float_scale == size
 }
 
-// The scale of as few decimals as say a size: 1 for none, ten times as much for each; 0 where 15 don't say it.
-fn scale_of(size: f64) -> u64
-    ensures { result ≤ most_scale }
+// The scale of as few decimals as say a size, if 15 do: 1 for no decimals, ten times as much for each.
+fn scale_of(size: f64) -> Option<u64>
+    ensures { IfSome result (λ scale. (0 < scale) × (scale ≤ most_scale)) }
 {
     let mut scale = 1;
+    // It tries the next power of ten, and counts no index.
     while scale <= MOST {
         if is_said(size, scale) {
-            return scale;
+            return Some(scale);
         }
         scale *= 10;
     }
-    0
+    None
 }
 
 // The point and the decimals: the digits of scale + rest are a one, which the point replaces, and those of the rest with the zeros in front of them.
@@ -75,7 +70,7 @@ fn print_decimals(to: &impl Print, rest: u64, scale: u64) -> io::Result<()>
     write!(&mut text[..], "{digits}")?;
     text[0] = b'.';
     let n = text.iter().position(|byte| *byte == 0).unwrap_or(20);
-    print(to, &text[..n])
+    to.write_all(&text[..n])
 }
 
 fn print_size(to: &impl Print, size: f64, scale: u64) -> io::Result<()>
@@ -92,35 +87,32 @@ fn print_size(to: &impl Print, size: f64, scale: u64) -> io::Result<()>
 // A setting with as few decimals as say it, or by its bits.
 fn print_setting(to: &impl Print, bits: u64) -> io::Result<()> {
     let size = floats::magnitude(floats::of_bits(bits));
-    let scale = scale_of(size);
-    if scale == 0 {
+    let Some(scale) = scale_of(size) else {
         return print!(to; " 0x{bits:016x}");
-    }
+    };
     if bits >> 63 == 1 {
-        print(to, b" -")?;
+        to.write_all(b" -")?;
         return print_size(to, size, scale);
     }
-    print(to, b" ")?;
+    to.write_all(b" ")?;
     print_size(to, size, scale)
 }
 
 // The line of a voice; none where no voice has the number, as that of a free place.
 fn print_voice(to: &impl Print, voices: &[u32], settings: &[u64], voice: u32) -> io::Result<()> {
-    let Got::Held(given) = settings::get(voices, settings, voice) else {
+    let Ok(given) = settings::get(voices, settings, voice) else {
         return Ok(());
     };
     to.print(voice)?;
     print_setting(to, given.speed)?;
     print_setting(to, given.weight)?;
     print_setting(to, given.threshold)?;
-    print(to, b"\n")
+    to.write_all(b"\n")
 }
 
 fn print_voices(to: &impl Print, voices: &[u32], settings: &[u64]) -> io::Result<()> {
-    let mut i = 0;
-    while i < voices.len() {
-        print_voice(to, voices, settings, voices[i])?;
-        i += 1;
+    for voice in voices {
+        print_voice(to, voices, settings, *voice)?;
     }
     Ok(())
 }
@@ -129,11 +121,11 @@ fn print_voices(to: &impl Print, voices: &[u32], settings: &[u64]) -> io::Result
 fn print_table(to: &impl Print, bytes: &[u8]) -> io::Result<()> {
     let mut voices = [0u32; settings::PLACES];
     let mut settings = [0u64; settings::SETTINGS];
-    let refusal = settings::file::read(&mut voices, &mut settings, bytes).number();
-    if refusal != 0 {
-        return println!(to; "refused {refusal}");
+    if let Err(refusal) = settings::file::read(&mut voices, &mut settings, bytes) {
+        let number = refusal.number();
+        return println!(to; "refused {number}");
     }
-    print(to, b"voice speed gv_weight threshold\n")?;
+    to.write_all(b"voice speed gv_weight threshold\n")?;
     print_voices(to, &voices, &settings)
 }
 
@@ -141,11 +133,8 @@ fn fail(rt: &HostRuntime, what: &[u8], error: &io::Error) {
     files::fail(&rt.stderr(), b"voices", what, error);
 }
 
-// Says it where not all could be printed.
 fn end_of_print(rt: &HostRuntime, printed: io::Result<()>) {
-    if let Err(error) = printed {
-        fail(rt, b"standard output", &error);
-    }
+    files::end_of_print(&rt.stderr(), b"voices", printed);
 }
 
 // Room for a file: zeros. The prover would count them where they were made in place.
@@ -159,8 +148,8 @@ fn room() -> [u8; ROOM]
 fn print_from<R: Read>(rt: &HostRuntime, from: &mut R, name: &[u8]) {
     let mut room = room();
     match files::read_all(from, &mut room) {
-        Input::Bytes(n) => end_of_print(rt, print_table(rt, &room[..n])),
-        Input::Failed(error) => fail(rt, name, &error),
+        Ok(n) => end_of_print(rt, print_table(rt, &room[..n])),
+        Err(error) => fail(rt, name, &error),
     }
 }
 
@@ -176,8 +165,7 @@ fn print_file(rt: &HostRuntime, path: &[u8]) {
 }
 
 fn print_help(rt: &HostRuntime) {
-    let printed = print(
-        rt,
+    let printed = rt.write_all(
         b"usage: voices [FILE]\n\nPrints a settings file, or standard input where FILE is - or is not given, as a table: a line of\nnames, then a line for each voice with its number, speed, GV weight and voicing threshold. A\nsetting has as few decimals as say it, or is written by its 64 bits, such as\n0x7ff0000000000000, where 15 decimals or 15 digits don't. A file that is refused is one line:\n'refused 16' for another version, 17 for more than 256 voices, 18 for a file that is malformed.\nWhat can't be read or written is said on standard error. The exit status is 0 in any case.\n",
     );
     end_of_print(rt, printed);
@@ -187,17 +175,13 @@ fn print_help(rt: &HostRuntime) {
 fn print_word(rt: &HostRuntime, word: &[u8]) {
     if files::is(word, b"--help") {
         print_help(rt);
-        return;
-    }
-    if files::is(word, b"-") {
+    } else if files::is(word, b"-") {
         print_input(rt);
-        return;
-    }
-    if lists::starts_with(word, b"-") {
+    } else if lists::starts_with(word, b"-") {
         files::refuse_option(&rt.stderr(), b"voices", word);
-        return;
+    } else {
+        print_file(rt, word);
     }
-    print_file(rt, word);
 }
 
 fn main(rt: HostRuntime) {
@@ -214,7 +198,7 @@ fn main(rt: HostRuntime) {
     }
     let mut word = [0u8; WORD];
     match files::word(&rt, 1, &mut word) {
-        Input::Bytes(n) => print_word(&rt, &word[..n]),
-        Input::Failed(error) => fail(&rt, b"FILE", &error),
+        Ok(n) => print_word(&rt, &word[..n]),
+        Err(error) => fail(&rt, b"FILE", &error),
     }
 }

@@ -3,14 +3,16 @@ use mathlib.Core.Path.{◌≡◌, refl, sym, ap, ◌∙◌}
 use mathlib.Core.Bool.{Bool, true, false}
 use mathlib.Core.Logic.{◌≢◌}
 use mathlib.Core.List.{List, [], ◌∷◌, ◌++◌}
-use Prim.Native.Nat.{ℕ, zero, suc, ◌+◌, ◌-◌, ◌*◌, ◌%◌, ◌<◌, ◌≤◌}
+use Prim.Native.Nat.{ℕ, zero, suc, ◌+◌, ◌*◌, ◌%◌, ◌<◌, ◌≤◌}
 use native.Mathlib.Nat.{add-zero, zero-mul, suc-mul, mul-le-mul_right, add-mul, mod-eq_of_lt, add-mul-mod_self_right}
 use native.Mathlib.Numerals.{add-one}
 use native.Mathlib.Omega.{arith}
-use lib.ListN.{length, take, drop, get_or, set, replicate, length-set, length-drop, length-replicate, drop_of_length-le}
-use lib.Seq.{drop-cons, drop-drop, drop-nil, set_comm}
+use lib.ListN.{get_or-replicate, length, take, drop, get_or, set, replicate, length-set, length-drop, length-replicate, drop_of_length-le}
+use lib.Seq.{length-take-le, get_or-take, get_or-drop, drop-cons, drop-drop, drop-nil, set_comm}
+use Rattle.lists.specs.Build.{build}
 use Rattle.lists.specs.Totals.{total}
 use Rattle.lists.specs.Frames.{fill, count}
+use Rattle.lists.proofs.Builds.{build_is}
 use Rattle.lists.proofs.Chosen.{fill_on}
 use Rattle.lists.proofs.Counts.{count-all, count_none}
 use Rattle.lists.proofs.Rows.{row_fits}
@@ -56,17 +58,6 @@ module _ {A : Type 0} where
   pub put-done : (v q j : ℕ) (xs out whole : List A) → length xs ≤ j → sets_by v q (drop j xs) out ≡ whole → out ≡ whole
   unfolding sets_by
   put-done v q j xs out whole h e = rw (drop_of_length-le xs h) at e
-
-  pub spread-start : (v q d : ℕ) (x : A) (out : List A) → sets_by v q (replicate (d - 0) x) out ≡ sets_by v q (replicate d x) out
-  spread-start v q d x out = let z : d - 0 ≡ d = omega arith in rw z
-
-  pub spread-next : (v q j d : ℕ) (x : A) (out whole : List A) → j < d → sets_by v q (replicate (d - j) x) out ≡ whole → sets_by v (q + v) (replicate (d - (j + 1)) x) (set out q x) ≡ whole
-  unfolding sets_by
-  spread-next v q j d x out whole h e = let z : d - j ≡ suc (d - (j + 1)) = omega arith in rw z at e
-
-  pub spread-done : (v q j d : ℕ) (x : A) (out whole : List A) → d ≤ j → sets_by v q (replicate (d - j) x) out ≡ whole → out ≡ whole
-  unfolding sets_by
-  spread-done v q j d x out whole h e = let z : d - j ≡ 0 = omega arith in rw z at e
 
   -- ---- lane after lane
 
@@ -157,18 +148,20 @@ module _ {A : Type 0} where
 
 -- ---- the frames of a state that is voiced, and of one that is not
 
-module _ {A : Type 0} (none : A) (v p lanes size d from : ℕ) (work old : List A) where
+module _ {A : Type 0} (none z : A) (v p lanes size d from : ℕ) (work old : List A) where
   state-on : from + d ≤ size → lanes * size ≤ length work
-      → sets_lanes v p (λ l. take d (drop (from + l * size) work)) lanes old ≡ sets_lanes v p (λ l. fill none (replicate d true) (drop (from + l * size) work)) lanes old
+      → sets_lanes v p (λ l. build (λ j. get_or work (from + l * size + j) z) d) lanes old ≡ sets_lanes v p (λ l. fill none (replicate d true) (drop (from + l * size) work)) lanes old
   state-on h b = lanes_same v p _ _ lanes old
-      (λ l g. let r : d ≤ length (drop (from + l * size) work) = rw length-drop (omega (arith, row_fits size l lanes g)) in sym (fill_on none d (drop (from + l * size) work) r))
+      (λ l g. let r : d ≤ length (drop (from + l * size) work) = rw length-drop (omega (arith, row_fits size l lanes g)) in
+      sym (build_is _ d (take d (drop (from + l * size) work)) z (length-take-le d _ r) (λ j b. get_or-take d (drop (from + l * size) work) j z b ∙ get_or-drop (from + l * size) work j z))
+      ∙ sym (fill_on none d (drop (from + l * size) work) r))
 
-  state-off : sets_lanes v p (λ l. replicate d none) lanes old ≡ sets_lanes v p (λ l. fill none (replicate d false) (drop (from + l * size) work)) lanes old
-  state-off = lanes_same v p _ _ lanes old (λ l g. sym (fill-off none d (drop (from + l * size) work)))
+  state-off : sets_lanes v p (λ l. build (λ j. none) d) lanes old ≡ sets_lanes v p (λ l. fill none (replicate d false) (drop (from + l * size) work)) lanes old
+  state-off = lanes_same v p _ _ lanes old (λ l g. sym (build_is _ d (replicate d none) z (length-replicate d none) (λ j b. get_or-replicate d j none z b)) ∙ sym (fill-off none d (drop (from + l * size) work)))
 
 -- ---- the first s states' frames of the components from c on are filled: p is the next place, and the next values of a region are k places behind its first ones
 
-module _ {A : Type 0} (none : A) (v c lanes size a : ℕ) (ds flags : List ℕ) (work old : List A) where
+module _ {A : Type 0} (none z : A) (v c lanes size a : ℕ) (ds flags : List ℕ) (work old : List A) where
   -- what lane l gets from place k of its values on
   abbrev values : List Bool → ℕ → ℕ → List A
   values bs k l = fill none bs (drop (a + k + l * size) work)
@@ -208,9 +201,9 @@ module _ {A : Type 0} (none : A) (v c lanes size a : ℕ) (ds flags : List ℕ) 
           }
 
       module _ (h : lanes ≤ v) {w : List A} where
-        pub filling-voiced : true ≡ goes_on flags f d → a + k + d ≤ size → lanes * size ≤ length work → w ≡ sets_lanes v p (λ l. take d (drop (a + k + l * size) work)) lanes out
+        pub filling-voiced : true ≡ goes_on flags f d → a + k + d ≤ size → lanes * size ≤ length work → w ≡ sets_lanes v p (λ l. build (λ j. get_or work (a + k + l * size + j) z) d) lanes out
             → Filling w (s + 1) (f + d) (k + d) (p + d * v)
-        filling-voiced g r b q = filling-next h g (sym (count-all d)) (q ∙ state-on none v p lanes size d (a + k) work out r b)
+        filling-voiced g r b q = filling-next h g (sym (count-all d)) (q ∙ state-on none z v p lanes size d (a + k) work out r b)
 
-        pub filling_unvoiced : false ≡ goes_on flags f d → w ≡ sets_lanes v p (λ l. replicate d none) lanes out → Filling w (s + 1) (f + d) k (p + d * v)
-        filling_unvoiced g q = rw add-zero at (filling-next h g (sym (count_none d)) (q ∙ state-off none v p lanes size d (a + k) work out))
+        pub filling_unvoiced : false ≡ goes_on flags f d → w ≡ sets_lanes v p (λ l. build (λ j. none) d) lanes out → Filling w (s + 1) (f + d) k (p + d * v)
+        filling_unvoiced g q = rw add-zero at (filling-next h g (sym (count_none d)) (q ∙ state-off none z v p lanes size d (a + k) work out))

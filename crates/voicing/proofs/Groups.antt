@@ -28,7 +28,7 @@ use Rattle.voicing.specs.Mask.{mask_in, column}
 use Rattle.voicing.specs.Boundaries.{ahead, lefts, rights, shut_all}
 use Rattle.voicing.specs.Windows.{reach_before, reach_after, means_in, ivars_in}
 use Rattle.voicing.specs.Space.{paired_in}
-use Rattle.voicing.specs.Inner.Fits.{goes_on, Flagged, Paired}
+use Rattle.voicing.specs.Inner.Fits.{goes_on, Paired}
 use Rattle.voicing.specs.Inner.States.{plan_of, put_pairs, StateFits}
 use Rattle.voicing.specs.declared.closing.Plan.{Plan}
 use Rattle.voicing.specs.declared.closing.Span.{Span}
@@ -42,7 +42,6 @@ use Rattle.voicing.proofs.States.{parts-rows, means, inverses, put-means, put-iv
 
 -- what the states' pairs need of a plan
 pub record Planned (size records : ℕ) (widths ds flags : List ℕ) (p : Plan) (first floats : ℕ) : Type 0 where
-  pub framed : Flagged ds (length flags)
   pub voiced : count (mask_in ds flags) ≡ p.n
   pub most_v : p.v ≤ 64
   pub some : first + p.lanes ≤ p.v
@@ -56,7 +55,6 @@ pub record Planned (size records : ℕ) (widths ds flags : List ℕ) (p : Plan) 
 pub planned : {size records floats : ℕ} {widths ds flags : List ℕ} {g : Layout} {c : Group} {p : Plan} → Paired size records (length widths) ds flags g c floats → p ≡ plan_of (length widths) g c
     → Planned size records widths ds flags p c.first floats
 planned {widths = widths} {g = g} {c = c} f e = rw e (record {
-  framed = f.lies.framed;
   voiced = f.lies.voiced;
   most_v = f.lies.most_v;
   some = f.lies.some;

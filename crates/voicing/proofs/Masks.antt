@@ -1,6 +1,6 @@
 -- A mask by flags: what it has to do with states and their frames, and with the mask whose flags they are.
 use mathlib.Core.Path.{◌≡◌, refl, ap, ◌∙◌}
-use mathlib.Core.Bool.{Bool, true, false}
+use mathlib.Core.Bool.{Bool, false}
 use mathlib.Core.List.{List, [], ◌∷◌, ◌++◌, append_assoc, map}
 use Prim.Native.Nat.{ℕ, zero, suc, ◌+◌, ◌<◌, ◌≤◌}
 use native.Mathlib.Nat.{add-zero}
@@ -15,7 +15,7 @@ use Rattle.lists.specs.Flags.{flag, is_on}
 use Rattle.lists.specs.Frames.{expand, count}
 use Rattle.lists.proofs.Counts.{count_most}
 use Rattle.lists.proofs.Expansions.{map-replicate, drop-run}
-use Rattle.lists.proofs.Flags.{flag-back, on_true}
+use Rattle.lists.proofs.Flags.{flag-back}
 use Rattle.lists.proofs.Sums.{total-append, total-more}
 use Rattle.model.specs.Weight.{voiced_at}
 use Rattle.voicing.specs.Mask.{mask_of, weights_of, stream_mask, mask_in}
@@ -64,16 +64,6 @@ mask-drop (d ∷ ds) flags (suc s) = drop-run d (frame ds s) (is_on (get_or flag
 goes_on_lem : (d x : ℕ) (b : Bool) → b ≡ goes_on (x ∷ []) 0 d → replicate d b ≡ replicate d (is_on x)
 goes_on_lem zero x b e = refl
 goes_on_lem (suc d) x b e = rw (e, ne_eqb (suc d) 0 (λ z. omega arith))
-
--- no frames break no run; frames whose flag is 0 do, and others don't
-pub goes_none : (flags : List ℕ) (f d : ℕ) → d ≡ 0 → true ≡ goes_on flags f d
-goes_none flags f d h = rw h
-
-pub goes_off : (flags : List ℕ) (f d : ℕ) → (d ≡ 0 → ⊥) → get_or flags f 0 ≡ 0 → false ≡ goes_on flags f d
-goes_off flags f d h e = rw (ne_eqb d 0 h, e)
-
-pub goes_true : (flags : List ℕ) (f d : ℕ) → (d ≡ 0 → ⊥) → (get_or flags f 0 ≡ 0 → ⊥) → true ≡ goes_on flags f d
-goes_true flags f d h e = rw (ne_eqb d 0 h, on_true (get_or flags f 0) e)
 
 pub goes_some : (flags : List ℕ) (f d : ℕ) → false ≡ goes_on flags f d → 0 < d
 goes_some flags f zero e = absurd (let z : ◌≡◌ {A = ℕ} 0 1 = cc in omega arith)

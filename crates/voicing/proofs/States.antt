@@ -3,7 +3,7 @@ use mathlib.Core.Path.{◌≡◌, refl, ap, ◌∙◌}
 use mathlib.Core.List.{List, ◌++◌}
 use mathlib.Core.Logic.{⊎_elim}
 use Prim.Native.Nat.{ℕ, zero, suc, ◌+◌, ◌*◌, ◌<◌, ◌≤◌}
-use native.Mathlib.Nat.{suc-mul, zero-mul, mul_comm}
+use native.Mathlib.Nat.{suc-mul, zero-mul}
 use native.Mathlib.Numerals.{add-one}
 use native.Mathlib.Omega.{arith}
 use lib.ListN.{length, drop, get_or, replicate, length-replicate}
@@ -15,21 +15,10 @@ use Rattle.lists.proofs.Numbers.{le_or_lt}
 use Rattle.lists.proofs.Rows.{row_fits}
 use Rattle.lists.proofs.Regions.{stored_at, stored-behind, stored-before, dropped_before}
 use Rattle.model.specs.Pair.{ivar_of}
-use Rattle.voicing.specs.Inner.States.{shut_ends, put_pair, ends_of, put_pairs, StateFits}
+use Rattle.voicing.specs.Inner.States.{shut_ends, put_pair, ends_of, put_pairs}
 use Rattle.voicing.specs.declared.closing.Plan.{Plan}
 use Rattle.voicing.specs.declared.closing.Span.{Span}
 use Rattle.voicing.proofs.Runs.{ends-length}
-
--- a state's numbers of window i are in its record, and there is room for them
-module _ {p : Plan} {windows records floats mean : ℕ} {t : Span} (h : StateFits p windows records floats mean t) (i : ℕ) (b : i < windows) where
-  pub window-read : mean + i * p.v + p.half + p.lanes ≤ records
-  window-read = omega (arith, h.read, h.half_at, row_fits p.v i windows b, mul_comm p.v windows)
-
-  pub means-room : i * p.n + t.k + p.n ≤ p.size
-  means-room = omega (arith, h.voiced, h.ivars-at, h.ivars_end, row_fits p.n i windows b)
-
-  pub ivars-room : p.ivars + (i * p.n + t.k) + t.d ≤ p.size
-  ivars-room = omega (arith, h.voiced, h.ivars-at, h.ivars_end, row_fits p.n i windows b)
 
 -- parts that follow each other, n numbers each
 pub parts-rows : (f : ℕ → List Float) (n o : ℕ) (m : List Float) (w : ℕ) → ((i : ℕ) → i < w → part (o + i * n) n m ≡ f i) → part o (w * n) m ≡ rows f w

@@ -4,13 +4,14 @@ use mathlib.Core.Bool.{Bool, true, false}
 use mathlib.Core.List.{List, [], ◌∷◌, map}
 use Prim.Native.Nat.{ℕ, zero, suc, ◌*◌, ◌<◌}
 use native.Mathlib.Omega.{arith}
+use mir.Val.{bool_byte}
 use lib.ListN.{length, take, drop, get_or, length-map, get_or-map}
 use lib.Seq.{ext_get_or, drop-cons}
 use lib.Ieee.{Float, nan}
-use Rattle.lists.specs.Totals.{total}
-use Rattle.lists.proofs.Fills.{build-length}
 use Rattle.model.specs.declared.voice.model.Weight.{Weight}
 use Rattle.model.specs.declared.voice.model.Weight.TheVariants.{Given, Absent}
+use Rattle.lists.specs.Totals.{total}
+use Rattle.lists.proofs.Fills.{build-length}
 use Rattle.model.specs.Weight.{voiced_at}
 use Rattle.model.specs.Record.{from_linear}
 use Rattle.lists.specs.Frames.{expand}
@@ -48,6 +49,11 @@ weights-alone ws n e =
     let z : i * 1 ≡ i = omega arith in
     let r : take 1 (drop (i * 1) ws) ≡ get_or ws i nan ∷ [] = rw (z, drop-cons ws i nan l) in
     weights-at 1 ws n i (omega arith) ∙ ap (λ (x : List Float). (from_linear x).msd) r ∙ alone (get_or ws i nan) ∙ sym (get_or-given ws i l))
+
+-- a test as a number is its flag
+pub bool_flag : (b : Bool) → bool_byte b ≡ flag b
+bool_flag true = refl
+bool_flag false = refl
 
 module _ (threshold : Float) (ws : List Weight) where
   abbrev pub state_flags : List ℕ

@@ -13,21 +13,18 @@ use lib.Ieee.{Float}
 use Rattle.lists.specs.Totals.{total}
 use Rattle.lists.specs.Refusals.{or_else}
 use Rattle.lists.proofs.Numbers.{le_or_lt}
-use Rattle.lists.proofs.Refusals.{or_first, or_none}
-use Rattle.lists.specs.Answers.{refusing}
-use Rattle.lists.proofs.Answers.{same, refused, untouched, accepted, in_front}
-use Rattle.model.specs.declared.voice.model.Weight.TheVariants.{Given}
+use Rattle.lists.proofs.Refusals.{or_none}
+use Rattle.lists.proofs.Answers.{same, accepted, in_front}
 use Rattle.lists.specs.Flags.{flag, is_on}
 use Rattle.voicing.specs.Mask.{mask_of, weights_of}
-use Rattle.voicing.specs.Boundaries.{lefts, rights}
 use Rattle.voicing.specs.Promise.{too_short, frames_refusal, mask_refusal, distances_refusal, masked_distances_refusal, MaskSays, DistancesSays, MaskedDistancesSays}
 use Rattle.voicing.specs.Inner.Fits.{room_refusal}
-use Rattle.lists.specs.Ends.{filled_of}
-use Rattle.lists.specs.declared.Filled.{Filled}
-use Rattle.lists.specs.declared.Filled.TheVariants.{Done, Refused}
-use Rattle.lists.proofs.Ends.{stopped, filled-one}
+use Rattle.lists.specs.declared.Refusal.{Refusal}
+use Rattle.lists.proofs.Ends.{counted-one}
+use Rattle.std.proofs.Common.{Result, Ok}
+use Rattle.model.specs.declared.voice.model.Weight.TheVariants.{Given}
 use Rattle.lists.proofs.Flags.{flags-back}
-use Rattle.voicing.proofs.Theory.{weights-alone, mask-length, lefts-length, rights-length}
+use Rattle.voicing.proofs.Theory.{weights-alone, mask-length}
 
 -- ---- 3, 4 and 5
 
@@ -83,21 +80,9 @@ least-short a b n = ⊎_elim
 not_short : (a n : ℕ) → ◌≡◌ {A = ℕ} (cond (ltb a n) 6 0) 0 → n ≤ a
 not_short a n e = ⊎_elim (λ (h : n ≤ a). h) (λ (h : a < n). let z : ◌≡◌ {A = ℕ} 6 0 = rw (lt-ltb a n h) at e in absurd (omega arith)) (le_or_lt n a)
 
--- the number of an answer that is a refusal
-stops : (r n k : ℕ) (x : Filled) → x ≡ filled_of r n → x ≡ Refused k → (0 < k) × (r ≡ k)
-stops r n k x e o = let s = stopped r n k (sym e ∙ o) in (s.0, sym (or_first r 0 (λ z. let q : ◌≡◌ {A = ℕ} 0 k = rw z at (s.1 0) in omega (arith, s.0))) ∙ s.1 0)
-
 -- ---- `mask`
 
 module _ (ws : List Float) (threshold : Float) (ds v : List ℕ) where
-  mask-refuses : (k : ℕ) → 0 < k → mask_refusal ws ds v ≡ k → MaskSays ws threshold ds v (Refused k) v
-  mask-refuses k h e =
-      let p : mask_refusal ws ds v ≡ 0 → ⊥ = λ z. omega arith in
-      record { answer = ap refusing (sym e) ∙ refused _ _ p; flags = untouched _ _ _ p }
-
-  pub mask-stops : (x : Filled) (k : ℕ) → x ≡ filled_of (mask_refusal ws ds v) (total ds) → x ≡ Refused k → MaskSays ws threshold ds v x v
-  mask-stops x k e o = let s = stops _ _ k x e o in rw o (mask-refuses k s.0 s.1)
-
   -- nothing is refused
   module _ (z : mask_refusal ws ds v ≡ 0) where
     pub mask-framed : Framed (length ws) ds
@@ -109,58 +94,23 @@ module _ (ws : List Float) (threshold : Float) (ds v : List ℕ) where
     flags-length : length (map flag (mask_of threshold (map Given ws) ds)) ≡ total ds
     flags-length = simp length-map (mask-length threshold (map Given ws) ds (simp length-map mask-framed.agree))
 
-    pub mask_done : (m n : ℕ) (w : List ℕ) → total ds ≡ m → n ≡ m → w ≡ map flag (mask_of threshold (weights_of 1 ws (length ds)) ds) → MaskSays ws threshold ds v (Done m) (w ++ drop n v)
+    pub mask_done : (m n : ℕ) (w : List ℕ) → total ds ≡ m → n ≡ m → w ≡ map flag (mask_of threshold (weights_of 1 ws (length ds)) ds) → MaskSays ws threshold ds v (Ok m) (w ++ drop n v)
     mask_done m n w e t o =
         let given : w ≡ map flag (mask_of threshold (map Given ws) ds) = o ∙ rw (weights-alone ws (length ds) mask-framed.agree) in
         record { answer = accepted _ _ _ z (ap (λ (x : ℕ). x ∷ []) (sym e)); flags = in_front _ n _ w v z given (flags-length ∙ e ∙ sym t) }
 
-pub mask_one : (ws : List Float) (threshold : Float) (ds v : List ℕ) (x y : Filled) (v₁ v₂ : List ℕ) → MaskSays ws threshold ds v x v₁ → MaskSays ws threshold ds v y v₂ → (x ≡ y) × (v₁ ≡ v₂)
-mask_one ws threshold ds v x y v₁ v₂ a b = (filled-one x y (same (a.answer ∙ sym b.answer)), a.flags ∙ sym b.flags)
+pub mask_one : (ws : List Float) (threshold : Float) (ds v : List ℕ) (x y : Result ℕ Refusal) (v₁ v₂ : List ℕ) → MaskSays ws threshold ds v x v₁ → MaskSays ws threshold ds v y v₂ → (x ≡ y) × (v₁ ≡ v₂)
+mask_one ws threshold ds v x y v₁ v₂ a b = (counted-one x y (same (a.answer ∙ sym b.answer)), a.flags ∙ sym b.flags)
 
 -- ---- `boundary_distances`
 
-module _ (v l r : List ℕ) where
-  distances_refuses : (k : ℕ) → 0 < k → distances_refusal (length v) l r ≡ k → DistancesSays v l r (Refused k) l r
-  distances_refuses k h e =
-      let p : distances_refusal (length v) l r ≡ 0 → ⊥ = λ z. omega arith in
-      record { answer = ap refusing (sym e) ∙ refused _ _ p; before = untouched _ _ _ p; after = untouched _ _ _ p }
-
-  pub distances_5 : 65536 < length v → DistancesSays v l r (Refused 5) l r
-  distances_5 h = distances_refuses 5 (omega arith) (rw (lt-ltb 65536 (length v) h))
-
-  module _ (small : length v ≤ 65536) where
-    pub distances_6 : min (length l) (length r) < length v → DistancesSays v l r (Refused 6) l r
-    distances_6 h = distances_refuses 6 (omega arith) (rw (le-ltb 65536 (length v) small, ← least-short (length l) (length r) (length v), lt-ltb (min (length l) (length r)) (length v) h))
-
-    module _ (h : length v ≤ min (length l) (length r)) where
-      -- nothing is refused
-      distances_0 : distances_refusal (length v) l r ≡ 0
-      distances_0 = rw (le-ltb 65536 (length v) small, ← least-short (length l) (length r) (length v), le-ltb (min (length l) (length r)) (length v) h)
-
-      pub distances_done : (l' r' : List ℕ) → l' ≡ lefts 0 (map is_on v) → r' ≡ rights (map is_on v) → DistancesSays v l r (Done (length v)) (l' ++ drop (length v) l) (r' ++ drop (length v) r)
-      distances_done l' r' o p =
-          let n : length (map is_on v) ≡ length v = length-map v is_on in
-          record {
-            answer = accepted _ _ _ distances_0 refl;
-            before = in_front _ _ _ l' l distances_0 o (lefts-length 0 (map is_on v) ∙ n);
-            after = in_front _ _ _ r' r distances_0 p (rights-length (map is_on v) ∙ n);
-          }
-
-pub distances_one : (v l r : List ℕ) (x y : Filled) (l₁ r₁ l₂ r₂ : List ℕ) → DistancesSays v l r x l₁ r₁ → DistancesSays v l r y l₂ r₂ → (x ≡ y) × (l₁ ≡ l₂) × (r₁ ≡ r₂)
+pub distances_one : (v l r : List ℕ) (x y : Result ℕ Refusal) (l₁ r₁ l₂ r₂ : List ℕ) → DistancesSays v l r x l₁ r₁ → DistancesSays v l r y l₂ r₂ → (x ≡ y) × (l₁ ≡ l₂) × (r₁ ≡ r₂)
 distances_one v l r x y l₁ r₁ l₂ r₂ a b =
-    (filled-one x y (same (a.answer ∙ sym b.answer)), a.before ∙ sym b.before, a.after ∙ sym b.after)
+    (counted-one x y (same (a.answer ∙ sym b.answer)), a.before ∙ sym b.before, a.after ∙ sym b.after)
 
 -- ---- `mask_with_distances`
 
 module _ (ws : List Float) (threshold : Float) (ds v l r : List ℕ) where
-  masked_refuses : (k : ℕ) → 0 < k → masked_distances_refusal ws ds v l r ≡ k → MaskedDistancesSays ws threshold ds v l r (Refused k) v l r
-  masked_refuses k h e =
-      let p : masked_distances_refusal ws ds v l r ≡ 0 → ⊥ = λ z. omega arith in
-      record { answer = ap refusing (sym e) ∙ refused _ _ p; flags = untouched _ _ _ p; before = untouched _ _ _ p; after = untouched _ _ _ p }
-
-  pub masked_stops : (x : Filled) (k : ℕ) → x ≡ filled_of (masked_distances_refusal ws ds v l r) (total ds) → x ≡ Refused k → MaskedDistancesSays ws threshold ds v l r x v l r
-  masked_stops x k e o = let s = stops _ _ k x e o in rw o (masked_refuses k s.0 s.1)
-
   -- room for the shortest list
   pub masked_room : (m n : ℕ) → m ≡ min (length l) (length r) → n ≡ min (length v) m → room_refusal (length ws) ds n ≡ masked_distances_refusal ws ds v l r
   masked_room m n p q = rw (q, least-short (length v) m (total ds), p, least-short (length l) (length r) (total ds))
@@ -177,7 +127,7 @@ module _ (ws : List Float) (threshold : Float) (ds v l r : List ℕ) where
         rw e (mask-room ws threshold ds v mask_0, not_short _ _ c.0, not_short _ _ c.1)
 
     -- the flags of `mask`, and then the distances of those
-    pub masked_done : (x y : Filled) (v' l' r' : List ℕ) → MaskSays ws threshold ds v x v' → DistancesSays (take n v') l r y l' r' → MaskedDistancesSays ws threshold ds v l r y v' l' r'
+    pub masked_done : (x y : Result ℕ Refusal) (v' l' r' : List ℕ) → MaskSays ws threshold ds v x v' → DistancesSays (take n v') l r y l' r' → MaskedDistancesSays ws threshold ds v l r y v' l' r'
     masked_done x y v' l' r' a b =
         let bs = mask_of threshold (map Given ws) ds in
         let k = masked_long in
@@ -194,7 +144,7 @@ module _ (ws : List Float) (threshold : Float) (ds v l r : List ℕ) where
           after = b.after ∙ rw (o, z, on);
         }
 
-pub masked_one : (ws : List Float) (threshold : Float) (ds v l r : List ℕ) (x y : Filled) (v₁ l₁ r₁ v₂ l₂ r₂ : List ℕ)
+pub masked_one : (ws : List Float) (threshold : Float) (ds v l r : List ℕ) (x y : Result ℕ Refusal) (v₁ l₁ r₁ v₂ l₂ r₂ : List ℕ)
     → MaskedDistancesSays ws threshold ds v l r x v₁ l₁ r₁ → MaskedDistancesSays ws threshold ds v l r y v₂ l₂ r₂ → (x ≡ y) × (v₁ ≡ v₂) × (l₁ ≡ l₂) × (r₁ ≡ r₂)
 masked_one ws threshold ds v l r x y v₁ l₁ r₁ v₂ l₂ r₂ a b =
-    (filled-one x y (same (a.answer ∙ sym b.answer)), a.flags ∙ sym b.flags, a.before ∙ sym b.before, a.after ∙ sym b.after)
+    (counted-one x y (same (a.answer ∙ sym b.answer)), a.flags ∙ sym b.flags, a.before ∙ sym b.before, a.after ∙ sym b.after)

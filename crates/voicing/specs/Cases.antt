@@ -1,9 +1,9 @@
 -- Worked cases of masks, distances and boundaries, computed from the definitions.
 use Rattle.std.specs.Prelude.{◌≡◌, refl, Bool, true, false, List, [], ◌∷◌}
+use Rattle.model.specs.declared.voice.model.Weight.TheVariants.{Given}
 use Rattle.std.specs.Float.{nan}
 use Rattle.std.specs.Float.Ieee.{of_bits, lt}
 use Rattle.floats.specs.Numbers.{nought, one}
-use Rattle.model.specs.declared.voice.model.Weight.TheVariants.{Given}
 use Rattle.lists.specs.Frames.{expand, fill}
 use Rattle.voicing.specs.Mask.{mask_of}
 use Rattle.voicing.specs.Boundaries.{ahead, lefts, rights, shut_all}

@@ -12,7 +12,7 @@ ghost use Rattle.voicing.specs.Space.{paired_in};
 ghost use Rattle.voicing.specs.Inner.Fits.{frame, Flagged, Paired};
 ghost use Rattle.voicing.specs.Inner.States.{plan_of, shut_ends, ends_of, put_pair, put_pairs, StateFits};
 
-use super::flags::{frames_at, goes_on};
+use super::flags::{Frames, goes_on};
 use model::mean_vari::MeanVari;
 use model::voice::window::{left_width, right_width};
 use region::{Group, Layout};
@@ -35,18 +35,11 @@ fn reach_of(widths: &[u32], i: usize) -> Reach
             after: 0,
         };
     }
-    let width = lists::wide(widths[i]);
+    let width = widths[i] as usize;
     Reach {
         before: left_width(width),
         after: right_width(width),
     }
-}
-
-// By how much a reach is longer than a distance, if it is.
-fn overreach(reach: usize, distance: usize) -> usize
-    ensures { result ≡ reach - distance }
-{
-    reach - lists::least(reach, distance)
 }
 
 // d frames, of which the first `before` and the last `after` are near the ends of their run.
@@ -62,16 +55,11 @@ fn fill_ivars(ivar: f64, e: Ends, out: &mut [f64])
     requires { length out.old ≡ e.d }
     ensures { out.new ≡ shut_ends e ivar }
 {
-    let d = e.d;
-    lists::fill_f64(out, d, ivar);
-    let first = lists::least(e.before, d);
-    let last = lists::least(e.after, d);
-    if first + last == 0 {
-        return;
-    }
-    lists::fill_f64(out, first, 0.0);
-    let from = d - last;
-    lists::fill_f64(&mut out[from..d], last, 0.0);
+    out.fill(ivar);
+    let first = e.before.min(e.d);
+    let last = e.after.min(e.d);
+    out[..first].fill(0.0);
+    out[e.d - last..].fill(0.0);
 }
 
 // A component's pair of a state and a window at the state's frames: the mean from place `at` of the region on, and from place `ivars` on the inverse variance.
@@ -79,11 +67,8 @@ fn put_pair(pair: MeanVari, e: Ends, at: usize, ivars: usize, region: &mut [f64]
     requires { (at + e.d ≤ length region.old) × (ivars + e.d ≤ length region.old) }
     ensures { region.new ≡ put_pair e at ivars pair.0 pair.1 region.old }
 {
-    let d = e.d;
-    let means_end = at + d;
-    lists::fill_f64(&mut region[at..means_end], d, pair.0);
-    let ivars_end = ivars + d;
-    fill_ivars(pair.1, e, &mut region[ivars..ivars_end]);
+    region[at..at + e.d].fill(pair.0);
+    fill_ivars(pair.1, e, &mut region[ivars..ivars + e.d]);
 }
 
 // What the pairs of all states have in common: components side by side, some of v; a variance stands `half` numbers behind its mean in a record; a region
@@ -105,17 +90,13 @@ fn close_window(records: &[f64], p: Plan, mean: usize, at: usize, e: Ends, work:
         p.size p.lanes work.old work.new }
 {
     let size = p.size;
-    let lanes = p.lanes;
     let vari = mean + p.half;
     let ivars = p.ivars + at;
-    let mut l = 0;
-    let mut from = 0;
-    while l < lanes {
+    for l in 0..p.lanes {
+        let from = l * size;
         let to = from + size;
         let inverted = MeanVari(records[mean + l], records[vari + l]).with_ivar();
         put_pair(inverted.pair, e, at, ivars, &mut work[from..to]);
-        from = to;
-        l += 1;
     }
 }
 
@@ -136,8 +117,8 @@ fn ends_of(widths: &[u32], i: usize, t: Span) -> Ends
     let reach = reach_of(widths, i);
     Ends {
         d: t.d,
-        before: overreach(reach.before, t.left),
-        after: overreach(reach.after, t.right),
+        before: reach.before.saturating_sub(t.left),
+        after: reach.after.saturating_sub(t.right),
     }
 }
 
@@ -147,38 +128,12 @@ fn close_state(records: &[f64], p: Plan, mean: usize, widths: &[u32], t: Span, w
     ensures { Across (λ l old new. new ≡ put_pairs records.now p mean widths.now t l (length widths.now) old)
         p.size p.lanes work.old work.new }
 {
-    let mut i = 0;
-    let mut from = mean;
-    let mut at = t.k;
-    while i < widths.len() {
+    for i in 0..widths.len() {
+        let from = mean + i * p.v;
+        let at = i * p.n + t.k;
         let e = ends_of(widths, i, t);
         close_window(records, p, from, at, e, work);
-        from += p.v;
-        at += p.n;
-        i += 1;
     }
-}
-
-// Where the run of voiced frames ends that frame f, the first of state s, is in. `end` is that place already where it lies behind f.
-fn run_end(end: usize, durations: &[u32], flags: &[u32], s: usize, f: usize) -> usize
-    requires { Flagged durations.now (length flags.now) × (s ≤ length durations.now) × (f ≡ frame durations.now s)
-        × (f < end → ahead (drop f (mask_in durations.now flags.now)) + f ≡ end) }
-    ensures { result ≡ ahead (drop f (mask_in durations.now flags.now)) + f }
-{
-    if f < end {
-        return end;
-    }
-    let mut i = s;
-    let mut e = f;
-    while i < durations.len() {
-        let d = frames_at(durations, i);
-        if !goes_on(flags, e, d) {
-            return e;
-        }
-        e += d;
-        i += 1;
-    }
-    e
 }
 
 fn plan_of(windows: usize, g: Layout, c: Group) -> Plan
@@ -190,7 +145,7 @@ fn plan_of(windows: usize, g: Layout, c: Group) -> Plan
         v: c.v,
         lanes: c.lanes,
         half: c.v * windows,
-        n: lists::wide(g.n),
+        n: g.n as usize,
         ivars: p.ivars,
         size: p.size,
     }
@@ -201,28 +156,26 @@ pub(crate) fn close_group(
     size: usize,
     records: &[f64],
     widths: &[u32],
-    durations: &[u32],
-    flags: &[u32],
+    m: Frames,
     g: Layout,
     c: Group,
     work: &mut [f64],
 )
-    requires { Paired size (length records.now) (length widths.now) durations.now flags.now g c (length work.old) }
+    requires { Paired size (length records.now) (length widths.now) m.durations.now m.flags.now g c (length work.old) }
     ensures { work.new ≡ each_region g c.lanes
-        (λ l. paired_in size records.now c.v widths.now (mask_in durations.now flags.now) durations.now (c.first + l)) work.old }
+        (λ l. paired_in size records.now c.v widths.now (mask_in m.entry.durations.now m.entry.flags.now) m.entry.durations.now (c.first + l)) work.old }
 {
     let p = plan_of(widths.len(), g, c);
     let first = c.first;
-    let mut s = 0;
     let mut f = 0;
     let mut k = 0;
     let mut begin = 0;
     let mut end = 0;
-    while s < durations.len() {
-        let d = frames_at(durations, s);
+    for (s, x) in m.durations.iter().enumerate() {
+        let d = *x as usize;
         let next = f + d;
-        if goes_on(flags, f, d) {
-            end = run_end(end, durations, flags, s, f);
+        if goes_on(m.flags, f, d) {
+            end = m.run_end(end, s, f);
             let t = Span {
                 d,
                 k,
@@ -231,12 +184,9 @@ pub(crate) fn close_group(
             };
             close_state(records, p, s * size + first, widths, t, work);
             k += d;
-            f = next;
-            s += 1;
         } else {
             begin = next;
-            f = next;
-            s += 1;
         }
+        f = next;
     }
 }

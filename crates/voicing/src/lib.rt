@@ -7,7 +7,7 @@ ghost use Rattle.voicing.specs.Inner.Fits.{pairs_fit};
 
 use closing::close_group;
 use filling::fill_group;
-use flags::{count_voiced, flagged, frames_in, put_switches};
+use flags::{Frames, flagged, frames_in, put_switches};
 use region::{Group, Layout};
 
 mod closing;
@@ -16,7 +16,7 @@ mod flags;
 pub mod mask;
 
 // How states are voiced: by the weights of their records, of `size` numbers each.
-#[derive(Clone, Copy)]
+#[derive(Clone, Copy, Debug, PartialEq)]
 pub struct Voicing {
     pub size: usize,
     pub threshold: f64,
@@ -32,7 +32,7 @@ pub fn mark(records: &[f64], u: Voicing, durations: &[u32], flags: &mut [u32]) -
     }
     let n = frames_in(durations);
     mask::mark_states(records, u, durations, &mut flags[..n]);
-    count_voiced(durations, flags)
+    Frames { durations, flags }.voiced()
 }
 
 // The voiced frames' switches, closed up behind the frames' flags. Where the lists don't fit, nothing.
@@ -43,7 +43,7 @@ pub fn mark_switches(durations: &[u32], switches: &[u8], flags: &mut [u32])
         return;
     }
     let frames = frames_in(durations);
-    let end = frames + count_voiced(durations, flags);
+    let end = frames + Frames { durations, flags }.voiced();
     if !((switches.len() == durations.len()) & (end <= flags.len())) {
         return;
     }
@@ -54,19 +54,14 @@ pub fn mark_switches(durations: &[u32], switches: &[u8], flags: &mut [u32])
 fn components_fit(c: Group) -> bool
     ensures { result ≡ components_fit c }
 {
-    let left = c.v - lists::least(c.first, c.v);
-    (c.v <= 64) & (c.first <= c.v) & (c.lanes <= left)
+    (c.v <= 64) & (c.first <= c.v) & (c.lanes <= c.v.saturating_sub(c.first))
 }
 
 // Whether there is a flag a frame, as many are voiced as the layout says, and the group's regions lie within so many floats.
-fn grouped(durations: &[u32], flags: &[u32], g: Layout, c: Group, floats: usize) -> bool
-    ensures { result ≡ grouped durations.now flags.now g c floats }
+fn grouped(m: Frames, g: Layout, c: Group, floats: usize) -> bool
+    ensures { result ≡ grouped m.entry.durations.now m.entry.flags.now g c floats }
 {
-    if !flagged(durations, flags.len()) {
-        return false;
-    }
-    let voiced = count_voiced(durations, flags) == lists::wide(g.n);
-    voiced & components_fit(c) & g.fits(c.lanes, floats)
+    (m.voiced() == g.n as usize) & components_fit(c) & g.fits(c.lanes, floats)
 }
 
 // Whether there is a record a state, of so many numbers, with the pairs of so many windows.
@@ -82,7 +77,7 @@ fn pairs_fit(
 {
     let paired = lists::has_room(windows, v, size / 2);
     let recorded = lists::has_room(states, size, records);
-    (windows == lists::small(g.windows)) & (windows <= 4) & paired & recorded
+    (windows == usize::from(g.windows)) & (windows <= 4) & paired & recorded
 }
 
 // The pairs of the voiced frames, closed up in the regions of a group, and zeroed near the ends of runs. Where the lists don't fit, nothing.
@@ -98,9 +93,13 @@ pub fn close_up(
 )
     ensures { CloseSays size records.now widths.now durations.now flags.now g c work.old work.new }
 {
-    let lies = grouped(durations, flags, g, c, work.len());
+    if !flagged(durations, flags.len()) {
+        return;
+    }
+    let m = Frames { durations, flags };
+    let lies = grouped(m, g, c, work.len());
     if lies & pairs_fit(size, records.len(), widths.len(), durations.len(), g, c.v) {
-        close_group(size, records, widths, durations, flags, g, c, work);
+        close_group(size, records, widths, m, g, c, work);
     }
 }
 
@@ -116,11 +115,11 @@ pub fn fill_back(
 )
     ensures { FillSays none durations.now flags.now g c work.now out.old out.new }
 {
-    if !grouped(durations, flags, g, c, work.len()) {
+    if !flagged(durations, flags.len()) {
         return;
     }
-    if out.len() != frames_in(durations) * c.v {
-        return;
+    let m = Frames { durations, flags };
+    if grouped(m, g, c, work.len()) && out.len() == frames_in(durations) * c.v {
+        fill_group(none, m, g, c, work, out);
     }
-    fill_group(none, durations, flags, g, c, work, out);
 }

@@ -52,9 +52,6 @@ module _ (c : After-nearest_root-root) where
 pub nearest_root-root-requires : goal.nearest_root-root-requires
 nearest_root-root-requires c = lt_of_le_of_lt (le_of_eq (exact (goal.at.nearest_root-root-requires c).After-scale_of-s)) (short (goal.at.nearest_root-root-requires c).After-scale_of-s)
 
-pub overflow_mul-result : goal.overflow_mul-result
-overflow_mul-result c = omega (arith, near (goal.at.overflow_mul-result c).After-nearest_root-root)
-
 pub overflow_add-result-2 : goal.overflow_add-result-2
 overflow_add-result-2 c = omega (arith, near (goal.at.overflow_add-result-2 c).After-nearest_root-root, few (goal.at.overflow_add-result-2 c).After-nearest_root-root)
 

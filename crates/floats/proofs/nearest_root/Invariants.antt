@@ -1,9 +1,5 @@
-use Prim.Native.Nat.{◌-◌}
 use Rattle.floats.proofs.Squares.{Kept}
 use Rattle.floats.proofs.nearest_root.Given as goal
 
 abbrev pub invariant-loop-turn : goal.invariant-loop-turn
-invariant-loop-turn l = Kept l.d l.root l.left l.rest l.turn
-
-abbrev pub decreases-loop-turn : goal.decreases-loop-turn
-decreases-loop-turn l = 53 - l.turn
+invariant-loop-turn l = Kept l.d l.root l.left l.rest l._turn

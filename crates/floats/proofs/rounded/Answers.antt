@@ -3,7 +3,7 @@ use Prim.Native.Nat.{◌/◌, ◌^◌, ◌≤◌}
 use native.Mathlib.Omega.{arith}
 use lib.Dec.{T}
 use lib.Ieee.{Float, binary64, fits, to_bits}
-use Rattle.floats.proofs.Whole.{no_nan_inside, field_from, field_to, at_most, when_inside}
+use Rattle.floats.proofs.Whole.{field_from, field_to, at_most, when_inside}
 use Rattle.floats.proofs.rounded.Goals as goal
 use Rattle.floats.proofs.rounded.Goals.{After-within-bits}
 
@@ -19,9 +19,6 @@ module _ (c : After-within-bits) where
 
   to : to_bits binary64 y / 2 ^ 52 ≤ 1039
   to = field_to y held c.within-bits.ensures.1 c.within-bits.ensures.2
-
-pub float_to_bits-bits : goal.float_to_bits-bits
-float_to_bits-bits c = no_nan_inside (y (goal.at.float_to_bits-bits c).After-within-bits) (held (goal.at.float_to_bits-bits c).After-within-bits) c.within-bits.ensures.1 c.within-bits.ensures.2
 
 pub overflow_sub-bits : goal.overflow_sub-bits
 overflow_sub-bits c = from (goal.at.overflow_sub-bits c).After-within-bits

@@ -26,18 +26,6 @@ module _ (c : Then-field-eq0) where
 pub overflow_sub-shift : goal.overflow_sub-shift
 overflow_sub-shift c = many (goal.at.overflow_sub-shift c).Then-field-eq0
 
-pub overflow_cast-result : goal.overflow_cast-result
-overflow_cast-result c = omega (arith, few (goal.at.overflow_cast-result c).Then-field-eq0)
-
-pub overflow_shl-result : goal.overflow_shl-result
-overflow_shl-result c = omega (arith, few (goal.at.overflow_shl-result c).Then-field-eq0)
-
-pub overflow_cast-result-then-field-eq0 : goal.overflow_cast-result-then-field-eq0
-overflow_cast-result-then-field-eq0 c = omega (arith, few (goal.at.overflow_cast-result-then-field-eq0 c).Then-field-eq0)
-
-pub overflow_sub-result : goal.overflow_sub-result
-overflow_sub-result c = omega (arith, few (goal.at.overflow_sub-result c).Then-field-eq0)
-
 pub returns-then-field-eq0 : goal.returns-then-field-eq0
 returns-then-field-eq0 c = subnormal_scaled c.args.bits c.before.requires.0 (low c.args.bits c.if-field-eq0.true)
 

@@ -22,10 +22,6 @@ first_on [] = 0
 first_on (true ∷ bs) = 0
 first_on (false ∷ bs) = suc (first_on bs)
 
--- a sum with f of frame t's value, if that is switched
-abbrev pub joined : (Float → Float) → List Bool → List Float → ℕ → Float → Float
-joined f on par t sum = cond (get_or on t false) (add binary64 sum (f (elem par t))) sum
-
 -- what it says of the switches
 pub record Counted (g : MlpgGlobalVariance) (on : List Bool) : Type 0 where
   pub frames : length on ≡ g.length

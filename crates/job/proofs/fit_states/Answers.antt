@@ -1,8 +1,7 @@
-use mathlib.Core.Path.{◌≡◌, sym, ap, ◌∙◌}
+use mathlib.Core.Path.{◌≡◌, ap, ◌∙◌}
 use Prim.Native.Nat.{ℕ, ◌≤◌}
 use native.Mathlib.Omega.{arith}
 use borrow.Author.Rules.{rules}
-use lib.Seq.{length-take-le}
 use Rattle.job.specs.Format.{version_of, state_bytes, floats_at, shortest_at}
 use Rattle.job.proofs.Damages.{state-most}
 use Rattle.job.proofs.Pairs.{front-few, read-room, read_again, read-front, create_is}
@@ -24,23 +23,11 @@ module _ (c : After-state_bytes-step) where
 abbrev begun : After-read_floats → After-state_bytes-step
 begun c = record { before = c.before.before.before; type_inv = search rules }
 
-pub slice_bounds-read_floats-end : goal.slice_bounds-read_floats-end
-slice_bounds-read_floats-end c = sym (length-take-le _ _ c.requires)
-
 pub read_floats-requires : goal.read_floats-requires
 read_floats-requires c = let h = c.requires in (omega arith, omega (arith, step-few (goal.at.read_floats-requires c).After-state_bytes-step), front-few _ _ _ h h)
 
-pub slice_bounds-read_floats-end-2 : goal.slice_bounds-read_floats-end-2
-slice_bounds-read_floats-end-2 c = sym (length-take-le _ _ c.requires)
-
 pub read_floats-requires-2 : goal.read_floats-requires-2
 read_floats-requires-2 c = let h = c.requires in (omega arith, omega (arith, step-few (goal.at.read_floats-requires-2 c).After-state_bytes-step), front-few _ _ _ h h)
-
-pub slice_bounds-read_shortest-end : goal.slice_bounds-read_shortest-end
-slice_bounds-read_shortest-end c = sym (length-take-le _ _ c.requires)
-
-pub read_shortest-requires : goal.read_shortest-requires
-read_shortest-requires c = let h = c.requires in front-few _ _ _ h h
 
 pub slice_bounds-means-end-2 : goal.slice_bounds-means-end-2
 slice_bounds-means-end-2 c = read-room _ _ c.read_floats.new.into c.requires c.read_floats.auto.into

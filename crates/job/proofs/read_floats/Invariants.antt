@@ -1,13 +1,10 @@
 use mathlib.Core.Path.{◌≡◌}
 use mathlib.Core.List.{◌++◌}
-use Prim.Native.Nat.{ℕ, ◌+◌, ◌-◌, ◌*◌, ◌≤◌}
-use lib.ListN.{length, drop}
+use Prim.Native.Nat.{ℕ, ◌+◌, ◌*◌}
+use lib.ListN.{drop}
 use Rattle.lists.specs.Build.{build}
 use Rattle.job.specs.Format.{float_at}
 use Rattle.job.proofs.read_floats.Given as goal
 
 abbrev pub invariant-loop-i : goal.invariant-loop-i
-invariant-loop-i l = (l.i ≤ length l.initial.into) × (l.into ≡ build (λ (k : ℕ). float_at l.bytes (l.from + l.step * k)) l.i ++ drop l.i l.initial.into) × (length l.into ≡ length l.initial.into)
-
-abbrev pub decreases-loop-i : goal.decreases-loop-i
-decreases-loop-i l = length l.initial.into - l.i
+invariant-loop-i l = l.into ≡ build (λ (k : ℕ). float_at l.bytes (l.from + l.step * k)) l.i ++ drop l.i l.initial.into

@@ -12,10 +12,10 @@ pub bounds-front-i : goal.bounds-front-i
 bounds-front-i c = omega arith
 
 pub returns-then-bytes-i : goal.returns-then-bytes-i
-returns-then-bytes-i c = let d = c.before.before.before.before in alike-stops d.least-n.ensures d.loop-i.invariant c.loop-i-test.true c.if-bytes-i.true
+returns-then-bytes-i c = let d = c.before.before.before.before in alike-stops d.min-n.ensures d.loop-i.invariant c.loop-i-test.true c.if-bytes-i.true
 
 pub loop-i-preserved : goal.loop-i-preserved
-loop-i-preserved c = let d = c.before.before.before.before in alike_next d.least-n.ensures d.loop-i.invariant c.loop-i-test.true c.if-bytes-i.false
+loop-i-preserved c = let d = c.before.before.before.before in alike_next d.min-n.ensures d.loop-i.invariant c.loop-i-test.true c.if-bytes-i.false
 
 pub returns : goal.returns
-returns c = alike-done c.least-n.ensures c.loop-i.invariant c.loop-i-test.false
+returns c = alike-done c.min-n.ensures c.loop-i.invariant c.loop-i-test.false

@@ -1,14 +1,11 @@
-use Rattle.lists.proofs.Firsts.{searching, searched, search_ends, search_next}
+use Rattle.std.proofs.Common.{◌∙◌, ◌==◌, rules, tests}
+use Rattle.std.proofs.lemmas.Iterator.{YieldsList-from_slice}
+use Rattle.std.proofs.lemmas.Iterator.Search.{position_from_yields_List}
+use Rattle.lists.proofs.Firsts.{found_or}
 use Rattle.lists.proofs.first_u32.Goals as goal
 
-pub loop-i-init : goal.loop-i-init
-loop-i-init c = searching _ _
-
-pub returns-then-s-i : goal.returns-then-s-i
-returns-then-s-i c = search_ends c.loop-i.invariant c.loop-i-test.true c.if-s-i.true
-
-pub loop-i-preserved : goal.loop-i-preserved
-loop-i-preserved c = search_next c.loop-i.invariant c.loop-i-test.true c.if-s-i.false
-
 pub returns : goal.returns
-returns c = searched c.loop-i.invariant c.loop-i-test.false
+returns c =
+    c.unwrap_or.ensures
+    ∙ found_or c.args.v c.args.s.now c.position.result
+    (position_from_yields_List (λ x. x == c.args.v) _ _ c.position.result c.position.ensures.ran (YieldsList-from_slice c.args.s.now cc) (λ x b q k. search (rules, tests)))

@@ -12,13 +12,13 @@ pub returns-then-n-lt4 : goal.returns-then-n-lt4
 returns-then-n-lt4 c =
     let p = c.before.before in
     let a = p.args in
-    p.put_little_endian.ensures ∙ ap (λ (n : ℕ). sets a.bytes.now a.at (bytes_of 4 n)) p.long.ensures
+    p.put_little_endian.ensures ∙ ap (λ (n : ℕ). sets a.bytes.now a.at (bytes_of 4 n)) p.from.ensures
 
 pub returns-then-n-at : goal.returns-then-n-at
 returns-then-n-at c =
     let p = c.before.before in
     let a = p.args in
-    p.put_little_endian-then-n-at.ensures ∙ ap (λ (n : ℕ). sets a.bytes.now a.at (bytes_of 4 n)) p.long-then-n-at.ensures
+    p.put_little_endian-then-n-at.ensures ∙ ap (λ (n : ℕ). sets a.bytes.now a.at (bytes_of 4 n)) p.from-then-n-at.ensures
 
 -- the four places are there
 room : (c : Else-n-at) → c.args.at + 3 < length c.args.bytes.now

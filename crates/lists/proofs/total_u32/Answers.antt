@@ -1,33 +1,25 @@
-use mathlib.Core.Path.{◌≡◌, sym, ap, ◌∙◌}
-use Prim.Native.Nat.{ℕ, ◌+◌, ◌^◌, min}
-use native.Mathlib.Nat.{le_antisymm}
-use native.Mathlib.Omega.{arith}
-use borrow.Author.Rules.{rules}
-use lib.ListN.{length, take, get_or}
+use Rattle.std.proofs.Common.{◌≡◌, refl, sym, ap, ◌∙◌, ℕ, ◌+◌, ◌^◌, min, length, take, get_or, arith}
+use Rattle.std.proofs.Math.Seq.{length-take-le, take_all, get_or-take}
 use Rattle.lists.specs.Totals.{total}
 use Rattle.lists.proofs.Sums.{total-more}
 use Rattle.lists.proofs.Parts.{take_min}
 use Rattle.lists.proofs.total_u32.Goals as goal
 
-pub loop-i-init : goal.loop-i-init
+pub loop-x-init : goal.loop-x-init
 unfolding total
-loop-i-init c = search rules
+loop-x-init c = (refl, omega arith)
 
-pub overflow_cast-sum : goal.overflow_cast-sum
-overflow_cast-sum c = omega (arith, c.shared_slice_known-in-loop-i-1.given c.loop-i.i)
-
-pub overflow_add-sum : goal.overflow_add-sum
-overflow_add-sum c = omega (arith, c.least-end.ensures, c.shared_slice_known-in-loop-i-1.given c.loop-i.i)
-
-pub loop-i-preserved : goal.loop-i-preserved
-loop-i-preserved c =
-    let l = c.loop-i in
+pub loop-x-preserved : goal.loop-x-preserved
+loop-x-preserved c =
+    let l = c.loop-x in
     let s = c.args.s.now in
-    (omega arith, ap (λ (k : ℕ). k + get_or s l.i 0) l.invariant.1 ∙ sym (total-more s l.i (omega (arith, c.least-end.ensures))), omega (arith, c.shared_slice_known-in-loop-i-1.given l.i))
+    let k : length (take c.min.result s) ≡ c.min.result = length-take-le c.min.result s (omega (arith, c.min.ensures)) in
+    let x : c.from-sum.result ≡ get_or s l.x-index 0 = c.from-sum.ensures ∙ get_or-take c.min.result s l.x-index 0 (omega (arith, c.loop-x-test.true)) in
+    (ap (λ (n : ℕ). n + c.from-sum.result) l.invariant.0 ∙ rw c.from-sum.ensures (sym (total-more (take c.min.result s) l.x-index c.loop-x-test.true)), omega (arith, l.invariant.1, c.type_inv.s l.x-index))
 
 pub returns : goal.returns
 returns c =
-    let l = c.loop-i in
+    let l = c.loop-x in
     let s = c.args.s.now in
-    let e : l.i ≡ min (2 ^ 32) (length s) = le_antisymm (omega (arith, l.invariant.0, c.least-end.ensures)) (omega (arith, c.loop-i-test.false, c.least-end.ensures)) in
-    l.invariant.1 ∙ ap (λ (k : ℕ). total (take k s)) e ∙ ap total (take_min (2 ^ 32) s)
+    let e : c.min.result ≡ min (2 ^ 32) (length s) = omega (arith, c.min.ensures) in
+    l.invariant.0 ∙ ap total (take_all l.x-index (take c.min.result s) c.loop-x-test.false ∙ ap (λ (k : ℕ). take k s) e ∙ take_min (2 ^ 32) s)

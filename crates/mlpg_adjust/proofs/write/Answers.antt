@@ -12,11 +12,11 @@ use Rattle.mlpg_adjust.proofs.write.Goals.{After-total_u32-frames}
 
 -- so many frames, and the room for them
 module _ (c : After-total_u32-frames) where
-  count : c.total_u32-frames.result ≡ total c.args.durations.now
+  count : c.total_u32-frames.result ≡ total c.args.inputs.durations.now
   count = frames_are _ _ c.total_u32-frames.ensures c.requires.0.few
 
-  room : let a = c.args in Room a.stream.v c.total_u32-frames.result (lengths_of a.records.now a.gv.now a.switches.now a.out.now a.work.now a.marks.now)
-  room = let a = c.args in subst (λ (frames : ℕ). Room a.stream.v frames (lengths_of a.records.now a.gv.now a.switches.now a.out.now a.work.now a.marks.now)) (sym count) c.requires.2
+  room : let a = c.args in Room a.stream.v c.total_u32-frames.result (lengths_of a.inputs.records.now a.inputs.gv.now a.inputs.switches.now a.out.now a.work.now a.marks.now)
+  room = let a = c.args in subst (λ (frames : ℕ). Room a.stream.v frames (lengths_of a.inputs.records.now a.inputs.gv.now a.inputs.switches.now a.out.now a.work.now a.marks.now)) (sym count) c.requires.2
 
   few : c.total_u32-frames.result ≤ 65536
   few = rw count c.requires.0.frames
@@ -31,9 +31,9 @@ returns c =
     let k = c.render in
     let a = c.args in
     let r = room (goal.at.returns c).After-total_u32-frames in (
-      numbers-written a.stream a.widths.now a.coefficients.now a.records.now a.durations.now a.gv.now a.switches.now c.total_u32-frames.result k.new.out a.out.now (count (goal.at.returns c).After-total_u32-frames) k.ensures,
-      zeroed _ _ _ k.new.work a.work.now _ (ap (λ (n : ℕ). n * 48) (count (goal.at.returns c).After-total_u32-frames)) (k.auto.work ∙ length-take-le _ _ r.floats) r.floats c.fill_f64.ensures,
-      zeroed _ _ _ k.new.marks a.marks.now _ (ap (λ (n : ℕ). n * 4) (count (goal.at.returns c).After-total_u32-frames)) (k.auto.marks ∙ length-take-le _ _ r.counts) r.counts c.fill_u32.ensures,
+      numbers-written a.stream a.inputs.widths.now a.inputs.coefficients.now a.inputs.records.now a.inputs.durations.now a.inputs.gv.now a.inputs.switches.now c.total_u32-frames.result k.new.out a.out.now (count (goal.at.returns c).After-total_u32-frames) k.ensures,
+      zeroed _ _ _ k.new.work a.work.now _ (ap (λ (n : ℕ). n * 48) (count (goal.at.returns c).After-total_u32-frames)) (k.auto.work ∙ length-take-le _ _ r.floats) r.floats c.fill.ensures,
+      zeroed _ _ _ k.new.marks a.marks.now _ (ap (λ (n : ℕ). n * 4) (count (goal.at.returns c).After-total_u32-frames)) (k.auto.marks ∙ length-take-le _ _ r.counts) r.counts c.fill-2.ensures,
     )
 
 pub overflow_mul-numbers : goal.overflow_mul-numbers

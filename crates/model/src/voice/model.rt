@@ -7,9 +7,10 @@ ghost use Rattle.model.specs.Mixing.{more_by, over_shorter};
 ghost use Rattle.model.specs.Promise.{MulSays, MulAddSays};
 
 use crate::mean_vari::{Clamp, MeanVari};
+use lists::Refusal;
 
 // A voicing weight.
-#[derive(Clone, Copy)]
+#[derive(Clone, Copy, Debug, PartialEq)]
 pub enum Weight {
     Given(f64),
     Absent,
@@ -22,7 +23,7 @@ impl Weight {
     {
         match self {
             Weight::Given(weight) => weight,
-            Weight::Absent => 1.797_693_134_862_315_7e308,
+            Weight::Absent => f64::MAX,
         }
     }
 
@@ -33,20 +34,6 @@ impl Weight {
     }
 }
 
-// A pair that was asked for by its number.
-#[derive(Clone, Copy)]
-pub enum Found {
-    At(MeanVari),
-    Missing,
-}
-
-// How a call that writes a record ends: 6 is the number of the second.
-#[derive(Clone, Copy)]
-pub enum Mixed {
-    Done,
-    TooShort,
-}
-
 pub fn pair_number(v: u32, window: u32, component: u32) -> usize
     ensures { result ≡ pair_number v window component }
 {
@@ -54,16 +41,17 @@ pub fn pair_number(v: u32, window: u32, component: u32) -> usize
 }
 
 // The pair of a number: its mean stands among the first half, its variance in the same place of the second.
-pub fn parameter(lin: &[f64], number: usize) -> Found
+#[tactic(auto, using(crate::proofs::Records::pair_found, crate::proofs::Records::pair_missing))]
+pub fn parameter(lin: &[f64], number: usize) -> Option<MeanVari>
     ensures { result ≡ pair_at (from_linear lin.now).parameters number }
 {
     let pairs = lin.len() / 2;
     if number < pairs {
         let mean = lin[number];
         let vari = lin[pairs + number];
-        return Found::At(MeanVari::new(mean, vari));
+        return Some(MeanVari::new(mean, vari));
     }
-    Found::Missing
+    None
 }
 
 // The weight, which a record of odd length has.
@@ -77,7 +65,7 @@ pub fn msd(lin: &[f64]) -> Weight
 }
 
 // How many variances are clamped high, and how many low.
-#[derive(Clone, Copy)]
+#[derive(Clone, Copy, Debug, PartialEq, Eq)]
 pub struct Clamps {
     pub high: usize,
     pub low: usize,
@@ -100,11 +88,8 @@ fn all_between(varis: &[f64]) -> bool
     ensures { result ≡ true → clamps_in varis.now ≡ record { high = 0; low = 0 } }
 {
     let mut between = true;
-    let mut i = 0;
-    while i < varis.len() {
-        let vari = varis[i];
-        between = between & (vari > 1e-19) & (vari < 1e19);
-        i += 1;
+    for vari in varis {
+        between = between & (*vari > 1e-19) & (*vari < 1e19);
     }
     between
 }
@@ -114,29 +99,25 @@ fn count_clamped(varis: &[f64]) -> Clamps
 {
     let mut high = 0;
     let mut low = 0;
-    let mut i = 0;
-    while i < varis.len() {
-        let clamp = Clamp::of(varis[i]);
+    for vari in varis {
+        let clamp = Clamp::of(*vari);
         high += clamp.high();
         low += clamp.low();
-        i += 1;
     }
     Clamps { high, low }
 }
 
 // Every number of a record times the weight, over the first numbers of out; what is beyond stays.
-pub fn mul(lin: &[f64], weight: f64, out: &mut [f64]) -> Mixed
+pub fn mul(lin: &[f64], weight: f64, out: &mut [f64]) -> Result<(), Refusal>
     ensures { MulSays lin.now weight out.old result out.new }
 {
     if out.len() < lin.len() {
-        return Mixed::TooShort;
+        return Err(Refusal::TooLittleRoom);
     }
-    let mut i = 0;
-    while i < lin.len() {
-        out[i] = floats::one_nan(lin[i] * weight);
-        i += 1;
+    for (i, x) in lin.iter().enumerate() {
+        out[i] = floats::one_nan(*x * weight);
     }
-    Mixed::Done
+    Ok(())
 }
 
 // The weight times rhs, added to lhs: means to means, variances to variances, weight to weight, each as far as both have them.
@@ -157,10 +138,7 @@ pub fn mul_add_assign(lhs: &mut [f64], weight: f64, rhs: &[f64])
 fn add_scaled(lhs: &mut [f64], weight: f64, rhs: &[f64])
     ensures { lhs.new ≡ over_shorter (more_by weight) lhs.old rhs.now }
 {
-    let end = lists::least(lhs.len(), rhs.len());
-    let mut i = 0;
-    while i < end {
+    for i in 0..lhs.len().min(rhs.len()) {
         lhs[i] = floats::one_nan(lhs[i] + weight * rhs[i]);
-        i += 1;
     }
 }

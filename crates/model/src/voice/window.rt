@@ -1,26 +1,31 @@
 // Window sets: how long each window is, and the coefficients in one list, window after window.
 // A set has four windows at most, so the answers on one window look at the first four widths.
 ghost use Rattle.std.specs.Prelude.{◌≡◌, take};
+ghost use Rattle.lists.specs.Ends.{refused};
 ghost use Rattle.lists.specs.Parts.{PartSays};
-ghost use Rattle.model.specs.Windows.{between, all_of, finite, widths_fit, all_finite, window_refusal, longest, max_width, band_width, left_width, right_width, width_of, window_start};
+ghost use Rattle.model.specs.Windows.{between, all_of, widths_fit, all_finite, window_refusal, longest, max_width, band_width, left_width, right_width, width_of, window_start};
 
-// Why a set is refused, and 0 where it isn't.
-pub fn refusal(widths: &[u32], coefficients: &[f64]) -> u8
-    ensures { result ≡ window_refusal widths.now coefficients.now }
+use lists::Refusal;
+
+// Whether a set is accepted, or why not.
+#[tactic(auto, unfolding(crate::specs::Windows::window_refusal))]
+pub fn check(widths: &[u32], coefficients: &[f64]) -> Result<(), Refusal>
+    ensures { refused result ≡ window_refusal widths.now coefficients.now }
 {
     if !widths_fit(widths) {
-        return 1;
+        return Err(Refusal::BadWindows);
     }
     if !all_finite(coefficients) {
-        return 2;
+        return Err(Refusal::BadCoefficient);
     }
     if lists::total_u32(widths) != coefficients.len() as u64 {
-        return 4;
+        return Err(Refusal::ListsDisagree);
     }
-    0
+    Ok(())
 }
 
 // Whether there are 1 to 4 windows, each 1 to 15 long.
+#[tactic(auto, unfolding(crate::specs::Windows::widths_fit))]
 pub fn widths_fit(widths: &[u32]) -> bool
     ensures { result ≡ widths_fit widths.now }
 {
@@ -33,47 +38,22 @@ pub fn widths_fit(widths: &[u32]) -> bool
 fn each_width_fits(widths: &[u32]) -> bool
     ensures { result ≡ all_of (between 1 15) widths.now }
 {
-    let mut i = 0;
-    while i < widths.len() {
-        if !is_between(1, 15, lists::wide(widths[i])) {
-            return false;
-        }
-        i += 1;
-    }
-    true
+    widths
+        .iter()
+        .all(|width| is_between(1, 15, *width as usize))
 }
 
 fn is_between(low: usize, high: usize, n: usize) -> bool
     ensures { result ≡ between low high n }
 {
-    if n < low {
-        return false;
-    }
-    n <= high
+    (low <= n) & (n <= high)
 }
 
 // Whether no coefficient is infinite or NaN.
 pub fn all_finite(coefficients: &[f64]) -> bool
     ensures { result ≡ all_finite coefficients.now }
 {
-    let mut i = 0;
-    while i < coefficients.len() {
-        if !is_finite(coefficients[i]) {
-            return false;
-        }
-        i += 1;
-    }
-    true
-}
-
-fn is_finite(x: f64) -> bool
-    ensures { result ≡ finite x }
-{
-    let infinite = 1.0 / 0.0;
-    if x < infinite {
-        return x > -infinite;
-    }
-    false
+    coefficients.iter().all(|x| x.is_finite())
 }
 
 // The longest window's length.
@@ -81,10 +61,8 @@ fn longest_of(widths: &[u32]) -> usize
     ensures { result ≡ longest widths.now }
 {
     let mut found = 0;
-    let mut i = 0;
-    while i < widths.len() {
-        found = lists::larger(found, lists::wide(widths[i]));
-        i += 1;
+    for width in widths {
+        found = found.max(*width as usize);
     }
     found
 }
@@ -124,8 +102,8 @@ pub fn right_width(width: usize) -> usize
 pub fn width(widths: &[u32], i: usize) -> usize
     ensures { result ≡ width_of (take 4 widths.now) i }
 {
-    if i < lists::least(4, widths.len()) {
-        return lists::wide(widths[i]);
+    if i < widths.len().min(4) {
+        return widths[i] as usize;
     }
     0
 }
@@ -134,7 +112,7 @@ pub fn width(widths: &[u32], i: usize) -> usize
 pub fn start(widths: &[u32], i: usize) -> usize
     ensures { result ≡ window_start (take 4 widths.now) i }
 {
-    let before = lists::least(lists::least(i, 4), widths.len());
+    let before = i.min(4).min(widths.len());
     lists::total_u32(&widths[..before]) as usize
 }
 
@@ -142,5 +120,5 @@ pub fn start(widths: &[u32], i: usize) -> usize
 pub fn coefficients_of<'a>(widths: &[u32], coefficients: &'a [f64], i: usize) -> &'a [f64]
     ensures { PartSays 8 coefficients.entry (window_start (take 4 widths.now) i) (width_of (take 4 widths.now) i) result }
 {
-    lists::part_f64(coefficients, start(widths, i), width(widths, i))
+    lists::part(coefficients, start(widths, i), width(widths, i))
 }

@@ -1,5 +1,5 @@
 -- What a pass over words knows, and finds.
-use Rattle.std.specs.Prelude.{◌≡◌, List, ℕ, ◌*◌, ◌≤◌, ◌<◌, length}
+use Rattle.std.specs.Prelude.{◌≡◌, Option, Some, None, List, ℕ, ◌*◌, ◌≤◌, ◌<◌, length}
 use Rattle.lists.specs.Sizes.{most_states, most_label_states, most_frames, most_words}
 use Rattle.lists.specs.Totals.{total}
 use Rattle.read_along.specs.declared.Start.{Start}
@@ -17,8 +17,7 @@ pub record Timed (words : List ℕ) (nstate : ℕ) (durations : List ℕ) : Type
   pub states : length durations ≤ most_states
   pub short : total durations ≤ most_frames
 
--- a word that sounds at a frame, or the number of words where the frame is past the end
-pub record FoundAt (words : List ℕ) (nstate : ℕ) (durations : List ℕ) (frame r : ℕ) : Type 0 where
-  pub within : r ≤ length words
-  pub sounds : r < length words → Sounds frame (span_of words nstate durations r)
-  pub past : r ≡ length words → total durations ≤ frame
+-- a word that sounds at a frame, or none where the frame is past the end
+abbrev pub FoundAt : List ℕ → ℕ → List ℕ → ℕ → Option ℕ → Type 0
+FoundAt words nstate durations frame (Some r) = (r < length words) × Sounds frame (span_of words nstate durations r)
+FoundAt words nstate durations frame None = total durations ≤ frame

@@ -1,5 +1,5 @@
 -- How runs are found, state by state.
-use Rattle.std.specs.Prelude.{◌≡◌, Bool, true, false, cond, not, List, [], ◌∷◌, ◌++◌, ℕ, zero, suc, ◌-◌, ◌*◌, ◌≤◌, ◌<◌, ltb, eqb, length, take, drop, replicate, Float}
+use Rattle.std.specs.Prelude.{◌≡◌, Option, Bool, true, false, cond, not, List, [], ◌∷◌, ◌++◌, ℕ, zero, suc, ◌-◌, ◌*◌, ◌≤◌, ◌<◌, ltb, eqb, length, take, drop, replicate, Float}
 use Rattle.lists.specs.Sizes.{most_frames}
 use Rattle.lists.specs.Totals.{total}
 use Rattle.lists.specs.Refusals.{or_else}
@@ -10,7 +10,6 @@ use Rattle.mlpg_adjust.specs.Trajectory.{gv_on, state_size}
 use Rattle.mlpg_adjust.specs.Promise.{floats_a_frame, marks_a_frame}
 use Rattle.mlpg_adjust.specs.Inner.Groups.{Shaped}
 use Rattle.mlpg_adjust.specs.declared.Stream.{Stream}
-use Rattle.mlpg_adjust.specs.declared.GlobalVariance.{GlobalVariance}
 use Rattle.runs.specs.declared.Run.{Run}
 use Rattle.runs.specs.declared.finding.Place.{Place}
 use Rattle.runs.specs.declared.finding.Found.{Found}
@@ -63,7 +62,7 @@ pub record FoundAt (ds : List ℕ) (mask : List Bool) (f : Found) : Type 0 where
   pub rest : drop f.number (runs_of mask) ≡ run_then f.begin.frame (f.end.frame - f.begin.frame) (runs_from false f.end.frame (drop f.end.frame mask))
 
 -- 20, 21 and 22, of a run of so many frames
-abbrev pub stays_refusal : GlobalVariance → ℕ → List ℕ → ℕ
+abbrev pub stays_refusal : Option Float → ℕ → List ℕ → ℕ
 stays_refusal gv frames widths = or_else (cond (gv_on gv) 20 0) (or_else (cond (eqb frames 0) 21 0) (cond (ltb 1 (width_of widths 0)) 22 0))
 
 -- and 6 before them

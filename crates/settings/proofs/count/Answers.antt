@@ -1,15 +1,9 @@
-use mathlib.Core.Path.{sym}
 use native.Mathlib.Omega.{arith}
-use lib.Seq.{length-take-le}
-use Rattle.lists.specs.Sizes.{most_voices}
 use Rattle.settings.proofs.Holding.{held-few, count-short, count-done}
 use Rattle.settings.proofs.count.Goals as goal
 
 pub returns-then-voices-lt-PLACES : goal.returns-then-voices-lt-PLACES
 returns-then-voices-lt-PLACES c = count-short c.args.voices.now c.if-voices-lt-PLACES.true
-
-pub slice_bounds-held-end : goal.slice_bounds-held-end
-slice_bounds-held-end c = sym (length-take-le most_voices c.args.voices.now c.if-voices-lt-PLACES.false)
 
 pub returns : goal.returns
 returns c = count-done c.args.voices.now _ c.if-voices-lt-PLACES.false c.held.ensures

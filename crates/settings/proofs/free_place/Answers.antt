@@ -1,4 +1,5 @@
 use mathlib.Core.Path.{sym, ◌∙◌}
+use native.Mathlib.Omega.{arith}
 use borrow.Author.Tests.{not-true, not-false}
 use Rattle.settings.proofs.Places.{looking, none_free, free-here, look_next}
 use Rattle.std.proofs.Common.{ap}
@@ -9,10 +10,10 @@ pub loop-free-init : goal.loop-free-init
 loop-free-init c = looking _
 
 pub returns-then-not-holds : goal.returns-then-not-holds
-returns-then-not-holds c = free-here c.loop-free.invariant c.loop-free-test.true (sym c.holds.ensures ∙ not-true _ (ap not c.if-not-holds.true))
+returns-then-not-holds c = (free-here c.loop-free.invariant (omega arith) (sym c.holds.ensures ∙ not-true _ (ap not c.if-not-holds.true)), omega arith)
 
 pub loop-free-preserved : goal.loop-free-preserved
-loop-free-preserved c = look_next c.loop-free.invariant c.loop-free-test.true (sym c.holds.ensures ∙ not-false _ (ap not c.if-not-holds.false))
+loop-free-preserved c = look_next c.loop-free.invariant (omega arith) (sym c.holds.ensures ∙ not-false _ (ap not c.if-not-holds.false))
 
 pub returns : goal.returns
-returns c = none_free c.loop-free.invariant c.loop-free-test.false
+returns c = omega (arith, none_free c.loop-free.invariant (omega arith))

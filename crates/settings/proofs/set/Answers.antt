@@ -1,46 +1,52 @@
-use mathlib.Core.Path.{sym}
+use mathlib.Core.Path.{◌≡◌, sym}
 use Prim.Native.Nat.{◌≤◌, ◌<◌}
 use native.Mathlib.Omega.{arith}
-use lib.ListN.{length}
+use lib.ListN.{length, take}
 use lib.Seq.{length-take-le}
+use Rattle.std.proofs.lemmas.Result.{err_from_is_err_and}
 use Rattle.lists.specs.Sizes.{most_voices}
+use Rattle.lists.specs.declared.Refusal.TheVariants.{StoreFull}
 use Rattle.settings.specs.Store.{store_settings}
+use Rattle.settings.specs.Changes.{place_for}
+use Rattle.settings.proofs.Refusing.{missing}
+use Rattle.settings.proofs.Places.{place-there, none-there}
 use Rattle.settings.proofs.Changing.{places, set-refused, set_full, set-within, set-done}
 use Rattle.settings.proofs.set.Goals as goal
-use Rattle.settings.proofs.set.Goals.{Else-number-ne0, Else-place-eq-PLACES}
+use Rattle.settings.proofs.set.Goals.{In_ok-check_voice, In_ok-place}
 
-pub returns-then-number-ne0 : goal.returns-then-number-ne0
-returns-then-number-ne0 c = set-refused _ _ _ _ c.voice_refusal-number.ensures _ c.if-number-ne0.true
+pub returns-in_err-check_voice : goal.returns-in_err-check_voice
+returns-in_err-check_voice c = let p = err_from_is_err_and c.from_residual.result c.from_residual.ensures.1 in rw (p.1, p.2) (set-refused _ _ _ _ c.in_err-check_voice.ensures _)
 
 -- the store has its places
-enough : (c : Else-number-ne0) → (most_voices ≤ length c.args.voices.now) × (store_settings ≤ length c.args.settings.now)
-enough c = let a = c.args in places a.voice c.voice_refusal-number.result a.voices.now a.settings.now c.voice_refusal-number.ensures c.if-number-ne0.false
-
-pub slice_bounds-place_for-end : goal.slice_bounds-place_for-end
-slice_bounds-place_for-end c = (enough (goal.at.slice_bounds-place_for-end c).Else-number-ne0).0
+enough : (c : In_ok-check_voice) → (most_voices ≤ length c.args.voices.now) × (store_settings ≤ length c.args.settings.now)
+enough c = places c.args.voice _ _ c.in_ok-check_voice.ensures
 
 pub slice_bounds-place_for-end-2 : goal.slice_bounds-place_for-end-2
-slice_bounds-place_for-end-2 c = sym (length-take-le most_voices c.args.voices.now (enough (goal.at.slice_bounds-place_for-end-2 c).Else-number-ne0).0)
+slice_bounds-place_for-end-2 c = sym (length-take-le _ _ (enough (goal.at.slice_bounds-place_for-end-2 c).In_ok-check_voice).0)
 
-pub returns-then-place-eq-PLACES : goal.returns-then-place-eq-PLACES
-returns-then-place-eq-PLACES c = set_full _ _ _ _ c.voice_refusal-number.ensures c.if-number-ne0.false _ c.place_for-place.ensures _ c.if-place-eq-PLACES.true
+pub returns-in_err-place : goal.returns-in_err-place
+returns-in_err-place c =
+    let p = err_from_is_err_and c.from_residual-in_err-place.result c.from_residual-in_err-place.ensures.1 in
+    let f = c.in_err-place.ensures in
+    rw (p.1, p.2, missing c.place_for.result _ StoreFull f.value f.ok_part) (set_full _ _ _ c.in_ok-check_voice.ensures _ (none-there c.place_for.result _ _ f.ok_part c.place_for.ensures))
 
 -- the place is one of the store's
-within : (c : Else-place-eq-PLACES) → c.place_for-place.result < most_voices
-within c =
-    let a = c.args in
-    set-within a.voice _ a.voices.now a.settings.now c.voice_refusal-number.ensures c.if-number-ne0.false _ c.place_for-place.ensures a.given c.if-place-eq-PLACES.false
+found : (c : In_ok-place) → let vs = take most_voices c.args.voices.now in (c.in_ok-place.place ≡ place_for c.args.voice vs) × (c.in_ok-place.place < length vs)
+found c = place-there c.place_for.result _ _ _ c.in_ok-place.ensures.ok_part c.place_for.ensures
+
+within : (c : In_ok-place) → c.in_ok-place.place < most_voices
+within c = set-within _ _ _ c.in_ok-check_voice.ensures _ (found c).0 (found c).1
 
 pub bounds-voices-place : goal.bounds-voices-place
-bounds-voices-place c = omega (arith, within (goal.at.bounds-voices-place c).Else-place-eq-PLACES, (enough (goal.at.bounds-voices-place c).Else-number-ne0).0)
+bounds-voices-place c = omega (arith, within (goal.at.bounds-voices-place c).In_ok-place, (enough (goal.at.bounds-voices-place c).In_ok-check_voice).0)
+
+pub offset_bounds-voices-place : goal.offset_bounds-voices-place
+offset_bounds-voices-place c = record { fits = omega (arith, within (goal.at.offset_bounds-voices-place c).In_ok-place) }
 
 pub put_settings-requires : goal.put_settings-requires
 put_settings-requires c =
-    (omega (arith, within (goal.at.put_settings-requires c).Else-place-eq-PLACES, (enough (goal.at.put_settings-requires c).Else-number-ne0).1), within (goal.at.put_settings-requires c).Else-place-eq-PLACES)
+    let h = within (goal.at.put_settings-requires c).In_ok-place in
+    (omega (arith, h, (enough (goal.at.put_settings-requires c).In_ok-check_voice).1), h)
 
 pub returns : goal.returns
-returns c =
-    set-done _ _ _ _ c.voice_refusal-number.ensures c.if-number-ne0.false _ c.place_for-place.ensures _ _ c.if-place-eq-PLACES.false c.put_settings.ensures
-
-pub offset_bounds-voices-place : goal.offset_bounds-voices-place
-offset_bounds-voices-place c = record { fits = omega (arith, within (goal.at.offset_bounds-voices-place c).Else-place-eq-PLACES) }
+returns c = let f = found (goal.at.returns c).In_ok-place in set-done _ _ _ c.in_ok-check_voice.ensures _ f.0 f.1 _ _ c.put_settings.ensures

@@ -5,6 +5,9 @@ use Rattle.lists.specs.Totals.{total}
 use Rattle.lists.proofs.Numbers.{le_or_lt}
 use Rattle.lists.specs.Refusals.{or_else}
 use Rattle.lists.proofs.Refusals.{or_first}
+use Rattle.lists.specs.declared.Refusal.{Refusal}
+use Rattle.lists.specs.Refusals.{number_of}
+use Rattle.lists.proofs.Ends.{stops}
 use Rattle.lists.specs.Sizes.{outside}
 use Rattle.spool.specs.Refusal.{states_refusal, counts_refusal, frames_refusal, shape_refusal, durations_refusal, trajectory_refusal}
 
@@ -36,6 +39,10 @@ module _ (states v : ℕ) where
 -- ---- the first of the numbers that is given
 
 module _ (ds : List ℕ) where
+  pub durations_stop : (e : Refusal) → number_of e ≡ states_refusal (length ds) → number_of e ≡ durations_refusal ds
+  unfolding durations_refusal
+  durations_stop e q = stops e (states_refusal (length ds)) _ q
+
   pub durations-first : (states_refusal (length ds) ≡ 0 → ⊥) → durations_refusal ds ≡ states_refusal (length ds)
   unfolding durations_refusal
   durations-first z = or_first (states_refusal (length ds)) _ z
@@ -45,6 +52,10 @@ module _ (ds : List ℕ) where
   durations_then e = rw e
 
 module _ (numbers : ℕ) (ds : List ℕ) (v : ℕ) where
+  pub trajectory_stop : (e : Refusal) → number_of e ≡ counts_refusal (length ds) v → number_of e ≡ trajectory_refusal numbers ds v
+  unfolding trajectory_refusal
+  trajectory_stop e q = stops e (counts_refusal (length ds) v) _ q
+
   pub trajectory-first : (counts_refusal (length ds) v ≡ 0 → ⊥) → trajectory_refusal numbers ds v ≡ counts_refusal (length ds) v
   unfolding trajectory_refusal
   trajectory-first z = or_first (counts_refusal (length ds) v) _ z

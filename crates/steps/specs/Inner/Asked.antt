@@ -1,5 +1,5 @@
 -- What the crate's own functions ask of each other and give. The call's promise names none of it.
-use Rattle.std.specs.Prelude.{◌≡◌, Bool, true, false, List, ℕ, ◌≤◌, ◌<◌, length, get_or, set, Float}
+use Rattle.std.specs.Prelude.{◌≡◌, Bool, true, false, List, Option, MatchOption, ℕ, ◌≤◌, ◌<◌, length, get_or, set, Float}
 use Rattle.lists.specs.Sizes.{most_frames, most_states}
 use Rattle.lists.specs.Totals.{total}
 use Rattle.steps.specs.Steps.{States, size, least, step}
@@ -35,6 +35,10 @@ pub record Aim (ss : States) (ds : List ℕ) (sum target : ℕ) : Type 0 where
 -- no other state is above its shortest
 abbrev pub Lone : List ℕ → List ℕ → ℕ → Type 0
 Lone ls ds p = (j : ℕ) → (j ≡ p → ⊥) → get_or ds j 0 ≤ get_or ls j 0
+
+-- where such a state was found, it is one of them
+abbrev pub FoundLone : List ℕ → List ℕ → Option ℕ → Type 0
+FoundLone ls ds r = MatchOption r (Unit {0}) (λ (p : ℕ). (p < length ds) × Lone ls ds p)
 
 -- a duration or a node's place stored in a packed list, with all else as it was
 pub record PutsDuration (w : List ℕ) (p d : ℕ) (w' : List ℕ) : Type 0 where

@@ -35,9 +35,8 @@ pub record Switched (ds : List ℕ) (states : ℕ) (flags : List ℕ) : Type 0 w
   pub each : states ≡ length ds
   pub room : total ds + count (mask_in ds flags) ≤ length flags
 
--- there are flags for all frames, as many are voiced as the layout says, the components are some of v, and their regions lie within so many floats
+-- as many frames are voiced as the layout says, the components are some of v, and their regions lie within so many floats
 pub record Grouped (ds flags : List ℕ) (g : Layout) (c : Group) (floats : ℕ) : Type 0 where
-  pub framed : Flagged ds (length flags)
   pub voiced : count (mask_in ds flags) ≡ g.n
   pub most_v : c.v ≤ 64
   pub some : c.first + c.lanes ≤ c.v

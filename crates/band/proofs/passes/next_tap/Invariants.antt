@@ -1,7 +1,6 @@
 use mathlib.Core.Path.{◌≡◌}
 use mathlib.Core.Bool.{true}
-use Prim.Native.Nat.{ℕ, ◌-◌, ◌<◌, ◌≤◌}
-use lib.ListN.{length}
+use Prim.Native.Nat.{ℕ, ◌<◌, ◌≤◌}
 use lib.Ieee.{eq}
 use Rattle.floats.specs.Numbers.{nought}
 use Rattle.region.specs.Rows.{elem}
@@ -9,7 +8,4 @@ use Rattle.band.proofs.passes.next_tap.Given as goal
 
 -- all before place i are zero
 abbrev pub invariant-loop-i : goal.invariant-loop-i
-invariant-loop-i l = (l.from ≤ l.i) × (l.i ≤ length l.taps) × ((c : ℕ) → c < l.i → l.from ≤ c → eq (elem l.taps c) nought ≡ true)
-
-abbrev pub decreases-loop-i : goal.decreases-loop-i
-decreases-loop-i l = length l.taps - l.i
+invariant-loop-i l = (c : ℕ) → c < l.i → l.from ≤ c → eq (elem l.taps c) nought ≡ true

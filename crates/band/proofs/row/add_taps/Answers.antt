@@ -10,8 +10,8 @@ loop-j-init c = search rules
 
 pub loop-j-preserved : goal.loop-j-preserved
 loop-j-preserved c = let s = c.args in
-    let l = c.loop-j in (search rules, search rules, add-next s.wu s.taps.now s.row.now l.row l.j _ (omega arith) (omega arith) l.invariant.2 c.add_tap-x.ensures)
+    let l = c.loop-j in add-next s.wu s.taps.now s.row.now l.row l.j _ (omega arith) (omega arith) l.invariant c.add_tap.ensures
 
 pub returns : goal.returns
 returns c = let s = c.args in
-    let l = c.loop-j in add_done s.wu s.taps.now s.row.now l.row l.j (omega arith) (omega arith) (omega arith) l.invariant.2
+    let l = c.loop-j in add_done s.wu s.taps.now s.row.now l.row l.j (omega arith) (omega arith) (omega arith) l.invariant

@@ -1,7 +1,6 @@
 use mathlib.Core.Path.{◌≡◌}
 use mathlib.Core.List.{◌++◌}
-use Prim.Native.Nat.{◌≤◌, ◌-◌}
-use lib.ListN.{length, get_or, drop}
+use lib.ListN.{get_or, drop}
 use Rattle.lists.specs.Build.{build}
 use Rattle.floats.specs.Numbers.{nought}
 use Rattle.region.specs.Rows.{elem}
@@ -10,7 +9,4 @@ use Rattle.band.proofs.row.add_taps.Given as goal
 
 -- j entries are done, and the rest is as it was
 abbrev pub invariant-loop-j : goal.invariant-loop-j
-invariant-loop-j l = (l.j ≤ length l.taps) × (length l.row ≡ length l.initial.row) × (l.row ≡ build (λ j. plus_term l.wu (get_or l.taps j nought) (elem l.initial.row j)) l.j ++ drop l.j l.initial.row)
-
-abbrev pub decreases-loop-j : goal.decreases-loop-j
-decreases-loop-j l = length l.taps - l.j
+invariant-loop-j l = l.row ≡ build (λ j. plus_term l.wu (get_or l.taps j nought) (elem l.initial.row j)) l.j ++ drop l.j l.initial.row

@@ -1,11 +1,6 @@
-use Prim.Native.Nat.{◌-◌}
-use lib.ListN.{length}
-use Rattle.steps.specs.Steps.{states}
+use Rattle.steps.specs.Lent.{lent}
 use Rattle.duration.proofs.Along.{Along}
 use Rattle.duration.proofs.align.fit_along.Given as goal
 
-abbrev pub invariant-loop-i : goal.invariant-loop-i
-invariant-loop-i l = Along (states l.means l.varis l.shortest) l.nstate l.ends l.initial.work l.work l.done l.first l.frames l.changes l.i
-
-abbrev pub decreases-loop-i : goal.decreases-loop-i
-decreases-loop-i l = length l.ends - l.i
+abbrev pub invariant-loop-end : goal.invariant-loop-end
+invariant-loop-end l = Along (lent l.states) l.nstate l.ends l.initial.work l.work l.done l.first l.frames l.changes l.end-index

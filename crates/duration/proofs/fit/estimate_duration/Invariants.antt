@@ -1,11 +1,6 @@
-use Prim.Native.Nat.{◌-◌}
-use lib.ListN.{length}
-use Rattle.steps.specs.Steps.{states}
+use Rattle.steps.specs.Lent.{lent}
 use Rattle.duration.proofs.Estimates.{Estimating}
 use Rattle.duration.proofs.fit.estimate_duration.Given as goal
 
 abbrev pub invariant-loop-i : goal.invariant-loop-i
-invariant-loop-i l = Estimating l.rho (states l.means l.varis l.shortest) l.initial.work l.work l.sum l.i
-
-abbrev pub decreases-loop-i : goal.decreases-loop-i
-decreases-loop-i l = length l.means - l.i
+invariant-loop-i l = Estimating l.rho (lent l.states) l.initial.work l.work l.sum l.i

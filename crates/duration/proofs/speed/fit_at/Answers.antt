@@ -1,13 +1,10 @@
-use mathlib.Core.Path.{◌≡◌, ap, ◌∙◌, subst}
-use Prim.Native.Nat.{ℕ, ◌≤◌, ◌<◌}
-use native.Mathlib.Omega.{arith}
+use Rattle.std.proofs.Common.{◌≡◌, ap, ◌∙◌, subst, ℕ, ◌≤◌, ◌<◌}
 use lib.Ieee.{binary64, div}
 use Rattle.lists.specs.Sizes.{most_frames}
 use Rattle.lists.specs.Totals.{total}
 use Rattle.floats.specs.Rounding.{rounded_of}
 use Rattle.floats.specs.Numbers.{number}
-use Rattle.floats.proofs.Casts.{exact}
-use Rattle.steps.specs.Steps.{States, states}
+use Rattle.steps.specs.Lent.{lent}
 use Rattle.duration.specs.Estimate.{naturals}
 use Rattle.duration.specs.Speed.{target_at}
 use Rattle.duration.proofs.Fits.{speed-long, speed-one, speed-other}
@@ -16,14 +13,11 @@ use Rattle.duration.proofs.speed.fit_at.Goals.{After-estimate_duration-sum}
 
 -- the estimates that stand in the work space
 module _ (c : After-estimate_duration-sum) where
-  abbrev all : States
-  all = states c.args.means.now c.args.varis.now c.args.shortest.now
-
-  natural : c.estimate_duration-sum.new.work ≡ naturals all
+  natural : c.estimate_duration-sum.new.work ≡ naturals (lent c.args.states)
   unfolding naturals
   natural = c.estimate_duration-sum.ensures.output
 
-  sum : c.estimate_duration-sum.result ≡ total (naturals all)
+  sum : c.estimate_duration-sum.result ≡ total (naturals (lent c.args.states))
   unfolding naturals
   sum = c.estimate_duration-sum.ensures.total
 
@@ -32,9 +26,6 @@ returns-then-sum-gt65536 c = speed-long _ _ _ (subst (λ (n : ℕ). most_frames 
 
 pub returns-then-speed : goal.returns-then-speed
 returns-then-speed c = speed-one _ _ _ (subst (λ (n : ℕ). n ≤ most_frames) (sum (goal.at.returns-then-speed c).After-estimate_duration-sum) c.if-sum-gt65536.false) c.if-speed.true (natural (goal.at.returns-then-speed c).After-estimate_duration-sum)
-
-pub int_to_float-sum : goal.int_to_float-sum
-int_to_float-sum c = exact _ (omega (arith, c.if-sum-gt65536.false))
 
 pub returns : goal.returns
 unfolding target_at

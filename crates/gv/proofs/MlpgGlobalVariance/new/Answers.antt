@@ -3,8 +3,8 @@ use Rattle.gv.proofs.MlpgGlobalVariance.new.Goals as goal
 
 pub returns : goal.returns
 returns c = record {
-  windows = c.small-windows.ensures;
-  width = c.small-width.ensures;
+  windows = c.from.ensures;
+  width = c.from-2.ensures;
   length = c.requires;
-  counted = record { frames = bools-length c.args.on.now; number = c.count_on-switched.ensures; begin = c.first_on-first.ensures };
+  counted = record { frames = bools-length c.args.on.now; number = c.count_on.ensures; begin = c.first_on.ensures };
 }

@@ -5,20 +5,19 @@ use lib.ListN.{length-set}
 use Rattle.lists.specs.Build.{build}
 use Rattle.lists.specs.Flags.{is_on}
 use Rattle.gv.proofs.Turns.{step-next}
-use borrow.Author.Rules.{rules}
 use Rattle.gv.proofs.MlpgGlobalVariance.next_step.Goals as goal
 
 pub loop-t-init : goal.loop-t-init
 unfolding build
-loop-t-init c = (search rules, refl, refl)
+loop-t-init c = (refl, refl)
 
 pub step_at-x-requires : goal.step_at-x-requires
-step_at-x-requires c = let q = c.requires in (rw c.loop-t.invariant.1 q.0, q.1, omega arith)
+step_at-x-requires c = let q = c.requires in (rw c.loop-t.invariant.0 q.0, q.1, omega arith)
 
 pub loop-t-preserved : goal.loop-t-preserved
 loop-t-preserved c =
     let l = c.loop-t in
-    (search rules, simp length-set l.invariant.1, step-next c.args.self c.args.p c.args.m.now c.requires.0 (map is_on c.args.on.now) c.args.s l.m l.t _ (omega arith) l.invariant.2 c.step_at-x.ensures)
+    (simp length-set l.invariant.0, step-next c.args.self c.args.p c.args.m.now c.requires.0 (map is_on c.args.on.now) c.args.s l.m l.t _ (omega arith) l.invariant.1 c.step_at-x.ensures)
 
 pub returns : goal.returns
-returns c = let e : c.loop-t.t ≡ c.args.self.length = omega arith in rw e at c.loop-t.invariant.2
+returns c = let e : c.loop-t.t ≡ c.args.self.length = omega arith in rw e at c.loop-t.invariant.1

@@ -1,6 +1,5 @@
 use mathlib.Core.Path.{◌≡◌}
 use mathlib.Core.List.{map}
-use Prim.Native.Nat.{◌-◌, ◌≤◌}
 use lib.ListN.{length}
 use lib.Seq.{sets}
 use Rattle.lists.specs.Build.{build}
@@ -9,7 +8,4 @@ use Rattle.gv.specs.Inner.Turns.{moved_in}
 use Rattle.gv.proofs.MlpgGlobalVariance.next_step.Given as goal
 
 abbrev pub invariant-loop-t : goal.invariant-loop-t
-invariant-loop-t l = (l.t ≤ l.n) × (length l.m ≡ length l.initial.m) × (l.m ≡ sets l.initial.m l.values (build (moved_in l.self l.p (map is_on l.on) l.s l.initial.m) l.t))
-
-abbrev pub decreases-loop-t : goal.decreases-loop-t
-decreases-loop-t l = l.n - l.t
+invariant-loop-t l = (length l.m ≡ length l.initial.m) × (l.m ≡ sets l.initial.m l.p.values (build (moved_in l.self l.p (map is_on l.on) l.s l.initial.m) l.t))

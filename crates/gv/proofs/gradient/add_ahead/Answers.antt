@@ -1,17 +1,12 @@
 use Prim.Native.Nat.{◌+◌}
-use native.Mathlib.Omega.{arith}
 use borrow.Author.Tests.{lt-ltb, le-ltb}
 use lib.ListN.{length}
-use Rattle.lists.proofs.Rows.{row_fits}
 use Rattle.gv.specs.Gv.{plus_right}
 use Rattle.gv.proofs.gradient.add_ahead.Goals as goal
 
-pub at-requires : goal.at-requires
-at-requires c = let s = c.args in omega (arith, row_fits s.w s.t (length s.par.now) (omega arith))
-
 pub returns-then-t-i : goal.returns-then-t-i
 unfolding plus_right
-returns-then-t-i c = let s = c.args in rw (c.at.ensures, c.el.ensures, lt-ltb (s.t + s.i) (length s.par.now) c.if-t-i.true)
+returns-then-t-i c = let s = c.args in rw (lt-ltb (s.t + s.i) (length s.par.now) c.if-t-i.true)
 
 pub returns : goal.returns
 unfolding plus_right

@@ -2,4 +2,4 @@ use mathlib.Core.Path.{refl}
 use Rattle.gv.proofs.gradient.add_row.Goals as goal
 
 pub returns : goal.returns
-returns c = (refl, rw (c.hmm_term-term.ensures, c.el.ensures, c.el-2.ensures))
+returns c = (refl, rw c.hmm_term-term.ensures)

@@ -1,7 +1,7 @@
 use Rattle.gv.proofs.switches.conv_at.Goals as goal
 
 pub returns-then-is_switched : goal.returns-then-is_switched
-returns-then-is_switched c = rw (← c.is_switched.ensures, c.if-is_switched.true, c.el-x.ensures)
+returns-then-is_switched c = rw (← c.is_switched.ensures, c.if-is_switched.true)
 
 pub returns : goal.returns
-returns c = rw (← c.is_switched.ensures, c.if-is_switched.false, c.el-x.ensures)
+returns c = rw (← c.is_switched.ensures, c.if-is_switched.false)

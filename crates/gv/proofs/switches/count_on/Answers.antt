@@ -1,17 +1,10 @@
-use mathlib.Core.Path.{sym, ◌∙◌}
-use native.Mathlib.Omega.{arith}
-use Rattle.gv.proofs.Switched as laws
+use mathlib.Core.Path.{◌≡◌, ◌∙◌}
+use mathlib.Core.Bool.{not}
 use borrow.Author.Rules.{rules}
+use lib.Dec.{eqb}
+use Rattle.std.specs.List.{count_by}
+use Rattle.gv.proofs.Switched.{count_is}
 use Rattle.gv.proofs.switches.count_on.Goals as goal
 
-pub loop-t-init : goal.loop-t-init
-loop-t-init c = (search rules, search rules, omega arith)
-
-pub loop-t-preserved-then-b : goal.loop-t-preserved-then-b
-loop-t-preserved-then-b c = (search rules, search rules, omega (arith, c.loop-t.invariant, laws.count-on c.args.on.now c.loop-t.t (omega arith) (sym c.is_switched-b.ensures ∙ c.if-b.true)))
-
-pub loop-t-preserved : goal.loop-t-preserved
-loop-t-preserved c = (search rules, search rules, omega (arith, c.loop-t.invariant, laws.count-off c.args.on.now c.loop-t.t (omega arith) (sym c.is_switched-b.ensures ∙ c.if-b.false)))
-
 pub returns : goal.returns
-returns c = omega (arith, c.loop-t.invariant, laws.count-end c.args.on.now c.loop-t.t (omega arith))
+returns c = let e : c.count.result ≡ count_by (λ x. not (eqb x 0)) c.args.on.now = search rules in e ∙ count_is c.args.on.now

@@ -1,17 +1,15 @@
-use mathlib.Core.Path.{sym, ◌∙◌}
-use native.Mathlib.Omega.{arith}
-use Rattle.gv.proofs.Switched as laws
+use mathlib.Core.Path.{◌≡◌, ◌∙◌}
+use mathlib.Core.Bool.{not}
 use borrow.Author.Rules.{rules}
+use lib.Dec.{eqb}
+use Rattle.std.specs.List.{position}
+use Rattle.std.proofs.lemmas.Iterator.{YieldsList-from_slice}
+use Rattle.std.proofs.lemmas.Iterator.Search.{position_from_yields_List}
+use Rattle.gv.proofs.Switched.{first_or_end}
 use Rattle.gv.proofs.switches.first_on.Goals as goal
 
-pub loop-t-init : goal.loop-t-init
-loop-t-init c = (search rules, omega arith)
-
-pub returns-then-is_switched : goal.returns-then-is_switched
-returns-then-is_switched c = omega (arith, c.loop-t.invariant, laws.first_on_lem c.args.on.now c.loop-t.t (omega arith) (sym c.is_switched.ensures ∙ c.if-is_switched.true))
-
-pub loop-t-preserved : goal.loop-t-preserved
-loop-t-preserved c = (search rules, omega (arith, c.loop-t.invariant, laws.first_off c.args.on.now c.loop-t.t (omega arith) (sym c.is_switched.ensures ∙ c.if-is_switched.false)))
-
 pub returns : goal.returns
-returns c = omega (arith, c.loop-t.invariant, laws.first-end c.args.on.now c.loop-t.t (omega arith))
+returns c =
+    let on = c.args.on.now in
+    let e : c.position.result ≡ position (λ x. not (eqb x 0)) on = position_from_yields_List (λ x. not (eqb x 0)) _ _ _ c.position.ensures.ran (YieldsList-from_slice on cc) (λ x b q k. search rules) in
+    (rw e at c.unwrap_or.ensures) ∙ first_or_end on

@@ -1,8 +1,8 @@
-use Rattle.gv.proofs.Switched.{switch_on, switch_off}
+use mathlib.Core.Path.{sym, ◌∙◌}
+use lib.ListN.{get_or-map}
+use Rattle.lists.specs.Flags.{is_on}
+use Rattle.gv.proofs.Switched.{on_is}
 use Rattle.gv.proofs.switches.is_switched.Goals as goal
 
-pub returns-then-on-t-eq0 : goal.returns-then-on-t-eq0
-returns-then-on-t-eq0 c = let s = c.args in switch_off s.on.now s.t c.if-on-t-eq0.true
-
 pub returns : goal.returns
-returns c = let s = c.args in switch_on s.on.now s.t c.if-on-t-eq0.false
+returns c = on_is _ ∙ sym (get_or-map is_on c.args.on.now c.args.t 0)

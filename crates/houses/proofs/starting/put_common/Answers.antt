@@ -1,18 +1,5 @@
-use native.Mathlib.Omega.{arith}
-use Rattle.houses.proofs.Commons.{starting, start-next, start-done, still-widths, still-coefficients}
+use Rattle.houses.proofs.Commons.{starting, start-next, start-done}
 use Rattle.houses.proofs.starting.put_common.Goals as goal
-
-pub put_row-requires : goal.put_row-requires
-put_row-requires c =
-    let l = c.loop-slot in
-    let p = c.requires in (
-      record {
-        there = c.loop-slot-test.true;
-        enough_widths = omega (arith, p.0.enough_widths, still-widths _ _ _ l.invariant);
-        enough_coefficients = omega (arith, p.0.enough_coefficients, still-coefficients _ _ _ l.invariant);
-      },
-      p.1,
-    )
 
 pub loop-slot-preserved : goal.loop-slot-preserved
 loop-slot-preserved c =
@@ -23,15 +10,3 @@ returns c = let p = c.requires.0 in start-done _ _ _ c.loop-slot.invariant p.eno
 
 pub loop-slot-init : goal.loop-slot-init
 loop-slot-init c = starting _ _ _ _ _
-
-pub overflow_add-slot : goal.overflow_add-slot
-overflow_add-slot c = record { fits = omega (arith, c.loop-slot-test.true) }
-
-pub loop-slot-smaller : goal.loop-slot-smaller
-loop-slot-smaller c = omega (arith, c.loop-slot-test.true)
-
-pub shape_of-widths : goal.shape_of-widths
-shape_of-widths c = still-widths _ _ _ c.loop-slot.invariant
-
-pub shape_of-coefficients : goal.shape_of-coefficients
-shape_of-coefficients c = still-coefficients _ _ _ c.loop-slot.invariant

@@ -1,13 +1,7 @@
-use mathlib.Core.Path.{◌≡◌}
-use Prim.Native.Nat.{◌-◌, ◌*◌}
-use lib.ListN.{length}
 use Rattle.model.specs.Clamps.{is_high, is_low}
 use Rattle.mlpg_adjust.proofs.Clamps.{Reached}
 use Rattle.mlpg_adjust.proofs.counting.of_states.Given as goal
 
 abbrev pub invariant-loop-s : goal.invariant-loop-s
 invariant-loop-s l =
-    (l.from ≡ l.s * l.u.size) × Reached is_high l.u.size l.records l.u.threshold l.durations l.s l.high × Reached is_low l.u.size l.records l.u.threshold l.durations l.s l.low
-
-abbrev pub decreases-loop-s : goal.decreases-loop-s
-decreases-loop-s l = length l.durations - l.s
+    Reached is_high l.u.size l.records l.u.threshold l.durations l.s l.high × Reached is_low l.u.size l.records l.u.threshold l.durations l.s l.low

@@ -10,6 +10,6 @@ vary-requires c =
 pub returns : goal.returns
 returns c =
     let a = c.args in
-    λ col. group_columned a.p a.widths.now a.coefficients.now a.records.now a.durations.now a.marks.now a.gv.now c.requires.0 a.c c.requires.2 c.requires.3 _ c.requires.4
-    (closed-keeps a.p.stream a.widths.now a.coefficients.now a.records.now a.durations.now a.c.first a.c.lanes) (rowed-keeps a.p.stream a.widths.now a.coefficients.now a.records.now a.durations.now a.c.first a.c.lanes) (done-keeps a.p.stream a.widths.now a.coefficients.now a.records.now a.durations.now a.c.first a.c.lanes) (target_keeps a.p.stream a.widths.now a.coefficients.now a.records.now a.durations.now a.c.first a.c.lanes a.gv.now)
+    λ col. group_columned a.p a.inputs.widths.now a.inputs.coefficients.now a.inputs.records.now a.inputs.durations.now a.marks.now a.inputs.gv.now c.requires.0 a.c c.requires.2 c.requires.3 _ c.requires.4
+    (closed-keeps a.p.stream a.inputs.widths.now a.inputs.coefficients.now a.inputs.records.now a.inputs.durations.now a.c.first a.c.lanes) (rowed-keeps a.p.stream a.inputs.widths.now a.inputs.coefficients.now a.inputs.records.now a.inputs.durations.now a.c.first a.c.lanes) (done-keeps a.p.stream a.inputs.widths.now a.inputs.coefficients.now a.inputs.records.now a.inputs.durations.now a.c.first a.c.lanes) (target_keeps a.p.stream a.inputs.widths.now a.inputs.coefficients.now a.inputs.records.now a.inputs.durations.now a.c.first a.c.lanes a.inputs.gv.now)
     _ _ _ _ c.solve_group.ensures c.vary.ensures (c.vary.auto.work ∙ c.solve_group.auto.work) c.requires.5 c.fill_back.ensures col

@@ -1,56 +1,61 @@
 use mathlib.Core.Path.{◌≡◌, refl, subst, ◌∙◌}
-use Prim.Native.Nat.{ℕ, ◌+◌, ◌*◌, ◌≤◌}
+use Prim.Native.Nat.{ℕ, ◌+◌, ◌*◌, ◌/◌, ◌≤◌, min}
 use native.Mathlib.Omega.{arith}
 use lib.ListN.{length}
 use Rattle.region.specs.Region.{size_of}
 use Rattle.mlpg_adjust.specs.Inner.Groups.{Columned, column_of}
-use Rattle.mlpg_adjust.proofs.Calls.{lanes_some, lanes_room}
+use Rattle.mlpg_adjust.proofs.Calls.{lanes_room}
 use Rattle.mlpg_adjust.proofs.Columns.{columned_none}
-use borrow.Author.Rules.{rules}
 use Rattle.mlpg_adjust.proofs.group.render_groups.Goals as goal
-use Rattle.mlpg_adjust.proofs.group.render_groups.Goals.{After-least-some}
+use Rattle.mlpg_adjust.proofs.group.render_groups.Goals.{After-min-some, After-render_group}
 
 -- the group is of components that are left, and has room
-module _ (c : After-least-some) where
-  within : c.loop-first.first + c.least-some.result ≤ c.wide-v.result
-  within = omega (arith, c.least-some.ensures, c.loop-first-test.true)
+module _ (c : After-min-some) where
+  within : c.loop-first.first + c.min-some.result ≤ c.args.p.stream.v
+  within = omega (arith, c.min-some.ensures, c.loop-first-test.true)
 
-  room : c.least-some.result * size_of c.args.p.layout ≤ length c.loop-first.work
-  room = lanes_room _ _ _ _ _ _ c.requires.0 _ c.floats-lanes.ensures _ _ (omega (arith, c.least-some.ensures)) (c.loop-first.invariant.1 ∙ c.requires.2)
+  room : c.min-some.result * size_of c.args.p.layout ≤ length c.loop-first.work
+  room = lanes_room _ _ _ _ _ _ c.requires.0 _ c.floats-lanes.ensures _ _ (omega (arith, c.min-some.ensures)) (c.loop-first.auto.work ∙ c.requires.2)
+
+-- and its columns stand in the trajectory
+module _ (c : After-render_group) where
+  columned : let a = c.args in
+      Columned (column_of a.p.stream a.inputs.widths.now a.inputs.coefficients.now a.inputs.records.now a.inputs.durations.now a.marks.now a.inputs.gv.now) a.p.stream.v (c.loop-first.first + c.min-some.result) c.render_group.new.out
+  columned =
+      let a = c.args in
+      let l = c.loop-first in
+      let e : min a.p.stream.v l.first ≡ l.first = omega (arith, c.loop-first-test.true) in
+      c.render_group.ensures
+      (subst (λ (j : ℕ). Columned (column_of a.p.stream a.inputs.widths.now a.inputs.coefficients.now a.inputs.records.now a.inputs.durations.now a.marks.now a.inputs.gv.now) a.p.stream.v j l.out) e l.invariant)
 
 pub render_group-requires : goal.render_group-requires
 render_group-requires c =
-    let e = c.wide-v.ensures in
-    (c.requires.0, rw e c.requires.1, e, within (goal.at.render_group-requires c).After-least-some, room (goal.at.render_group-requires c).After-least-some, c.loop-first.invariant.2 ∙ rw e c.requires.3)
-
-pub loop-first-smaller : goal.loop-first-smaller
-loop-first-smaller c = omega (arith, c.least-some.ensures, lanes_some _ _ _ _ _ _ c.requires.0 _ c.floats-lanes.ensures, c.loop-first-test.true)
+    let p = (goal.at.render_group-requires c).After-min-some in
+    (c.requires.0, c.requires.1, refl, within p, room p, c.loop-first.auto.out ∙ c.requires.3)
 
 pub loop-first-preserved : goal.loop-first-preserved
 loop-first-preserved c =
     let l = c.loop-first in
-    let k = c.render_group in
-    (within (goal.at.loop-first-preserved c).After-least-some, k.auto.work ∙ l.invariant.1, k.auto.out ∙ l.invariant.2, k.ensures l.invariant.3)
+    let v = c.args.p.stream.v in
+    let n : l.first + c.min-some.result ≡ min v (l.first + 48 / c.floats-lanes.result) = omega (arith, c.min-some.ensures, c.loop-first-test.true) in
+    rw n at (columned (goal.at.loop-first-preserved c).After-render_group)
 
 pub returns : goal.returns
 returns c =
-    let l = c.loop-first in
-    let a = c.args in
-    let e : l.first ≡ c.wide-v.result = omega (arith, l.invariant.0, c.loop-first-test.false) in
-    let f = column_of a.p.stream a.widths.now a.coefficients.now a.records.now a.durations.now a.marks.now a.gv.now in
-    subst (λ (v : ℕ). Columned f v v l.out) c.wide-v.ensures (subst (λ (j : ℕ). Columned f c.wide-v.result j l.out) e l.invariant.3)
+    let v = c.args.p.stream.v in
+    let e : min v c.loop-first.first ≡ v = omega (arith, c.loop-first-test.false) in
+    rw e at c.loop-first.invariant
+
+-- there is no group after this one
+pub returns-2 : goal.returns-2
+returns-2 c =
+    let e : c.loop-first.first + c.min-some.result ≡ c.args.p.stream.v = omega (arith, c.min-some.ensures, c.loop-first-test.true) in
+    rw e at (columned (goal.at.returns-2 c).After-render_group)
+
+pub loop-first-init : goal.loop-first-init
+loop-first-init c =
+    let e : 0 ≡ min c.args.p.stream.v 0 = omega arith in
+    rw (← e) (columned_none _ _ _)
 
 pub nonzero_div-lanes : goal.nonzero_div-lanes
 nonzero_div-lanes c = omega (arith, c.floats-lanes.ensures)
-
-pub loop-first-init : goal.loop-first-init
-loop-first-init c = (search rules, refl, refl, columned_none _ _ _)
-
-pub overflow_add-first : goal.overflow_add-first
-overflow_add-first c = omega (arith, within (goal.at.overflow_add-first c).After-least-some, c.wide-v.ensures, c.requires.0.shaped.most_v)
-
-pub shape_of-work : goal.shape_of-work
-shape_of-work c = c.loop-first.invariant.1
-
-pub shape_of-out : goal.shape_of-out
-shape_of-out c = c.loop-first.invariant.2

@@ -6,7 +6,7 @@ pub returns-in_default : goal.returns-in_default
 returns-in_default c = gv_off _ _ _ c.in_default.is
 
 pub vary_group-requires : goal.vary_group-requires
-vary_group-requires c = (c.requires.0, c.requires.1 (on-said _ _ c.in-On.is))
+vary_group-requires c = (c.requires.0, c.requires.1 (on-said _ _ c.in-Some.is))
 
 pub returns : goal.returns
-returns c = c.vary_group.ensures ∙ gv_on_lem _ _ _ _ c.in-On.is
+returns c = c.vary_group.ensures ∙ gv_on_lem _ _ _ _ c.in-Some.is

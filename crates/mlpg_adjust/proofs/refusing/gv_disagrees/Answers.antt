@@ -1,8 +1,8 @@
-use borrow.Author.Tests.{eq-eqb, ne_eqb}
+use Rattle.mlpg_adjust.proofs.Calls.{on_is}
 use Rattle.mlpg_adjust.proofs.refusing.gv_disagrees.Goals as goal
 
-pub returns-then-n-wide : goal.returns-then-n-wide
-returns-then-n-wide c = rw (c.in-On.is, ← c.wide.ensures, ne_eqb _ _ c.if-n-wide.true)
+pub returns-then-is_none : goal.returns-then-is_none
+returns-then-is_none c = rw (on_is c.args.stream.gv, c.if-is_none.ensures)
 
 pub returns : goal.returns
-returns c = rw (c.in-On.is, ← c.wide.ensures, eq-eqb _ _ c.if-n-wide.false)
+returns c = rw (on_is c.args.stream.gv, c.if-is_none.ensures)

@@ -8,5 +8,5 @@ returns-in_default c = gv_off _ _ _ c.in_default.is
 
 pub returns : goal.returns
 returns c =
-    let e = c.in-On.is in
+    let e = c.in-Some.is in
     switches-written _ _ _ _ c.requires.0 c.requires.1 (c.requires.2 (on-said _ _ e)) c.requires.3 c.mark_switches.ensures ∙ gv_on_lem _ _ _ _ e

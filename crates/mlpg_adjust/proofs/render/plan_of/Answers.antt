@@ -5,8 +5,8 @@ use Rattle.mlpg_adjust.proofs.Ways.{frames_are}
 use Rattle.mlpg_adjust.proofs.Marks.{few, flagged_so, planned}
 use Rattle.mlpg_adjust.proofs.render.plan_of.Goals as goal
 
-pub overflow_cast-layout-2 : goal.overflow_cast-layout-2
-overflow_cast-layout-2 c =
+pub overflow_cast-layout : goal.overflow_cast-layout
+overflow_cast-layout c =
     let n = few _ _ _ _ _ c.requires.0 (record { size = c.record_size-size.result; threshold = c.args.stream.threshold }) c.record_size-size.ensures refl _ _ _ c.requires.1 c.mark-n.ensures in
     omega (arith, n)
 

@@ -5,7 +5,7 @@ use Rattle.mlpg_adjust.proofs.render.render.Goals as goal
 
 pub mark_switches-requires : goal.mark_switches-requires
 mark_switches-requires c =
-    (c.requires.0.few, c.requires.0.frames, c.requires.1.switched, rw c.plan_of-plan.ensures.1 (switches-room _ _ _ _ _ c.requires.0 c.args.switches.now _ c.requires.4))
+    (c.requires.0.few, c.requires.0.frames, c.requires.1.switched, rw c.plan_of-plan.ensures.1 (switches-room _ _ _ _ _ c.requires.0 c.args.inputs.switches.now _ c.requires.4))
 
 pub render_groups-requires : goal.render_groups-requires
 render_groups-requires c =

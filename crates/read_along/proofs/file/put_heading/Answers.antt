@@ -3,4 +3,4 @@ use Rattle.read_along.proofs.file.put_heading.Goals as goal
 
 pub returns : goal.returns
 returns c =
-    heading-written _ _ _ _ _ c.copy_u8.ensures c.put_little_endian.ensures c.put_little_endian-2.ensures
+    heading-written _ _ _ _ _ c.copy.ensures c.put_little_endian.ensures c.put_little_endian-2.ensures

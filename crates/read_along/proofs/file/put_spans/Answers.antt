@@ -1,14 +1,7 @@
 use mathlib.Core.Path.{refl}
-use native.Mathlib.Omega.{arith}
 use Rattle.read_along.specs.Format.{bytes_of_spans}
-use Rattle.read_along.proofs.Passes.{spanning, spanning-long, spanning-next, spanning-done}
+use Rattle.read_along.proofs.Passes.{spanning, spanning-next, spanning-done}
 use Rattle.read_along.proofs.file.put_spans.Goals as goal
-
-pub behind-next-requires : goal.behind-next-requires
-behind-next-requires c = (c.requires, c.loop-i-test.true, c.loop-i.invariant.pass.here)
-
-pub put_span-requires : goal.put_span-requires
-put_span-requires c = omega (arith, c.loop-i-test.true, c.requires.few)
 
 pub loop-i-preserved : goal.loop-i-preserved
 loop-i-preserved c =
@@ -20,6 +13,3 @@ returns c = spanning-done _ _ _ _ _ _ _ c.loop-i.invariant c.loop-i-test.false
 
 pub loop-i-init : goal.loop-i-init
 loop-i-init c = spanning _ _ _ _ _ _ _ _
-
-pub shape_of-out : goal.shape_of-out
-shape_of-out c = spanning-long _ _ _ _ _ _ _ c.loop-i.invariant

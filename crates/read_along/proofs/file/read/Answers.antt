@@ -3,14 +3,14 @@ use mathlib.Core.Bool.{true}
 use mathlib.Core.List.{List}
 use Prim.Native.Nat.{ℕ, ◌*◌, ◌<◌}
 use native.Mathlib.Omega.{arith}
-use borrow.Author.Tests.{not-true, not-false}
+use borrow.Author.Tests.{not-false}
 use lib.ListN.{length}
 use Rattle.lists.specs.Bytes.{Bytes}
 use Rattle.read_along.specs.Format.{spans_in, formed}
 use Rattle.read_along.specs.Promise.{all_ends}
 use Rattle.read_along.proofs.Lengths.{ends-long}
-use Rattle.read_along.proofs.Filing.{number-below, in_count, malformed_3, formed_0}
-use Rattle.read_along.proofs.Ways.{writes_refused, writes_short, writes_done}
+use Rattle.read_along.proofs.Filing.{number-below, in_count, formed_0}
+use Rattle.read_along.proofs.Ways.{writes_short, writes_done}
 use Rattle.std.proofs.Common.{not}
 use Rattle.read_along.proofs.file.read.Goals as goal
 use Rattle.read_along.proofs.file.read.Goals.{After-count_of-count}
@@ -34,17 +34,11 @@ pub returns : goal.returns
 returns c =
     writes_done _ _ _ _ _ _ (formed_0 _ (well (goal.at.returns c).After-count_of-count)) (omega (arith, long (goal.at.returns c).After-count_of-count, c.if-spans-count.false)) c.take_spans.ensures (c.count_of-count.ensures ∙ sym (in_count (bytes (goal.at.returns c).After-count_of-count)))
 
-pub returns-then-not-is_formed : goal.returns-then-not-is_formed
-returns-then-not-is_formed c = writes_refused _ _ _ _ _ (malformed_3 _ (sym c.is_formed.ensures ∙ not-true _ (ap not c.if-not-is_formed.true))) (λ e. omega arith)
-
 pub overflow_mul-count : goal.overflow_mul-count
 overflow_mul-count c = record { fits = omega (arith, small (goal.at.overflow_mul-count c).After-count_of-count) }
 
 pub returns-then-spans-count : goal.returns-then-spans-count
 returns-then-spans-count c = writes_short _ _ _ _ (formed_0 _ (well (goal.at.returns-then-spans-count c).After-count_of-count)) (omega (arith, long (goal.at.returns-then-spans-count c).After-count_of-count, c.if-spans-count.true))
-
-pub take_spans-requires : goal.take_spans-requires
-take_spans-requires c = (c.count_of-count.ensures, c.if-spans-count.false)
 
 pub overflow_cast-result : goal.overflow_cast-result
 overflow_cast-result c = record { fits = omega (arith, small (goal.at.overflow_cast-result c).After-count_of-count) }

@@ -2,7 +2,7 @@ use Prim.Native.Nat.{◌<◌}
 use native.Mathlib.Omega.{arith}
 use Rattle.lists.specs.Bytes.{Bytes}
 use Rattle.read_along.specs.Format.{count_of}
-use Rattle.read_along.proofs.Filing.{number-below, none_touch, touch-next, touch-stops, touch-done}
+use Rattle.read_along.proofs.Filing.{number-below, touch-next, touch-stops, touch-done}
 use Rattle.read_along.proofs.file.touch.Goals as goal
 use Rattle.read_along.proofs.file.touch.Goals.{In-loop-i}
 
@@ -27,9 +27,6 @@ loop-i-preserved c =
 pub returns : goal.returns
 returns c = touch-done _ c.loop-i.invariant (omega (arith, c.loop-i-test.false, c.requires))
 
-pub loop-i-init : goal.loop-i-init
-loop-i-init c = none_touch _
-
 pub overflow_mul-at : goal.overflow_mul-at
 overflow_mul-at c = record { fits = omega (arith, small (goal.at.overflow_mul-at c).In-loop-i) }
 
@@ -38,6 +35,3 @@ overflow_add-at c = record { fits = omega (arith, small (goal.at.overflow_add-at
 
 pub overflow_add-at-in-loop-i : goal.overflow_add-at-in-loop-i
 overflow_add-at-in-loop-i c = record { fits = omega (arith, small (goal.at.overflow_add-at-in-loop-i c).In-loop-i) }
-
-pub overflow_add-i : goal.overflow_add-i
-overflow_add-i c = record { fits = omega (arith, small (goal.at.overflow_add-i c).In-loop-i) }

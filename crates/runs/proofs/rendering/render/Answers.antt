@@ -5,12 +5,12 @@ use Rattle.runs.proofs.rendering.render.Goals as goal
 use Rattle.runs.proofs.rendering.render.Goals.{After-record_size-size}
 
 -- where the run's records lie
-places : (c : After-record_size-size) → let a = c.args in Placed a.found.begin.state a.found.end.state c.record_size-size.result (length a.records.now)
+places : (c : After-record_size-size) → let a = c.args in Placed a.found.begin.state a.found.end.state c.record_size-size.result (length a.inputs.records.now)
 places c = run-placed _ _ _ _ _ _ _ _ _ c.requires _ c.record_size-size.ensures
 
 pub returns : goal.returns
 returns c =
-    run-said _ _ _ _ _ _ _ _ _ _ _ c.requires _ c.record_size-size.ensures _ _ _ _ c.create.ensures
+    run-said _ _ _ _ _ _ _ _ _ _ _ c.requires _ c.record_size-size.ensures _ _ _ _ c.create-clamped.ensures
 
 pub overflow_mul-first : goal.overflow_mul-first
 overflow_mul-first c = omega (arith, places (goal.at.overflow_mul-first c).After-record_size-size)

@@ -33,10 +33,10 @@ module _ (c : In-loop-i) where
   each j = omega (arith, c.type_inv.bytes j)
 
   more : i < count_of bytes
-  more = omega (arith, c.loop-i-test.true, c.little_endian-count.ensures)
+  more = omega (arith, c.little_endian-count.ensures)
 
   fit : head_bytes + size * i < 4294967296
-  fit = entries_fit bytes c.little_endian-version.result size c.little_endian-count.result i each c.entry_bytes-size.ensures c.little_endian-count.ensures (omega (arith, c.loop-i-test.true))
+  fit = entries_fit bytes c.little_endian-version.result size c.little_endian-count.result i each c.entry_bytes-size.ensures c.little_endian-count.ensures (omega arith)
 
   there : head_bytes + size * i ≡ head_bytes + entry_bytes (version_of bytes) * i
   there = ap (λ (v : ℕ). head_bytes + v * i) (c.entry_bytes-size.ensures ∙ ap entry_bytes c.little_endian-version.ensures)
@@ -97,7 +97,7 @@ pub loop-i-preserved : goal.loop-i-preserved
 loop-i-preserved c =
     gather_next (bytes (goal.at.loop-i-preserved c).In-loop-i) _ _ _ _ c.loop-i.invariant (more (goal.at.loop-i-preserved c).In-loop-i) _ _ (there (goal.at.loop-i-preserved c).In-loop-i) c.little_endian-voice.ensures _ c.first_u32-place.ensures (each (goal.at.loop-i-preserved c).In-loop-i) _ _ c.if-place-eq-PLACES.false
     (c.put_settings.ensures ∙ ap (λ (g : Settings). sets c.loop-i.settings (3 * c.first_u32-place.result) (in_order g)) (c.settings_from.ensures ∙ ap (λ (v : ℕ). settings_from v (bytes (goal.at.loop-i-preserved c).In-loop-i) (head_bytes + size (goal.at.loop-i-preserved c).In-loop-i * i (goal.at.loop-i-preserved c).In-loop-i)) c.little_endian-version.ensures))
-    c.larger-held.ensures
+    c.max-held.ensures
 
 pub shape_of-voices : goal.shape_of-voices
 shape_of-voices c = (stays (goal.at.shape_of-voices c).At-loop-i).0 ∙ sym (began (goal.at.shape_of-voices c).At-loop-i).0
@@ -106,7 +106,7 @@ pub shape_of-settings : goal.shape_of-settings
 shape_of-settings c = (stays (goal.at.shape_of-settings c).At-loop-i).1 ∙ sym (began (goal.at.shape_of-settings c).At-loop-i).1
 
 pub returns : goal.returns
-returns c = gather_done _ _ _ _ _ c.loop-i.invariant (omega (arith, c.loop-i-test.false, c.little_endian-count.ensures))
+returns c = gather_done _ _ _ _ _ c.loop-i.invariant (omega (arith, c.little_endian-count.ensures))
 
 pub offset_bounds-voices-place : goal.offset_bounds-voices-place
 offset_bounds-voices-place c = record { fits = omega (arith, put (goal.at.offset_bounds-voices-place c).Else-place-eq-PLACES) }

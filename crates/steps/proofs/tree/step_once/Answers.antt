@@ -1,4 +1,3 @@
-use borrow.Author.Rules.{rules}
 use Rattle.steps.proofs.Playing.{root-place, root-inside, root_moves, root-small, root-ready, root-path, root-stepped}
 use Rattle.steps.proofs.tree.step_once.Goals as goal
 

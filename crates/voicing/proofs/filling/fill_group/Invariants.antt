@@ -1,10 +1,6 @@
-use Prim.Native.Nat.{◌-◌}
-use lib.ListN.{length}
+use lib.Ieee.{nan}
 use Rattle.voicing.proofs.Fillings.{Filling}
 use Rattle.voicing.proofs.filling.fill_group.Given as goal
 
-abbrev pub invariant-loop-s : goal.invariant-loop-s
-invariant-loop-s l = Filling l.none l.v l.c.first l.c.lanes l.size l.values l.durations l.flags l.work l.initial.out l.out l.s l.f l.k l.p
-
-abbrev pub decreases-loop-s : goal.decreases-loop-s
-decreases-loop-s l = length l.durations - l.s
+abbrev pub invariant-loop-x : goal.invariant-loop-x
+invariant-loop-x l = Filling l.other nan l.v l.c.first l.c.lanes l.size l.values l.m.durations.now l.m.flags.now l.work l.initial.out l.out l.x-index l.f l.k l.p

@@ -1,11 +1,12 @@
 use mathlib.Core.Path.{◌≡◌}
-use Prim.Native.Nat.{◌+◌, ◌-◌, ◌*◌, ◌≤◌}
-use lib.ListN.{length, drop}
+use Prim.Native.Nat.{ℕ, ◌+◌, ◌*◌, ◌<◌}
+use lib.ListN.{drop}
+use lib.Ieee.{Float}
+use Rattle.lists.specs.Build.{build}
 use Rattle.voicing.specs.Inner.Lanes.{sets_by}
 use Rattle.voicing.proofs.filling.put_column.Given as goal
 
 abbrev pub invariant-loop-j : goal.invariant-loop-j
-invariant-loop-j l = (l.j ≤ length l.values) × (l.q ≡ l.p + l.j * l.v) × (length l.out ≡ length l.initial.out) × (sets_by l.v l.q (drop l.j l.values) l.out ≡ sets_by l.v l.p l.values l.initial.out)
-
-abbrev pub decreases-loop-j : goal.decreases-loop-j
-decreases-loop-j l = length l.values - l.j
+invariant-loop-j g l =
+    (l.q ≡ l.p + l.j * l.v)
+    × ((x : ℕ → Float) → ((j : ℕ) (y : Float) → j < l.d → goal.F-post g l.number l.l j y → y ≡ x j) → sets_by l.v l.q (drop l.j (build x l.d)) l.out ≡ sets_by l.v l.p (build x l.d) l.initial.out)

@@ -1,4 +1,3 @@
-use Prim.Native.Nat.{◌-◌}
 use lib.ListN.{length}
 use Rattle.voicing.specs.Mask.{weights_of}
 use Rattle.lists.proofs.Expansions.{Expanding}
@@ -7,6 +6,3 @@ use Rattle.voicing.proofs.mask.mark_states.Given as goal
 
 abbrev pub invariant-loop-s : goal.invariant-loop-s
 invariant-loop-s l = Expanding l.durations (state_flags l.u.threshold (weights_of l.u.size l.records (length l.durations))) l.initial.out l.out l.s l.f
-
-abbrev pub decreases-loop-s : goal.decreases-loop-s
-decreases-loop-s l = length l.durations - l.s

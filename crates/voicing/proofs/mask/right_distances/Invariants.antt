@@ -2,7 +2,4 @@ use Rattle.voicing.proofs.Distances.{Counting}
 use Rattle.voicing.proofs.mask.right_distances.Given as goal
 
 abbrev pub invariant-loop-f : goal.invariant-loop-f
-invariant-loop-f l = Counting l.flags l.right l.f l.after
-
-abbrev pub decreases-loop-f : goal.decreases-loop-f
-decreases-loop-f l = l.f
+invariant-loop-f l = Counting l.flags l.right l.f l.run

@@ -1,17 +1,10 @@
-use native.Mathlib.Omega.{arith}
+use Rattle.std.proofs.Common.{◌∙◌, rules}
+use Rattle.std.proofs.lemmas.Iterator.{YieldsList-from_slice}
+use Rattle.std.proofs.lemmas.Iterator.Search.{all_from_yields_List}
 use Rattle.model.specs.Windows.{finite, all_finite}
-use Rattle.model.proofs.Windows.{all-next, all_stop, all_done}
-use Rattle.std.proofs.Common.{ap}
-use Rattle.std.proofs.Common.{not}
+use Rattle.model.proofs.Windows.{all_listed, finite_is}
 use Rattle.model.proofs.voice.window.all_finite.Goals as goal
-
-pub returns-then-not-is_finite : goal.returns-then-not-is_finite
-unfolding all_finite
-returns-then-not-is_finite c = let l = c.loop-i in all_stop finite _ l.i _ l.invariant.1 _ _ c.loop-i-test.true c.is_finite.ensures (ap not c.if-not-is_finite.true)
-
-pub loop-i-preserved : goal.loop-i-preserved
-loop-i-preserved c = let l = c.loop-i in (omega arith, all-next finite _ l.i _ l.invariant.1 _ _ c.loop-i-test.true c.is_finite.ensures (ap not c.if-not-is_finite.false))
 
 pub returns : goal.returns
 unfolding all_finite
-returns c = all_done finite _ c.loop-i.i _ c.loop-i.invariant.1 c.loop-i-test.false
+returns c = all_from_yields_List finite _ _ c.all.result c.all.ensures.ran (YieldsList-from_slice c.args.coefficients.now cc) (λ x b q k. search (rules, finite_is)) ∙ all_listed finite c.args.coefficients.now

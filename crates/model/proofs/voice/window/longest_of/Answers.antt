@@ -1,16 +1,18 @@
-use native.Mathlib.Omega.{arith}
-use Prim.Native.Nat.{max}
-use mathlib.Core.Path.{refl, sym, ◌∙◌}
+use Rattle.std.proofs.Common.{◌≡◌, max, get_or, arith, refl, sym, ◌∙◌}
+use Rattle.std.proofs.lemmas.Bool.Decides.{nat_tests}
 use Rattle.lists.proofs.Sums.{fold_more, fold_done}
 use Rattle.model.specs.Windows.{longest}
 use Rattle.model.proofs.voice.window.longest_of.Goals as goal
 
-pub loop-i-init : goal.loop-i-init
+pub loop-width-init : goal.loop-width-init
 unfolding longest
-loop-i-init c = (omega arith, refl)
+loop-width-init c = refl
 
-pub loop-i-preserved : goal.loop-i-preserved
-loop-i-preserved c = let l = c.loop-i in (omega arith, rw (c.larger-found.ensures, c.wide.ensures) (fold_more max l.found _ l.i 0 c.loop-i-test.true ∙ l.invariant.1))
+pub loop-width-preserved : goal.loop-width-preserved
+loop-width-preserved c =
+    let l = c.loop-width in
+    let e : c.max-found.result ≡ max l.found (get_or c.args.widths.now l.width-index 0) = grind (arith, nat_tests) in
+    rw e (fold_more max l.found _ l.width-index 0 c.loop-width-test.true ∙ l.invariant)
 
 pub returns : goal.returns
-returns c = let l = c.loop-i in sym (fold_done max l.found _ l.i c.loop-i-test.false) ∙ l.invariant.1
+returns c = let l = c.loop-width in sym (fold_done max l.found _ l.width-index c.loop-width-test.false) ∙ l.invariant

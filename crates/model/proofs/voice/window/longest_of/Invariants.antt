@@ -1,12 +1,7 @@
-use Prim.Native.Nat.{◌-◌, ◌≤◌, max}
-use mathlib.Core.Path.{◌≡◌}
-use lib.ListN.{length, drop}
+use Rattle.std.proofs.Common.{◌≡◌, drop, max}
 use Rattle.lists.specs.Build.{fold_from}
 use Rattle.model.specs.Windows.{longest}
 use Rattle.model.proofs.voice.window.longest_of.Given as goal
 
-abbrev pub invariant-loop-i : goal.invariant-loop-i
-invariant-loop-i l = (l.i ≤ length l.widths) × (fold_from max l.found (drop l.i l.widths) ≡ longest l.widths)
-
-abbrev pub decreases-loop-i : goal.decreases-loop-i
-decreases-loop-i l = length l.widths - l.i
+abbrev pub invariant-loop-width : goal.invariant-loop-width
+invariant-loop-width l = fold_from max l.found (drop l.width-index l.widths) ≡ longest l.widths

@@ -1,4 +1,0 @@
-use Rattle.job.proofs.finding.Found.or.Goals as goal
-
-pub returns-in-Wrong : goal.returns-in-Wrong
-returns-in-Wrong c = rw c.in-Wrong.is

@@ -1,8 +1,0 @@
-use borrow.Author.Tests.{eq-eqb, ne_eqb}
-use Rattle.job.proofs.finding.state_bytes.Goals as goal
-
-pub returns-then-version-eq1 : goal.returns-then-version-eq1
-returns-then-version-eq1 c = rw (eq-eqb _ _ c.if-version-eq1.true)
-
-pub returns : goal.returns
-returns c = rw (ne_eqb _ _ c.if-version-eq1.false)

@@ -1,7 +1,0 @@
-use Rattle.runs.proofs.refusing.room_refusal.Goals as goal
-
-pub returns-then-numbers-floats : goal.returns-then-numbers-floats
-returns-then-numbers-floats c = rw (← c.wide.ensures, ← c.has_room-numbers.ensures, ← c.has_room-floats.ensures, ← c.has_room-counts.ensures, c.if-numbers-floats.true)
-
-pub returns : goal.returns
-returns c = rw (← c.wide.ensures, ← c.has_room-numbers.ensures, ← c.has_room-floats.ensures, ← c.has_room-counts.ensures, c.if-numbers-floats.false)
