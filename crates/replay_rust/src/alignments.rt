@@ -4,7 +4,7 @@ use duration::Aligned;
 use replay::{OUT, WORK};
 
 // Whether the counts and durations are those that are stored. Head: states, states, states a label, labels, written, changes, written.
-pub fn agrees(head: &[u32], durations: &[u32], floats: &[f64]) -> bool {
+pub(crate) fn agrees(head: &[u32], durations: &[u32], floats: &[f64]) -> bool {
     let states = case::count(head, 0);
     let means = lists::part(floats, 0, states);
     let varis = lists::part(floats, states, states);

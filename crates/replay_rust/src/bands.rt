@@ -3,7 +3,7 @@ use crate::case;
 use replay::OUT_F64;
 
 // Whether the rows and the right side are those that are stored. Head: windows, coefficients, pairs, pairs, entries, frames.
-pub fn agrees(head: &[u32], widths: &[u32], floats: &[f64]) -> bool {
+pub(crate) fn agrees(head: &[u32], widths: &[u32], floats: &[f64]) -> bool {
     let taps = case::count(head, 1);
     let pairs = case::count(head, 2);
     let entries = case::count(head, 4);

@@ -6,7 +6,7 @@ use lists::Refusal;
 use replay::{OUT, WORK};
 
 // Whether the changes and durations of a fit to the float behind the pairs are those that are stored. Head: states, states, changes, states.
-pub fn agrees<F>(fit: F, head: &[u32], durations: &[u32], floats: &[f64]) -> bool
+pub(crate) fn agrees<F>(fit: F, head: &[u32], durations: &[u32], floats: &[f64]) -> bool
 where
     F: Fn(&[f64], &[f64], &[u32], f64, &mut [u32], &mut [u32]) -> Result<u32, Refusal> + Drop,
     requires { F.IsAlwaysCallable fit }

@@ -4,7 +4,7 @@ use job::Done;
 use replay::{OUT, WORK};
 
 // Whether the counts and durations are those that are stored. Head: bytes, states, frames, changes, states.
-pub fn agrees(head: &[u32], durations: &[u32], bytes: &[u8]) -> bool {
+pub(crate) fn agrees(head: &[u32], durations: &[u32], bytes: &[u8]) -> bool {
     let mut out = [OUT; 20];
     let mut work = [WORK; 20];
     let answer = job::answer(bytes, &mut out, &mut work);

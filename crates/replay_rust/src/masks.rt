@@ -8,7 +8,7 @@ const LEFT: u32 = OUT + 1;
 const RIGHT: u32 = OUT + 2;
 
 // Whether the flags and distances are those that are stored. Head: states, states, frames, frames, frames.
-pub fn agrees(head: &[u32], numbers: &[u32], floats: &[f64]) -> bool {
+pub(crate) fn agrees(head: &[u32], numbers: &[u32], floats: &[f64]) -> bool {
     let states = case::count(head, 0);
     let frames = case::count(head, 2);
     let weights = lists::part(floats, 0, states);

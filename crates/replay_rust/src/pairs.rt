@@ -49,7 +49,7 @@ fn pair_at(floats: &[f64], mean: usize, vari: usize) -> MeanVari {
 }
 
 // Whether the pair and its clamp are those that are stored. Head: the operation, and the clamp.
-pub fn agrees(head: &[u32], floats: &[f64]) -> bool {
+pub(crate) fn agrees(head: &[u32], floats: &[f64]) -> bool {
     let pair = pair_at(floats, 0, 1);
     let other = pair_at(floats, 2, 3);
     let weight = case::float(floats, 4);

@@ -49,7 +49,7 @@ fn make(operation: u32, lin: &[f64], other: &[f64], weight: f64, out: &mut [f64]
 }
 
 // Whether the record is the one that is stored. Head: the operation, and the counts of the record, the other and the answer.
-pub fn agrees(head: &[u32], floats: &[f64]) -> bool {
+pub(crate) fn agrees(head: &[u32], floats: &[f64]) -> bool {
     let mine = case::count(head, 1);
     let theirs = case::count(head, 2);
     let lin = lists::part(floats, 0, mine);

@@ -28,7 +28,7 @@ fn is_cleared(frames: usize, work: &[f64; 1160], marks: &[u32; 100]) -> bool {
 
 // Whether the numbers and counts are those that are stored. Head: v, masked, GV on, windows, coefficients, records' numbers, states, GV's numbers, states, numbers, and the pairs
 // that are clamped high and low.
-pub fn agrees(head: &[u32], numbers: &[u32], floats: &[f64], switches: &[u8]) -> bool {
+pub(crate) fn agrees(head: &[u32], numbers: &[u32], floats: &[f64], switches: &[u8]) -> bool {
     let windows = case::count(head, 3);
     let taps = case::count(head, 4);
     let recorded = case::count(head, 5);
