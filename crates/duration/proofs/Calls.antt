@@ -25,7 +25,7 @@ use Rattle.duration.specs.Promise.{aligned, clears, work_of, Says, FitSays, Spee
 
 module _ (n : ℕ) (values new out work : List ℕ) where
   -- by the lists, with b, whatever the shortest durations would be refused with
-  says-early : (b s k : ℕ) → (b ≡ 0 → ⊥) → b ≤ 6 → Says (or_else (or_else b s) k) values new n out work (refusing b) out work
+  pub says-early : (b s k : ℕ) → (b ≡ 0 → ⊥) → b ≤ 6 → Says (or_else (or_else b s) k) values new n out work (refusing b) out work
   unfolding work_of
   says-early zero s k z h = absurd (z refl)
   says-early (suc b) s k z h =

@@ -16,9 +16,10 @@ use Rattle.lists.proofs.Fronts.{alike_is, is_alike}
 use Rattle.job.specs.declared.Damage.{Damage}
 use Rattle.job.specs.declared.Damage.TheVariants.{Mark, Version, Count, Length}
 use Rattle.std.specs.Prelude.{Ok, Err}
+use Rattle.std.specs.Result.{result_and}
 use Rattle.job.specs.declared.finding.Wrong.{Wrong}
 use Rattle.job.specs.Format.{mark, version_of, is_known, count_of, state_bytes, length_of, whole_of, IsJob}
-use Rattle.job.specs.Damage.{Found, sound, wrong, found_to, mark_found, word_found, length_found, damage_of}
+use Rattle.job.specs.Damage.{Found, sound, wrong, else_found, found_to, mark_found, word_found, length_found, damage_of}
 use Rattle.lists.proofs.Flags.{neither}
 
 -- ---- a number that is what it may be, or is not
@@ -178,37 +179,43 @@ way-job bytes f (nowhere j) = j
 pub sound-job : (bytes : List ℕ) → damage_of bytes ≡ sound → IsJob bytes
 sound-job bytes e = subst (JobWhere bytes) e (way-job bytes (damage_of bytes) (way bytes))
 
--- ---- one after the other: what is found is told, and nothing lets the next be looked for
+-- ---- one after the other: the first of mark, version and count that is found is told, and where that is nothing the length
 
-module _ (bytes : List ℕ) where
-  pub mark-told : (w : Wrong) → Err w ≡ mark_found bytes → Err w ≡ damage_of bytes
-  unfolding damage_of
-  mark-told w e = rw (← e)
+first_told : (m v k l : Found) → else_found (result_and (result_and m v) k) l ≡ else_found m (else_found v (else_found k l))
+first_told (Ok none) (Ok also) k l = refl
+first_told (Ok none) (Err w) k l = refl
+first_told (Err w) v k l = refl
 
-  module _ (m : sound ≡ mark_found bytes) where
-    pub version-told : (w : Wrong) → Err w ≡ word_found 3 1 2 Version bytes → Err w ≡ damage_of bytes
-    unfolding damage_of
-    version-told w e = rw (← m, ← e)
-
-    module _ (v : sound ≡ word_found 3 1 2 Version bytes) where
-      pub count-told : (w : Wrong) → Err w ≡ word_found 5 0 most_job_states Count bytes → Err w ≡ damage_of bytes
-      unfolding damage_of
-      count-told w e = rw (← m, ← v, ← e)
-
-      pub length-told : sound ≡ word_found 5 0 most_job_states Count bytes → length_found bytes ≡ damage_of bytes
-      unfolding damage_of
-      length-told c = rw (← m, ← v, ← c)
+last-sound : (a k : Found) → sound ≡ result_and a k → sound ≡ k
+last-sound (Ok none) k e = e
+last-sound (Err w) k e = absurd (let z : ◌≡◌ {A = ℕ} 0 1 = cc in omega arith)
 
 none_wrong : (a b : Bool) (f : Found) (what : Damage) (at : ℕ) → cond a f (cond b (wrong what at) sound) ≡ sound → (f ≡ sound) ⊎ (b ≡ false)
 none_wrong true b f what at e = inl e
 none_wrong false true f what at e = absurd (let z : ◌≡◌ {A = ℕ} 0 1 = cc in omega arith)
 none_wrong false false f what at e = inr refl
 
-pub counted-few : (bytes : List ℕ) → sound ≡ word_found 5 0 most_job_states Count bytes → count_of bytes ≤ most_job_states
+counted-few : (bytes : List ℕ) → sound ≡ word_found 5 0 most_job_states Count bytes → count_of bytes ≤ most_job_states
 counted-few bytes e = ⊎_elim
     (λ (f : wrong Length (length bytes) ≡ sound). absurd (let z : ◌≡◌ {A = ℕ} 0 1 = cc in omega arith))
     (λ (f : ltb (count_of bytes) 0 || ltb most_job_states (count_of bytes) ≡ false). ltb-false most_job_states (count_of bytes) (neither (ltb (count_of bytes) 0) (ltb most_job_states (count_of bytes)) f).1)
     (none_wrong (ltb (length bytes) 7) (ltb (count_of bytes) 0 || ltb most_job_states (count_of bytes)) (wrong Length (length bytes)) Count 5 (sym e))
+
+-- what is found of the three, joined
+module _ (bytes : List ℕ) (m v k a : Found) (em : m ≡ mark_found bytes) (ev : v ≡ word_found 3 1 2 Version bytes)
+    (ek : k ≡ word_found 5 0 most_job_states Count bytes) (ea : a ≡ result_and m v) where
+  joined : else_found (result_and a k) (length_found bytes) ≡ damage_of bytes
+  unfolding damage_of
+  joined = rw (ea, em, ev, ek) (first_told (mark_found bytes) (word_found 3 1 2 Version bytes) (word_found 5 0 most_job_states Count bytes) (length_found bytes))
+
+  pub first-told : (w : Wrong) → Err w ≡ result_and a k → Err w ≡ damage_of bytes
+  first-told w e = ap (λ (f : Found). else_found f (length_found bytes)) e ∙ joined
+
+  pub length-told : sound ≡ result_and a k → length_found bytes ≡ damage_of bytes
+  length-told e = ap (λ (f : Found). else_found f (length_found bytes)) e ∙ joined
+
+  pub joined-few : sound ≡ result_and a k → count_of bytes ≤ most_job_states
+  joined-few e = counted-few bytes (last-sound a k e ∙ ek)
 
 -- ---- what the readers of the parts answer
 

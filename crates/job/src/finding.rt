@@ -86,8 +86,9 @@ fn length_found(bytes: &[u8]) -> Result<(), Wrong>
 pub fn check(bytes: &[u8]) -> Result<(), Wrong>
     ensures { result ≡ damage_of bytes.now }
 {
-    mark_found(bytes)?;
-    word_found(3, 1, 2, Damage::Version, bytes)?;
-    word_found(5, 0, 1024, Damage::Count, bytes)?;
+    let mark = mark_found(bytes);
+    let version = word_found(3, 1, 2, Damage::Version, bytes);
+    let count = word_found(5, 0, 1024, Damage::Count, bytes);
+    mark.and(version).and(count)?;
     length_found(bytes)
 }

@@ -1,3 +1,2 @@
 -- The laws that the functions' proofs cite.
 mod Held
-mod Fronts

@@ -16,12 +16,28 @@ pub enum Came {
 pub trait Item: Copy {
     // The next item, if it comes whole.
     fn read_from<R: Read>(from: &mut R) -> Option<Self>;
+
+    // Fills a list with the items that come next, if they come whole.
+    fn fill_from<R: Read>(from: &mut R, into: &mut [Self]) -> Option<()> {
+        for item in into.iter_mut() {
+            *item = Self::read_from(from)?;
+        }
+        Some(())
+    }
 }
 
 impl Item for u8 {
     fn read_from<R: Read>(from: &mut R) -> Option<u8> {
         let [byte] = bytes_of::<R, 1>(from)?;
         Some(byte)
+    }
+
+    // Standard input is not buffered: all bytes by one read, where it gives them, and not one a byte.
+    fn fill_from<R: Read>(from: &mut R, into: &mut [u8]) -> Option<()> {
+        let Came::Whole = read(from, into) else {
+            return None;
+        };
+        Some(())
     }
 }
 
@@ -91,8 +107,6 @@ pub fn read_list<R: Read, T: Item>(from: &mut R, into: &mut [T]) -> Option<usize
     if n > into.len() {
         return None;
     }
-    for i in 0..n {
-        into[i] = T::read_from(from)?;
-    }
+    T::fill_from(from, &mut into[..n])?;
     Some(n)
 }
