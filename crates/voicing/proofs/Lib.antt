@@ -1,7 +1,6 @@
 -- Laws that belong to no one function.
 pub mod Distances
 pub mod Theory
-pub mod Parts
 pub mod Ways
 pub mod Masks
 pub mod Passes

@@ -1,7 +1,7 @@
 -- The frames of a voiced state are part of one run: their distances go by ones, and so only the state's ends are set to 0.
 use mathlib.Core.Path.{◌≡◌, refl, sym, ap, ◌∙◌}
 use mathlib.Core.Bool.{Bool, true, false}
-use mathlib.Core.List.{List, [], ◌∷◌, ◌++◌}
+use mathlib.Core.List.{List, [], ◌∷◌, ◌++◌, append-nil}
 use mathlib.Core.Logic.{⊎_elim}
 use Prim.Native.Nat.{ℕ, zero, suc, ◌+◌, ◌-◌, ◌<◌, ◌≤◌, min}
 use native.Mathlib.Nat.{add-sub_cancel_left}
@@ -9,7 +9,7 @@ use native.Mathlib.Omega.{arith}
 use borrow.Author.Tests.{le-ltb, lt-ltb}
 use borrow.Rule.Slice.PartMut.{mid_of, put_mid}
 use lib.ListN.{length, take, drop, get_or, replicate, length-drop, length-replicate, get_or-replicate, get_or-append}
-use lib.Seq.{sets, length-take-le, length-sets, drop-drop, take-nil, get_or-take, get_or-drop}
+use lib.Seq.{sets, length-take-le, length-sets, drop-length, drop-drop, take-nil, get_or-take, get_or-drop}
 use lib.Dec.{ltb}
 use lib.Ieee.{Float, nan}
 use Rattle.lists.specs.Totals.{total}
@@ -27,7 +27,6 @@ use Rattle.voicing.specs.Mask.{mask_in}
 use Rattle.voicing.specs.Inner.Fits.{frame, goes_on}
 use Rattle.voicing.specs.Inner.States.{shut_ends, put_pair}
 use Rattle.voicing.specs.declared.closing.Ends.{Ends}
-use Rattle.voicing.proofs.Parts.{filled_to}
 use Rattle.voicing.proofs.Theory.{lefts-length, rights-length}
 use Rattle.voicing.proofs.Masks.{frame-next, frame-fits, Run, goes_some, mask-run, mask_end}
 
@@ -47,6 +46,13 @@ module _ (e : Ends) (v : Float) where
   pub ends-length : length (shut_ends e v) ≡ e.d
   unfolding shut_ends
   ends-length = build-length (λ j. shut e.before e.after j (e.d - 1 - j) v) e.d
+
+  -- no end is set to 0
+  ends-none : min e.before e.d + min e.after e.d ≡ 0 → replicate e.d v ≡ shut_ends e v
+  unfolding shut_ends
+  ends-none z =
+      build_is (λ j. shut e.before e.after j (e.d - 1 - j) v) e.d (replicate e.d v) nan (length-replicate e.d v)
+      (λ j h. get_or-replicate e.d j v nan h ∙ sym (shut_none e.before e.after j (e.d - 1 - j) v (omega arith) (omega arith)))
 
   -- the first are set to 0, and then the last
   ends-zeroed : sets (sets (replicate e.d v) 0 (replicate (min e.before e.d) nought)) (e.d - min e.after e.d) (replicate (min e.after e.d) nought) ≡ shut_ends e v
@@ -76,17 +82,19 @@ module _ (e : Ends) (v : Float) where
       (le_or_lt p j))
       (le_or_lt (d - q) j))
 
-  -- a list of which all is filled, and then its ends, each lent
-  pub filled-ends : (l a b w : List Float) (p q : ℕ) → length l ≡ e.d → p ≡ min e.before e.d → q ≡ min e.after e.d → a ≡ replicate (length l) v → b ≡ replicate (length (take p a)) nought
-      → w ≡ replicate (length (mid_of (e.d - q) (length (b ++ drop p a) - (e.d - q)) (b ++ drop p a))) nought → put_mid (e.d - q) (length (b ++ drop p a) - (e.d - q)) (b ++ drop p a) w ≡ shut_ends e v
-  filled-ends l a b w p q n x y o r z =
-      let d = e.d in
-      let first = sets (replicate d v) 0 (replicate p nought) in
-      let h : p ≤ length (replicate d v) = rw length-replicate (omega arith) in
-      let k : b ++ drop p a ≡ first = rw (r, o, n, length-take-le p (replicate d v) h) (sym (filled p nought (replicate d v) h)) in
-      let m : length first ≡ d = length-sets (replicate d v) 0 (replicate p nought) ∙ length-replicate d v in
-      let t : d ≡ d - q + q = omega arith in
-      rw (k, m) (lent_filled first w (d - q) d q nought t (omega arith) (filled_to first w (d - q) q d nought t (omega arith) (rw (k, m) at z)) ∙ rw (x, y) ends-zeroed)
+  -- a list of which all is filled, and then its ends, the last part lent
+  module _ (l a : List Float) (n : length l ≡ e.d) (o : a ≡ sets l 0 (replicate e.d v)) (p q : ℕ) (x : p ≡ min e.before e.d) (y : q ≡ min e.after e.d) where
+    whole : a ≡ replicate e.d v
+    whole = o ∙ filled e.d v l (omega arith) ∙ rw (← n, drop-length l, append-nil)
+
+    pub filled-same : p + q ≡ 0 → a ≡ shut_ends e v
+    filled-same z = whole ∙ ends-none (omega arith)
+
+    pub filled-ends : (b w : List Float) → b ≡ sets a 0 (replicate p nought) → w ≡ sets (mid_of (e.d - q) (e.d - (e.d - q)) b) 0 (replicate q nought)
+        → put_mid (e.d - q) (e.d - (e.d - q)) b w ≡ shut_ends e v
+    filled-ends b w r z =
+        let m : length b ≡ e.d = ap length r ∙ length-sets a 0 (replicate p nought) ∙ ap length whole ∙ length-replicate e.d v in
+        lent_filled b w (e.d - q) e.d q nought (omega arith) (omega arith) z ∙ rw (r, whole, x, y) ends-zeroed
 
 -- a mean and an inverse variance at a state's places, lent one after the other
 pub pair_put : (l a w : List Float) (place ivars : ℕ) (e : Ends) (x y : Float) → place + e.d ≤ length l → ivars + e.d ≤ length l

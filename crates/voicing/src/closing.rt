@@ -50,16 +50,20 @@ struct Ends {
     after: usize,
 }
 
-// A state's inverse variance at each of its frames, but 0 near the ends.
+// A state's inverse variance at each of its frames, but 0 near the ends; most states are near neither. `lists::fill` is one loop: a slice's own `fill` writes the
+// last item behind its loop, which shows at the few frames that a state has.
 fn fill_ivars(ivar: f64, e: Ends, out: &mut [f64])
     requires { length out.old ≡ e.d }
     ensures { out.new ≡ shut_ends e ivar }
 {
-    out.fill(ivar);
+    lists::fill(out, e.d, ivar);
     let first = e.before.min(e.d);
     let last = e.after.min(e.d);
-    out[..first].fill(0.0);
-    out[e.d - last..].fill(0.0);
+    if first + last == 0 {
+        return;
+    }
+    lists::fill(out, first, 0.0);
+    lists::fill(&mut out[e.d - last..e.d], last, 0.0);
 }
 
 // A component's pair of a state and a window at the state's frames: the mean from place `at` of the region on, and from place `ivars` on the inverse variance.
@@ -67,7 +71,7 @@ fn put_pair(pair: MeanVari, e: Ends, at: usize, ivars: usize, region: &mut [f64]
     requires { (at + e.d ≤ length region.old) × (ivars + e.d ≤ length region.old) }
     ensures { region.new ≡ put_pair e at ivars pair.0 pair.1 region.old }
 {
-    region[at..at + e.d].fill(pair.0);
+    lists::fill(&mut region[at..at + e.d], e.d, pair.0);
     fill_ivars(pair.1, e, &mut region[ivars..ivars + e.d]);
 }
 

@@ -99,7 +99,7 @@ pub(crate) fn put_switches(durations: &[u32], switches: &[u8], frames: usize, fl
         let closed = voiced_in(flags, f, d);
         let from = frames + k;
         let to = from + closed;
-        flags[from..to].fill(u32::from(*switch));
+        lists::fill(&mut flags[from..to], closed, u32::from(*switch));
         k += closed;
         f += d;
     }

@@ -35,7 +35,7 @@ pub(crate) fn mark_states(records: &[f64], u: Voicing, durations: &[u32], out: &
         let d = *x as usize;
         let e = f + d;
         let flag = u32::from(voiced_at(records, u, s));
-        out[f..e].fill(flag);
+        lists::fill(&mut out[f..e], d, flag);
         f = e;
     }
 }

@@ -5,7 +5,6 @@ use lib.ListN.{length, get_or}
 use Rattle.std.proofs.lemmas.Slice.Zip.{zip_turn, zip_end}
 use Rattle.std.proofs.lemmas.List.{length_push}
 use Rattle.lists.specs.Totals.{total}
-use Rattle.voicing.proofs.Parts.{filled_part}
 use Rattle.voicing.proofs.Passes.{passed-fits}
 use Rattle.voicing.proofs.Switches.{switching, switched, switching-room, switching-next}
 use Rattle.voicing.proofs.flags.put_switches.Goals as goal
@@ -50,7 +49,7 @@ overflow_add-f c = omega (arith, fits (goal.at.overflow_add-f c).In-Some, c.requ
 pub loop-x-preserved : goal.loop-x-preserved
 loop-x-preserved c =
     let t = turn (goal.at.loop-x-preserved c).In-Some in
-    rw length_push (switching-next c.loop-x.invariant t.0 (t.2 0) c.requires.0 refl c.voiced_in-closed.ensures (begins (goal.at.loop-x-preserved c).After-voiced_in-closed) _ _ (c.from.ensures ∙ t.3 0) (filled_part _ _ _ _ _ (room (goal.at.loop-x-preserved c).After-voiced_in-closed t.0 (t.2 0)) (c.fill.ensures.after (λ y h. h))))
+    rw length_push (switching-next c.loop-x.invariant t.0 (t.2 0) c.requires.0 refl c.voiced_in-closed.ensures (begins (goal.at.loop-x-preserved c).After-voiced_in-closed) _ _ (c.from.ensures ∙ t.3 0) c.fill.ensures)
 
 pub returns : goal.returns
 returns c =

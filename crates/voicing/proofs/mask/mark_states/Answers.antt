@@ -5,7 +5,6 @@ use lib.ListN.{get_or, length}
 use Rattle.lists.specs.Flags.{flag}
 use Rattle.voicing.specs.Mask.{weights_of}
 use Rattle.lists.proofs.Expansions.{expanding-room, expanding-next, expanded}
-use Rattle.voicing.proofs.Parts.{filled_part}
 use Rattle.voicing.proofs.Theory.{bool_flag, weights-length, weights-at, flag_at, flags_long, mask-flags}
 use Rattle.voicing.proofs.mask.mark_states.Goals as goal
 use Rattle.voicing.proofs.mask.mark_states.Goals.{In-loop-s}
@@ -23,7 +22,7 @@ loop-s-preserved c =
     let n = weights-length s.u.size s.records.now (length s.durations.now) in
     let w = weights-at s.u.size s.records.now (length s.durations.now) l.s c.loop-s-test.true in
     expanding-next _ _ _ _ _ _ l.invariant _ _ _ _ c.loop-s-test.true (flags_long s.u.threshold ws ∙ n) refl
-    (c.from-flag.ensures ∙ bool_flag _ ∙ ap flag c.voiced_at.ensures ∙ sym (flag_at s.u.threshold ws l.s ∙ rw w)) (filled_part _ _ _ _ _ (room (goal.at.loop-s-preserved c).In-loop-s) (c.fill.ensures.after (λ y h. h)))
+    (c.from-flag.ensures ∙ bool_flag _ ∙ ap flag c.voiced_at.ensures ∙ sym (flag_at s.u.threshold ws l.s ∙ rw w)) c.fill.ensures
 
 pub returns : goal.returns
 returns c = expanded _ _ _ _ _ _ c.loop-s.invariant c.loop-s-test.false ∙ mask-flags _ _ _
