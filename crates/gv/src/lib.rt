@@ -93,10 +93,11 @@ impl MlpgGlobalVariance {
         let n = self.length;
         let w = self.width;
         let weight = weight_of(self.windows, n);
-        let by_entries = |m: &[f64], t: usize| gradient_at(m, p, n, w, t);
+        // It owns what it goes by, which is then not read anew for each row.
+        let by_entries = move |m: &[f64], t: usize| gradient_at(m, p, n, w, t);
         if w == 3 && 5 <= n {
             let first = grade_rows(m, p, n, w, 0, 2, weight, 0.0, by_entries);
-            let inner = grade_rows(m, p, n, w, 2, n - 2, weight, first, |m, t| {
+            let inner = grade_rows(m, p, n, w, 2, n - 2, weight, first, move |m, t| {
                 gradient_of_three(m, p, n, t)
             });
             return grade_rows(m, p, n, w, n - 2, n, weight, inner, by_entries);

@@ -33,15 +33,17 @@ fn factor_row(m: &mut [f64], rows: usize, factors: usize, w: usize, t: usize)
     m[e] = d;
 }
 
-// Does f to the region of each of so many components; it is told which.
+// Does f to the region of each of so many components; it is told which. What f goes by it owns (`move`), so that this is not read anew in each region.
 fn each_lane<F: Fn(usize, &mut [f64])>(work: &mut [f64], size: usize, lanes: usize, f: F)
     requires room { lanes * size ≤ length work.old }
     requires takes { (l : ℕ) (m : List Float) → l < lanes → length m ≡ size → AcceptsAt F.Fn f l m }
     ensures { Across (ChangesAt F.Fn f) size lanes work.old work.new }
 {
+    let mut o = 0;
     for l in 0..lanes {
-        let o = l * size;
-        f(l, &mut work[o..o + size]);
+        let end = o + size;
+        f(l, &mut work[o..end]);
+        o = end;
     }
 }
 
@@ -123,7 +125,12 @@ impl Equations {
         ensures { Across (λ l. Forth self.p self.n self.w self.n) self.p.size lanes work.old work.new }
     {
         for t in 0..self.n {
-            each_lane(work, self.p.size, lanes, |_, m| self.eliminate_lane(m, t));
+            each_lane(
+                work,
+                self.p.size,
+                lanes,
+                move |_, m| self.eliminate_lane(m, t),
+            );
         }
     }
 
@@ -133,7 +140,12 @@ impl Equations {
         ensures { Across (λ l. Back self.p self.n self.w 0) self.p.size lanes work.old work.new }
     {
         for t in (0..self.n).rev() {
-            each_lane(work, self.p.size, lanes, |_, m| self.backward_lane(m, t));
+            each_lane(
+                work,
+                self.p.size,
+                lanes,
+                move |_, m| self.backward_lane(m, t),
+            );
         }
     }
 }
