@@ -49,7 +49,7 @@ pub(crate) fn fit(states: States, low: u32, target: u32, work: &mut [u32]) -> Re
         return Err(Refusal::TargetTooLong);
     }
     if target <= low {
-        work.copy_from_slice(states.shortest);
+        lists::copy(states.shortest, states.shortest.len(), work);
         return Ok(0);
     }
     let rho = rho_of(states, target);

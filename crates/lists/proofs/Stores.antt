@@ -6,7 +6,6 @@ use Prim.Native.Nat.{ℕ, suc, ◌+◌, ◌-◌, ◌<◌, ◌≤◌, min}
 use native.Mathlib.Nat.{add-zero, add-suc, suc-add}
 use native.Mathlib.Numerals.{add-one}
 use native.Mathlib.Omega.{arith}
-use Rattle.std.proofs.lemmas.List.{take-take}
 use lib.ListN.{length, take, drop, get_or, set, replicate, length-append, length-take, length-drop, length-replicate, length-set, get_or-replicate, take-append-drop, drop_of_length-le}
 use lib.Seq.{sets, length-sets, sets-eq, set_out, take-suc, take_all, take_at, take-length, length-take-le, get_or-take, drop-append-add, drop-cons, drop-drop, get_or_at, set-set, set_comm}
 use Rattle.lists.proofs.Numbers.{le_or_lt}
@@ -78,15 +77,6 @@ module _ {A : Type 0} where
       let e : length (take n src) ≡ n = length-take-le n src h in
       let z : 0 + n ≡ n = omega arith in
       sets-eq (take n src) dst 0 (omega arith) ∙ rw (e, z)
-
-  -- as many of n items as there are and as there is room for, in front of what lies behind them
-  pub copied_min : (n end : ℕ) (src dst : List A) {front : List A} → end ≡ min (min n (length src)) (length dst) → front ≡ take end src → front ++ drop end dst ≡ sets dst 0 (take n src)
-  copied_min n end src dst {front} e f =
-      let o : length dst - 0 ≡ length dst = omega arith in
-      let l : length (take n src) ≡ min n (length src) = length-take n src in
-      let t : take end src ≡ take end (take n src) = sym (take-take end n src (omega arith)) in
-      store-done (take n src) dst (front ++ drop end dst) 0 end (rw (o, l) (omega arith))
-      (ap (λ (k : List A). k ++ drop end dst) f ∙ sym (copied end src dst (omega arith) (omega arith)) ∙ ap (sets dst 0) t)
 
   -- the whole of a list over one as long
   pub copied-whole : (src dst : List A) → length dst ≡ length src → sets dst 0 (take (length src) src) ≡ src

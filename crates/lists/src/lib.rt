@@ -84,12 +84,14 @@ pub fn fill<T: Copy>(s: &mut [T], n: usize, v: T)
     }
 }
 
-// The first n items of src, over those of dst.
+// The first n items of src, over those of dst: by a loop, as `copy_from_slice` would ask whoever links the archive for memmove.
 pub fn copy<T: Copy>(src: &[T], n: usize, dst: &mut [T])
     ensures { dst.new ≡ sets dst.old 0 (take n src.now) }
 {
     let end = n.min(src.len()).min(dst.len());
-    dst[..end].copy_from_slice(&src[..end]);
+    for (i, item) in src[..end].iter().enumerate() {
+        dst[i] = *item;
+    }
 }
 
 // Whether so many items of a size fit into a length.
@@ -126,6 +128,10 @@ pub fn part<'a, T>(s: &'a [T], from: usize, count: usize) -> &'a [T]
 pub fn little_endian(bytes: &[u8], at: usize, width: usize) -> u64
     ensures { result ≡ little (take (min width 8) (drop at bytes.now)) }
 {
+    // Past here `part` has less to compare, and LLVM less to work out in a caller's loop.
+    if bytes.len() <= at {
+        return 0;
+    }
     let said = part(bytes, at, width.min(8));
     let mut number = 0;
     for i in (0..said.len()).rev() {
@@ -140,12 +146,20 @@ pub fn little_u32(bytes: &[u8], at: usize) -> u32
 {
     let n = bytes.len();
     if n < 4 {
-        return little_endian(bytes, at, 4) as u32;
+        return cut_u32(bytes, at);
     }
     if n - 4 < at {
-        return little_endian(bytes, at, 4) as u32;
+        return cut_u32(bytes, at);
     }
     of_four(bytes[at], bytes[at + 1], bytes[at + 2], bytes[at + 3])
+}
+
+// Where not all are there: apart, as LLVM works out that loop's bounds at each turn of a caller's loop, whether or not it is reached.
+#[inline(never)]
+fn cut_u32(bytes: &[u8], at: usize) -> u32
+    ensures { result ≡ little (take 4 (drop at bytes.now)) }
+{
+    little_endian(bytes, at, 4) as u32
 }
 
 fn of_four(a: u8, b: u8, c: u8, d: u8) -> u32
@@ -172,17 +186,25 @@ pub fn put_u32(bytes: &mut [u8], at: usize, number: u32)
 {
     let n = bytes.len();
     if n < 4 {
-        put_little_endian(bytes, at, 4, u64::from(number));
+        put_cut_u32(bytes, at, number);
         return;
     }
     if n - 4 < at {
-        put_little_endian(bytes, at, 4, u64::from(number));
+        put_cut_u32(bytes, at, number);
         return;
     }
     bytes[at] = (number % 256) as u8;
     bytes[at + 1] = (number / 256 % 256) as u8;
     bytes[at + 2] = (number / 65_536 % 256) as u8;
     bytes[at + 3] = (number / 16_777_216 % 256) as u8;
+}
+
+// Where there isn't room for all: apart, for the same reason.
+#[inline(never)]
+fn put_cut_u32(bytes: &mut [u8], at: usize, number: u32)
+    ensures { bytes.new ≡ sets bytes.old at (bytes_of 4 number) }
+{
+    put_little_endian(bytes, at, 4, u64::from(number));
 }
 
 // The place of the first of these numbers that is v, or their length where none is.

@@ -1,6 +1,6 @@
 use Rattle.std.proofs.Common.{◌≡◌, ◌∙◌, ◌≤◌, ◌<◌, ◌+◌, ◌-◌, ◌*◌, ◌^◌, length, arith}
 use Rattle.std.proofs.Math.ListN.{length-take}
-use Rattle.lists.proofs.Bytes.{reading, reading-next, reading-fits}
+use Rattle.lists.proofs.Bytes.{little-past, reading, reading-next, reading-fits}
 use Rattle.lists.proofs.little_endian.Goals as goal
 use Rattle.lists.proofs.little_endian.Goals.{In-loop-i}
 
@@ -9,6 +9,9 @@ room : (c : In-loop-i) → (c.loop-i.number * 256 + 255 < 2 ^ 64) × (c.loop-i.n
 room c =
     let b : length c.part-said.result.now ≤ 8 = rw (c.part-said.ensures.numbers, length-take) (omega (arith, c.min.ensures)) in
     reading-fits c.loop-i.invariant c.loop-i-test.true c.loop-i.auto.i b
+
+pub returns-then-bytes-at : goal.returns-then-bytes-at
+returns-then-bytes-at c = little-past _ _ _ c.if-bytes-at.true
 
 pub overflow_mul-number : goal.overflow_mul-number
 overflow_mul-number c = omega (arith, room (goal.at.overflow_mul-number c).In-loop-i)

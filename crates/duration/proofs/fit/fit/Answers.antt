@@ -1,5 +1,6 @@
-use Rattle.std.proofs.Common.{◌≡◌, ◌≤◌, ◌<◌, ◌∙◌, subst, ℕ, arith, length}
+use Rattle.std.proofs.Common.{◌≡◌, ◌≤◌, ◌<◌, ◌∙◌, sym, subst, ℕ, arith, length}
 use Rattle.std.proofs.lemmas.Bool.Decides.{nat_tests}
+use Rattle.lists.proofs.Stores.{copied-whole}
 use Rattle.steps.specs.Steps.{least}
 use Rattle.steps.specs.Lent.{lent}
 use Rattle.duration.proofs.Fits.{fit_none, fit-over, fit-shortest, fit-ends}
@@ -15,7 +16,8 @@ pub returns-then-target-low : goal.returns-then-target-low
 returns-then-target-low c =
     let low : c.args.target ≤ least (lent c.args.states) = subst (λ (n : ℕ). c.args.target ≤ n) c.requires.low_value c.if-target-low.true in
     let s : 0 < length c.args.states.means.now = grind (arith, nat_tests) in
-    fit-shortest _ _ s c.if-target-gt65536.false _ low c.copy_from_slice.ensures.after
+    let long : length c.args.work.now ≡ length c.args.states.shortest.now = c.requires.agree.workspace ∙ sym c.requires.agree.shortest in
+    fit-shortest _ _ s c.if-target-gt65536.false _ low (c.copy.ensures ∙ copied-whole _ _ long)
 
 pub returns : goal.returns
 returns c =
