@@ -55,6 +55,8 @@ pub(crate) fn fit(states: States, low: u32, target: u32, work: &mut [u32]) -> Re
     let rho = rho_of(states, target);
     estimate_duration(states, rho, work);
     let s = states;
-    let settled = steps::settle(rho, target, s.means, s.varis, s.shortest, work);
-    settled.ok_or(Refusal::EstimateTooLong)
+    let Some(changes) = steps::settle(rho, target, s.means, s.varis, s.shortest, work) else {
+        return Err(Refusal::EstimateTooLong);
+    };
+    Ok(changes)
 }

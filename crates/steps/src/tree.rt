@@ -22,7 +22,8 @@ fn entry_at(way: Way, work: &[u32], i: usize) -> Entry
     way.entry(place, duration_at(work, place))
 }
 
-// Plays all nodes, from the last to the root.
+// Plays all nodes, from the last to the root. It stands by itself: within a fit its loop would run short of registers.
+#[inline(never)]
 fn play_all(way: Way, work: &mut [u32])
     requires { Ready (lent way.states) (lows work.old) }
     ensures { Plays way.entry.up way.entry.rho (lent way.entry.states) work.old work.new }
